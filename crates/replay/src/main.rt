@@ -1,5 +1,6 @@
-// Replays answers of the Rust: reads cases from standard input, one a line, and writes the answer to each. The files stdin and stdout
-// beside src/ are written by the comparison in oracle/, which says how. A case is a letter and, after a space, what it is about:
+// Replays answers of the Rust: reads cases from standard input, one a line, and writes the answer to each. The files stdin and
+// stdout beside src/ are written by the comparison in oracle/, which says how. A case is a letter and, after a space, what it
+// is about:
 //
 //     s, c, m   a name: in snake case, its default's constant, as a module
 //     u         a number, as 16 hex digits
