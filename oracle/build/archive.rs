@@ -1,0 +1,53 @@
+//! Looks into the static library of Kitlubas, so that each comparison is built exactly when the library has what it
+//! calls: the parts of the port land one after the other.
+
+use std::path::Path;
+use std::process::Command;
+
+/// A `cfg` for each part of the boundary, with the functions that it needs.
+const PARTS: &[(&str, &[&str])] = &[
+    (
+        "has_leaves",
+        &[
+            "kitlubas_number",
+            "kitlubas_signed",
+            "kitlubas_line",
+            "kitlubas_blank_line",
+            "kitlubas_no_lines",
+            "kitlubas_snake",
+            "kitlubas_default_name",
+            "kitlubas_module_name",
+        ],
+    ),
+    ("has_admit", &["kitlubas_admit"]),
+    ("has_answer", &["kitlubas_answer"]),
+];
+
+/// Tells cargo which parts the archive has, and to link it if it has any.
+pub fn link(archive: &Path) {
+    println!("cargo:rerun-if-changed={}", archive.display());
+    let defined = symbols(archive);
+    let mut linked = false;
+    for (part, needed) in PARTS {
+        println!("cargo:rustc-check-cfg=cfg({part})");
+        if needed.iter().all(|name| defined.iter().any(|symbol| symbol == name)) {
+            println!("cargo:rustc-cfg={part}");
+            linked = true;
+        }
+    }
+    if linked {
+        let folder = archive.parent().expect("the archive lies in a folder");
+        println!("cargo:rustc-link-search=native={}", folder.display());
+    }
+}
+
+/// The names that the archive defines; none if it is not there.
+fn symbols(archive: &Path) -> Vec<String> {
+    if !archive.exists() {
+        return Vec::new();
+    }
+    let listing = Command::new("nm").args(["-g", "--defined-only", "-j"]).arg(archive).output();
+    let listing = listing.expect("nm can be started");
+    assert!(listing.status.success(), "nm: {}", String::from_utf8_lossy(&listing.stderr));
+    String::from_utf8_lossy(&listing.stdout).lines().map(|line| line.trim().to_string()).collect()
+}

@@ -1,0 +1,50 @@
+//! The functions of Kitlubas' static library, as crates/exports has them. Every `unsafe` of this package is here.
+//! A slice passes as its pointer and its length; `at` is a fill count, and the answer is the new one.
+
+#[cfg(has_leaves)]
+pub mod leaves {
+    #[link(name = "exports", kind = "static")]
+    extern "C" {
+        fn kitlubas_number(at: usize, buf: *mut u8, len: usize, n: u64) -> usize;
+        fn kitlubas_signed(at: usize, buf: *mut u8, len: usize, width: u32, n: u64) -> usize;
+        fn kitlubas_line(at: usize, buf: *mut u8, len: usize, indent: usize, line: *const u8, line_len: usize)
+            -> usize;
+        fn kitlubas_blank_line(at: usize, buf: *mut u8, len: usize) -> usize;
+        fn kitlubas_no_lines(at: usize, buf: *mut u8, len: usize) -> usize;
+        fn kitlubas_snake(at: usize, buf: *mut u8, len: usize, name: *const u8, name_len: usize) -> usize;
+        fn kitlubas_default_name(at: usize, buf: *mut u8, len: usize, name: *const u8, name_len: usize) -> usize;
+        fn kitlubas_module_name(at: usize, buf: *mut u8, len: usize, name: *const u8, name_len: usize) -> usize;
+    }
+
+    pub fn number(at: usize, buf: &mut [u8], n: u64) -> usize {
+        unsafe { kitlubas_number(at, buf.as_mut_ptr(), buf.len(), n) }
+    }
+
+    pub fn signed(at: usize, buf: &mut [u8], width: u32, n: u64) -> usize {
+        unsafe { kitlubas_signed(at, buf.as_mut_ptr(), buf.len(), width, n) }
+    }
+
+    pub fn line(at: usize, buf: &mut [u8], indent: usize, line: &[u8]) -> usize {
+        unsafe { kitlubas_line(at, buf.as_mut_ptr(), buf.len(), indent, line.as_ptr(), line.len()) }
+    }
+
+    pub fn blank_line(at: usize, buf: &mut [u8]) -> usize {
+        unsafe { kitlubas_blank_line(at, buf.as_mut_ptr(), buf.len()) }
+    }
+
+    pub fn no_lines(at: usize, buf: &mut [u8]) -> usize {
+        unsafe { kitlubas_no_lines(at, buf.as_mut_ptr(), buf.len()) }
+    }
+
+    pub fn snake(at: usize, buf: &mut [u8], name: &[u8]) -> usize {
+        unsafe { kitlubas_snake(at, buf.as_mut_ptr(), buf.len(), name.as_ptr(), name.len()) }
+    }
+
+    pub fn default_name(at: usize, buf: &mut [u8], name: &[u8]) -> usize {
+        unsafe { kitlubas_default_name(at, buf.as_mut_ptr(), buf.len(), name.as_ptr(), name.len()) }
+    }
+
+    pub fn module_name(at: usize, buf: &mut [u8], name: &[u8]) -> usize {
+        unsafe { kitlubas_module_name(at, buf.as_mut_ptr(), buf.len(), name.as_ptr(), name.len()) }
+    }
+}

@@ -1,0 +1,48 @@
+//! Counts the cases of one comparison, and prints the first that differ.
+
+use std::fmt;
+
+/// How many differences are printed in full.
+const SHOWN: u64 = 5;
+
+pub struct Report {
+    name: &'static str,
+    cases: u64,
+    differ: u64,
+}
+
+impl Report {
+    pub fn new(name: &'static str) -> Report {
+        Report { name, cases: 0, differ: 0 }
+    }
+
+    /// One case: `what` describes it if it differs.
+    pub fn case(&mut self, same: bool, what: impl FnOnce() -> String) {
+        self.cases += 1;
+        if !same {
+            self.differ += 1;
+            if self.differ <= SHOWN {
+                println!("{}: {}", self.name, what());
+            }
+        }
+    }
+
+    pub fn cases(&self) -> u64 {
+        self.cases
+    }
+
+    pub fn differ(&self) -> u64 {
+        self.differ
+    }
+}
+
+impl fmt::Display for Report {
+    fn fmt(&self, f: &mut fmt::Formatter) -> fmt::Result {
+        write!(f, "{}: {} cases, {} differ", self.name, self.cases, self.differ)
+    }
+}
+
+/// A byte string as it is shown in a difference.
+pub fn shown(bytes: &[u8]) -> String {
+    format!("`{}`", bytes.escape_ascii())
+}
