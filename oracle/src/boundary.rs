@@ -48,3 +48,21 @@ pub mod leaves {
         unsafe { kitlubas_module_name(at, buf.as_mut_ptr(), buf.len(), name.as_ptr(), name.len()) }
     }
 }
+
+#[cfg(has_admit)]
+pub mod admit {
+    use crate::sheet::read::Refusal;
+
+    #[link(name = "exports", kind = "static")]
+    extern "C" {
+        /// 0 for an admitted sheet, else the refusal's number times 2 to the 32 and its line.
+        fn kitlubas_admit(sheet: *const u8, len: usize) -> u64;
+    }
+
+    pub fn admit(sheet: &[u8]) -> Result<(), Refusal> {
+        match unsafe { kitlubas_admit(sheet.as_ptr(), sheet.len()) } {
+            0 => Ok(()),
+            code => Err(Refusal { number: code >> 32, line: code & 0xffff_ffff }),
+        }
+    }
+}

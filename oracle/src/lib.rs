@@ -10,6 +10,7 @@ pub mod codegen;
 pub mod codegen_types;
 pub mod compare;
 pub mod context;
+pub mod generate;
 pub mod names;
 pub mod numbers;
 pub mod pointer_constants;

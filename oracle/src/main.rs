@@ -1,14 +1,17 @@
 //! The commands of the comparison with capnpc: `oracle` with no words says which there are.
 
 use oracle::report::Report;
-use oracle::{compare, program, sample};
+use oracle::sheet::read::Refusal;
+use oracle::{compare, generate, program, sample};
 use std::io::{self, Read, Write};
 use std::path::Path;
 use std::process::ExitCode;
 
 const USAGE: &str = "\
 oracle compare [TIMES]    hold the static library of Kitlubas against capnpc's functions; TIMES multiplies the random cases
-oracle sample FOLDER      write the sample of names, numbers and lines that crates/replay replays: FOLDER/stdin, FOLDER/stdout
+oracle sample WHAT FOLDER write FOLDER/stdin and FOLDER/stdout, which a program of the gate replays; WHAT is `leaves` (names,
+                          numbers and lines) or `sheets` (what is admitted)
+oracle bounds             print the name of each sheet at a bound and its answer
 oracle accessors          print what the program `accessors` must print for the sheet on standard input";
 
 fn main() -> ExitCode {
@@ -17,7 +20,9 @@ fn main() -> ExitCode {
     match words[..] {
         ["compare"] => compare(1),
         ["compare", times] => times.parse().map_or_else(|_| usage(), compare),
-        ["sample", folder] => done(sample::leaves::sample().write(Path::new(folder))),
+        ["sample", "leaves", folder] => done(sample::leaves::sample().write(Path::new(folder))),
+        ["sample", "sheets", folder] => done(sample::sheets::sample().write(Path::new(folder))),
+        ["bounds"] => bounds(),
         ["accessors"] => done(accessors()),
         _ => usage(),
     }
@@ -35,6 +40,16 @@ fn compare(times: u64) -> ExitCode {
     } else {
         ExitCode::FAILURE
     }
+}
+
+fn bounds() -> ExitCode {
+    for bound in generate::bounds::all() {
+        match bound.expected {
+            None => println!("{}: admitted", bound.name),
+            Some(Refusal { number, line }) => println!("{}: {number} at line {line}", bound.name),
+        }
+    }
+    ExitCode::SUCCESS
 }
 
 fn accessors() -> io::Result<()> {

@@ -1,6 +1,7 @@
 //! Counts the cases of one comparison, and prints the first that differ.
 
-use std::fmt;
+use std::hash::{DefaultHasher, Hash, Hasher};
+use std::{env, fmt, fs};
 
 /// How many differences are printed in full.
 const SHOWN: u64 = 5;
@@ -45,4 +46,16 @@ impl fmt::Display for Report {
 /// A byte string as it is shown in a difference.
 pub fn shown(bytes: &[u8]) -> String {
     format!("`{}`", bytes.escape_ascii())
+}
+
+/// Writes a sheet that was answered differently beside this program, and gives the file's name.
+pub fn kept(sheet: &[u8]) -> String {
+    let mut hasher = DefaultHasher::new();
+    sheet.hash(&mut hasher);
+    let folder = env::current_exe().ok().and_then(|exe| Some(exe.parent()?.join("differ"))).unwrap_or_default();
+    let file = folder.join(format!("{:016x}.sheet", hasher.finish()));
+    match fs::create_dir_all(&folder).and_then(|()| fs::write(&file, sheet)) {
+        Ok(()) => file.display().to_string(),
+        Err(error) => format!("not kept: {error}"),
+    }
 }

@@ -4,12 +4,16 @@
 mod leaves;
 #[cfg(has_leaves)]
 mod placed;
+#[cfg(has_admit)]
+mod sheets;
 
 use crate::report::Report;
 
 /// Every comparison that the static library has the functions for; `times` multiplies the random cases.
 pub fn all(times: u64) -> Vec<Report> {
-    leaves_reports(times)
+    let mut reports = leaves_reports(times);
+    reports.extend(sheet_reports(times));
+    reports
 }
 
 #[cfg(has_leaves)]
@@ -20,5 +24,16 @@ fn leaves_reports(times: u64) -> Vec<Report> {
 #[cfg(not(has_leaves))]
 fn leaves_reports(_times: u64) -> Vec<Report> {
     println!("names, numbers and lines: not in the static library");
+    Vec::new()
+}
+
+#[cfg(has_admit)]
+fn sheet_reports(times: u64) -> Vec<Report> {
+    vec![sheets::admission(times)]
+}
+
+#[cfg(not(has_admit))]
+fn sheet_reports(_times: u64) -> Vec<Report> {
+    println!("admission: not in the static library");
     Vec::new()
 }

@@ -1,6 +1,7 @@
 //! The samples that the gate replays without any Rust: the input of a program, and what it must print.
 
 pub mod leaves;
+pub mod sheets;
 
 use std::path::Path;
 use std::{fs, io};
