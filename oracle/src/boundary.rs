@@ -66,3 +66,60 @@ pub mod admit {
         }
     }
 }
+
+#[cfg(has_answer)]
+pub mod answer {
+    use crate::answer::Request;
+    use crate::sheet::read::Refusal;
+
+    #[link(name = "exports", kind = "static")]
+    extern "C" {
+        /// 0 where the text was written and `fill` moved past it, else the refusal's number times 2 to the 32 and its line.
+        fn kitlubas_answer(
+            sheet: *const u8,
+            sheet_len: usize,
+            node: u64,
+            place: u64,
+            request: u64,
+            leaf: u64,
+            fill: *mut usize,
+            buf: *mut u8,
+            len: usize,
+        ) -> u64;
+    }
+
+    /// The number of a request at the boundary; the leaf goes beside it.
+    fn number(request: Request) -> u64 {
+        match request {
+            Request::Type { .. } => 0,
+            Request::Getter { reader: true, function: false } => 1,
+            Request::Getter { reader: false, function: false } => 2,
+            Request::Getter { reader: true, function: true } => 3,
+            Request::Getter { reader: false, function: true } => 4,
+            Request::Setter => 5,
+            Request::Haser { reader: true } => 6,
+            Request::Haser { reader: false } => 7,
+            Request::Zero => 8,
+        }
+    }
+
+    /// The answer; `fill` is the fill count before and after.
+    pub fn answer(
+        sheet: &[u8],
+        node: u64,
+        place: u64,
+        request: Request,
+        fill: &mut usize,
+        buf: &mut [u8],
+    ) -> Result<(), Refusal> {
+        let leaf = if let Request::Type { leaf } = request { leaf } else { 0 };
+        let (sheet_at, sheet_len) = (sheet.as_ptr(), sheet.len());
+        let (buf_at, len) = (buf.as_mut_ptr(), buf.len());
+        let code =
+            unsafe { kitlubas_answer(sheet_at, sheet_len, node, place, number(request), leaf, fill, buf_at, len) };
+        match code {
+            0 => Ok(()),
+            code => Err(Refusal { number: code >> 32, line: code & 0xffff_ffff }),
+        }
+    }
+}

@@ -48,6 +48,15 @@ pub fn shown(bytes: &[u8]) -> String {
     format!("`{}`", bytes.escape_ascii())
 }
 
+/// Where two buffers of one length differ, and how they go on there.
+pub fn difference(found: &[u8], expected: &[u8]) -> String {
+    let Some(at) = found.iter().zip(expected).position(|(one, other)| one != other) else {
+        return "equal bytes".to_string();
+    };
+    let part = |bytes: &[u8]| shown(&bytes[at..bytes.len().min(at + 60)]);
+    format!("from byte {at} {} and not {}", part(found), part(expected))
+}
+
 /// Writes a sheet that was answered differently beside this program, and gives the file's name.
 pub fn kept(sheet: &[u8]) -> String {
     let mut hasher = DefaultHasher::new();

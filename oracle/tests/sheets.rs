@@ -22,7 +22,7 @@ fn what_is_printed_is_read_back() {
     let random = &mut Random::new(11);
     for turn in 0..400 {
         let (sheet, bytes) = generate::sheet(random, turn);
-        assert_eq!(read(&bytes).as_ref(), Ok(&sheet));
+        assert!(read(&bytes).as_ref() == Ok(&sheet), "turn {turn}");
     }
 }
 
@@ -35,7 +35,7 @@ fn what_is_admitted_is_printed_back() {
         let bytes = damage::damaged(random, &whole);
         if let Ok(sheet) = read(&bytes) {
             admitted += 1;
-            assert_eq!(print(&sheet), bytes);
+            assert!(print(&sheet) == bytes, "turn {turn}");
         }
     }
     assert!(admitted > 100, "{admitted} damaged sheets are still admitted");

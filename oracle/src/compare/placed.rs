@@ -1,6 +1,6 @@
 //! A writer of the static library held against a text: at each way that a buffer and a fill count can stand to it.
 
-use crate::report::{shown, Report};
+use crate::report::{difference, Report};
 
 /// Writes at a fill count into a buffer and gives the new fill count.
 pub trait Writer: Fn(usize, &mut [u8]) -> usize {}
@@ -56,12 +56,11 @@ fn same(
     let new_fill = writer(fill, &mut buffer);
     report.case((new_fill, &buffer) == (expected.0, &expected.1), || {
         format!(
-            "{} into {} bytes at {fill}: {new_fill} {} and not {} {}",
+            "{} into {} bytes at {fill}: {new_fill} and not {}, {}",
             what(),
             buffer.len(),
-            shown(&buffer),
             expected.0,
-            shown(&expected.1)
+            difference(&buffer, &expected.1)
         )
     });
 }

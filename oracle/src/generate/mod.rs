@@ -1,6 +1,7 @@
 //! Sheets to try: valid ones rich in everything, ones at every bound and one past it, and damaged copies.
 
 pub mod bounds;
+pub mod corners;
 pub mod damage;
 mod types;
 pub mod valid;

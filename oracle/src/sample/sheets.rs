@@ -10,34 +10,35 @@ use crate::sheet::read::{read, Refusal};
 /// All sheets together, with the lines of their lengths, stay below this.
 const BYTES: usize = 65_536;
 /// What the sheets at bounds may take of it.
-const BOUNDS: usize = 50_000;
+const BOUNDS: usize = 55_000;
 /// Longer sheets would leave room for too few.
-const LONGEST: usize = 420;
+const LONGEST: usize = 600;
+/// Bounds that are there whatever their length.
+const TOLD: [&str; 5] = [
+    "lists to level 16",
+    "lists to level 17",
+    "lists to level 17, torn",
+    "bindings to level 17",
+    "U in place of level 17",
+];
 
 pub fn sample() -> Sample {
     let mut sample = Sample { stdin: Vec::new(), stdout: Vec::new() };
     let bounds = bounds::all();
-    let told = |name: &str| {
-        ["to level 16", "to level 17", "U in place of level 17", "an id on a"].iter().any(|part| name.contains(part))
-    };
-    let mut levels: Vec<&Bound> = bounds.iter().filter(|bound| told(&bound.name)).collect();
-    levels.sort_by_key(|bound| bound.bytes.len());
-    levels.iter().take(20).for_each(|bound| add(&mut sample, &bound.bytes));
-    // Bounds stand in order of what they are about: one in every few keeps something of everything.
-    let short: Vec<&Bound> = bounds.iter().filter(|bound| bound.bytes.len() <= LONGEST && !told(&bound.name)).collect();
+    let told = |bound: &&Bound| TOLD.contains(&bound.name.as_str()) || bound.name.contains("an id on a");
+    bounds.iter().filter(told).for_each(|bound| add(&mut sample, &bound.bytes));
+    // Bounds stand in order of what they are about: evenly spaced ones keep something of everything.
+    let short: Vec<&Bound> = bounds.iter().filter(|bound| bound.bytes.len() <= LONGEST && !told(bound)).collect();
     let all: usize = short.iter().map(|bound| bound.bytes.len() + 4).sum();
-    let share = all / (BOUNDS - sample.stdin.len()) + 1;
-    short.iter().step_by(share).for_each(|bound| add(&mut sample, &bound.bytes));
+    let count = short.len() * (BOUNDS - sample.stdin.len()) / all;
+    (0..count).for_each(|at| add(&mut sample, &short[at * short.len() / count].bytes));
     let random = &mut Random::new(22);
-    for turn in 0.. {
+    for turn in 0..400 {
         let (_, whole) = generate::sheet(random, turn);
         let damaged = damage::damaged(random, &whole);
-        for bytes in [whole, damaged] {
-            if sample.stdin.len() + bytes.len() + 8 > BYTES {
-                return sample;
-            }
-            if bytes.len() <= 2 * LONGEST {
-                add(&mut sample, &bytes);
+        for bytes in [whole, damaged].iter().filter(|bytes| bytes.len() <= LONGEST) {
+            if sample.stdin.len() + bytes.len() + 8 < BYTES {
+                add(&mut sample, bytes);
             }
         }
     }
