@@ -3,6 +3,7 @@
 use oracle::answer::{answer, Request};
 use oracle::codegen::exact;
 use oracle::generate::corners::{self, group, node, slot};
+use oracle::generate::hostile;
 use oracle::names::default_name;
 use oracle::program::accessors;
 use oracle::sheet::print::print;
@@ -203,7 +204,7 @@ fn a_buffer_is_changed_by_a_text_only() {
 
 #[test]
 fn corners_are_admitted() {
-    for corner in corners::all() {
+    for corner in corners::all().into_iter().chain(hostile::all()) {
         let admitted = read(&print(&corner.sheet));
         assert_eq!(admitted.as_ref().err(), None, "{}", corner.name);
         assert!(admitted.as_ref() == Ok(&corner.sheet), "{}", corner.name);

@@ -4,7 +4,7 @@ use crate::answer::{put, text, Request};
 use crate::boundary::answer as kitlubas;
 use crate::codegen::GeneratorContext;
 use crate::context::context;
-use crate::generate::{self, corners, damage};
+use crate::generate::{self, corners, damage, hostile};
 use crate::random::Random;
 use crate::report::{difference, kept, Report};
 use crate::sheet::print::print;
@@ -22,11 +22,11 @@ pub fn accessors(times: u64) -> Report {
     compare("getters, setters, hasers, zeroing", 42, 2_200 * times, &Request::PARTS)
 }
 
-/// Every request on every field of the corners and of `count` random sheets.
+/// Every request on every field of the corners, of the hostile sheets and of `count` random ones.
 fn compare(name: &'static str, seed: u64, count: u64, requests: &[Request]) -> Report {
     let mut report = Report::new(name);
     let random = &mut Random::new(seed);
-    for corner in corners::all() {
+    for corner in corners::all().into_iter().chain(hostile::all()) {
         let bytes = print(&corner.sheet);
         every_field(&mut report, random, &corner.sheet, &bytes, requests);
     }

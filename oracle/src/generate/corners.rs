@@ -187,7 +187,7 @@ fn defaults(kind: u8) -> Vec<Node> {
     for value in 0..19 {
         let width = value_width(value);
         let all = if width == 0 { 0 } else { u64::MAX >> (64 - width) };
-        let mut bits = vec![0, 1 & all, all / 2 + 1 & all, all];
+        let mut bits = vec![0, 1 & all, (all / 2 + 1) & all, all];
         bits.dedup();
         for bits in bits {
             for explicit in [false, true] {
