@@ -11,6 +11,7 @@ pub mod codegen_types;
 pub mod compare;
 pub mod context;
 pub mod generate;
+pub mod measure;
 pub mod names;
 pub mod numbers;
 pub mod pointer_constants;

@@ -1,5 +1,6 @@
 //! The commands of the comparison with capnpc: `oracle` with no words says which there are.
 
+use oracle::measure::{self, Side};
 use oracle::report::Report;
 use oracle::sheet::read::Refusal;
 use oracle::{compare, generate, program, sample};
@@ -12,6 +13,10 @@ oracle compare [TIMES]    hold the static library of Kitlubas against capnpc's f
 oracle sample WHAT FOLDER write FOLDER/stdin and FOLDER/stdout, which a program of the gate replays; WHAT is `leaves` (names,
                           numbers and lines) or `sheets` (what is admitted)
 oracle bounds             print the name of each sheet at a bound and its answer
+oracle cases              print the names of the cases that bench/run measures
+oracle measure SIDE CASE COUNT
+                          do a case COUNT times, by `rust`, `rust-from-bytes` or `kitlubas`; status 3 if it can't be done
+oracle sheet CASE         print the sheet of a case about whole sheets
 oracle accessors          print what the program `accessors` must print for the sheet on standard input";
 
 fn main() -> ExitCode {
@@ -23,6 +28,9 @@ fn main() -> ExitCode {
         ["sample", "leaves", folder] => done(sample::leaves::sample().write(Path::new(folder))),
         ["sample", "sheets", folder] => done(sample::sheets::sample().write(Path::new(folder))),
         ["bounds"] => bounds(),
+        ["cases"] => cases(),
+        ["measure", side, case, count] => measure(side, case, count),
+        ["sheet", case] => measure::sheet(case).map_or_else(usage, |bytes| done(io::stdout().write_all(&bytes))),
         ["accessors"] => done(accessors()),
         _ => usage(),
     }
@@ -49,6 +57,22 @@ fn bounds() -> ExitCode {
             Some(Refusal { number, line }) => println!("{}: {number} at line {line}", bound.name),
         }
     }
+    ExitCode::SUCCESS
+}
+
+fn cases() -> ExitCode {
+    measure::names().iter().for_each(|name| println!("{name}"));
+    ExitCode::SUCCESS
+}
+
+fn measure(side: &str, case: &str, count: &str) -> ExitCode {
+    let (Some(side), Ok(count)) = (Side::of(side), count.parse::<u64>()) else {
+        return usage();
+    };
+    let Some(mut round) = measure::work(case, side) else {
+        return ExitCode::from(3);
+    };
+    (0..count).for_each(|_| round());
     ExitCode::SUCCESS
 }
 

@@ -15,7 +15,7 @@ const AFTER_NAME: &str = ": [::capnp::Word; 1] = [\n    ::capnp::word(0, 0, 0, 0
 /// The name of a field's default: `getter_text` makes it on its way, so it is taken from the declaration that
 /// `getter_text` gives for a Text slot of that name.
 pub fn default_name(name: &str) -> String {
-    let sheet = Sheet { root: "::capnp".to_string(), nodes: Vec::new() };
+    let sheet = Sheet::of(Vec::new());
     let slot = Slot {
         offset: 0,
         discriminant: field::NO_DISCRIMINANT,

@@ -16,7 +16,7 @@ const READER_FUNCTION: Request = Request::Getter { reader: true, function: true 
 const HASER: Request = Request::Haser { reader: true };
 
 fn sheet(nodes: Vec<Node>) -> Vec<u8> {
-    print(&Sheet { root: "::capnp".to_string(), nodes })
+    print(&Sheet::of(nodes))
 }
 
 /// The text of a request on place 0 of the node 1, or its refusal.

@@ -13,7 +13,7 @@ pub struct Corner {
 pub fn all() -> Vec<Corner> {
     let mut corners = Vec::new();
     let mut add = |name: String, nodes: Vec<Node>| {
-        corners.push(Corner { name, sheet: Sheet { root: "::capnp".to_string(), nodes } });
+        corners.push(Corner { name, sheet: Sheet::of(nodes) });
     };
     for length in [1, 2, 15, 16, 17, 18] {
         add(format!("a chain of {length}"), chain(length, 0));

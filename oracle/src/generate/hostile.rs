@@ -1,48 +1,26 @@
 //! Sheets of nearly 65,536 bytes that make a careless reader or writer slow: what grows faster than the sheet shows here.
 
 use super::corners::{group, node, slot, Corner};
-use crate::sheet::print::print;
+use super::filled;
 use crate::sheet::{Binding, Node, Scope, Sheet, Slot, Type, MAX_BYTES, MAX_LEVEL, MAX_NODES};
 
 pub fn all() -> Vec<Corner> {
     let mut corners = Vec::new();
-    let mut add = |name: &str, nodes: Vec<Node>| {
-        corners.push(Corner { name: name.to_string(), sheet: Sheet { root: "::capnp".to_string(), nodes } });
-    };
+    let mut add = |name: &str, sheet: Sheet| corners.push(Corner { name: name.to_string(), sheet });
     for length in [1, 2, 3] {
-        add(&format!("types nested 16 deep over parents in a cycle of {length}"), nested_over_cycle(length));
+        add(&format!("types nested 16 deep over parents in a cycle of {length}"), Sheet::of(nested_over_cycle(length)));
     }
-    add("types nested 16 deep over a chain of 16", nested_over_chain());
-    add("thousands of parameters under hundreds of unbound types", filled(parameters_unbound));
-    add("one scope doubled hundreds of times", filled(doubled_scopes));
-    add("hundreds of scopes off the chain", filled(scopes_off_chain));
-    add("hundreds of bindings", filled(wide_bindings));
-    add("types of 64 nodes in one long chain", filled(chain_of_64));
-    add("hundreds of G lines", filled(group_lines));
-    add("hundreds of slots in a group", filled(zeroed_slots));
-    add("groups in a cycle with hundreds of slots", filled(zeroed_cycle));
-    add("thousands of parameters", filled(|count| vec![with_parameters(count * 16, Vec::new())]));
+    add("types nested 16 deep over a chain of 16", Sheet::of(nested_over_chain()));
+    add("thousands of parameters under hundreds of unbound types", filled(MAX_BYTES, parameters_unbound));
+    add("one scope doubled hundreds of times", filled(MAX_BYTES, doubled_scopes));
+    add("hundreds of scopes off the chain", filled(MAX_BYTES, scopes_off_chain));
+    add("hundreds of bindings", filled(MAX_BYTES, wide_bindings));
+    add("types of 64 nodes in one long chain", filled(MAX_BYTES, chain_of_64));
+    add("hundreds of G lines", filled(MAX_BYTES, group_lines));
+    add("hundreds of slots in a group", filled(MAX_BYTES, zeroed_slots));
+    add("groups in a cycle with hundreds of slots", filled(MAX_BYTES, zeroed_cycle));
+    add("thousands of parameters", filled(MAX_BYTES, |count| vec![with_parameters(count * 16, Vec::new())]));
     corners
-}
-
-/// The largest count for which the nodes still make a sheet.
-fn filled(nodes: impl Fn(usize) -> Vec<Node>) -> Vec<Node> {
-    let fits = |count: usize| {
-        let sheet = Sheet { root: "::capnp".to_string(), nodes: nodes(count) };
-        print(&sheet).len() <= MAX_BYTES
-    };
-    let mut count = 1;
-    while fits(count * 2) {
-        count *= 2;
-    }
-    let mut step = count / 2;
-    while step > 0 {
-        if fits(count + step) {
-            count += step;
-        }
-        step /= 2;
-    }
-    nodes(count)
 }
 
 fn binds(id: u64, types: Vec<Type>) -> Scope {

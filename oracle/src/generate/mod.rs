@@ -9,7 +9,7 @@ pub mod valid;
 
 use crate::random::Random;
 use crate::sheet::print::print;
-use crate::sheet::{Sheet, MAX_BYTES};
+use crate::sheet::{Node, Sheet, MAX_BYTES};
 use valid::Style;
 
 /// The styles by turns, so that every run has all of them.
@@ -43,4 +43,21 @@ fn shorten(sheet: &mut Sheet) {
     if longest.fields.pop().is_none() {
         sheet.nodes.pop();
     }
+}
+
+/// The largest sheet of this shape, of some count of pieces, that is not over `size` bytes.
+pub fn filled(size: usize, nodes: impl Fn(usize) -> Vec<Node>) -> Sheet {
+    let fits = |count: usize| print(&Sheet::of(nodes(count))).len() <= size;
+    let mut count = 1;
+    while fits(count * 2) {
+        count *= 2;
+    }
+    let mut step = count / 2;
+    while step > 0 {
+        if fits(count + step) {
+            count += step;
+        }
+        step /= 2;
+    }
+    Sheet::of(nodes(count))
 }

@@ -95,6 +95,13 @@ pub enum Binding {
     Type(Type),
 }
 
+impl Sheet {
+    /// The sheet of these nodes with capnpc's own root.
+    pub fn of(nodes: Vec<Node>) -> Sheet {
+        Sheet { root: "::capnp".to_string(), nodes }
+    }
+}
+
 impl Field {
     pub fn name(&self) -> &str {
         match self {
