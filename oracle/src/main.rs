@@ -16,6 +16,7 @@ oracle bounds             print the name of each sheet at a bound and its answer
 oracle cases              print the names of the cases that bench/run measures
 oracle measure SIDE CASE COUNT
                           do a case COUNT times, by `rust`, `rust-from-bytes` or `kitlubas`; status 3 if it can't be done
+oracle time SIDE CASE     print the nanoseconds of a case
 oracle sheet CASE         print the sheet of a case about whole sheets
 oracle accessors          print what the program `accessors` must print for the sheet on standard input";
 
@@ -30,6 +31,7 @@ fn main() -> ExitCode {
         ["bounds"] => bounds(),
         ["cases"] => cases(),
         ["measure", side, case, count] => measure(side, case, count),
+        ["time", side, case] => time(side, case),
         ["sheet", case] => measure::sheet(case).map_or_else(usage, |bytes| done(io::stdout().write_all(&bytes))),
         ["accessors"] => done(accessors()),
         _ => usage(),
@@ -69,11 +71,20 @@ fn measure(side: &str, case: &str, count: &str) -> ExitCode {
     let (Some(side), Ok(count)) = (Side::of(side), count.parse::<u64>()) else {
         return usage();
     };
-    let Some(mut round) = measure::work(case, side) else {
-        return ExitCode::from(3);
+    measure::work(case, side).map_or(ExitCode::from(3), |mut round| {
+        (0..count).for_each(|_| round());
+        ExitCode::SUCCESS
+    })
+}
+
+fn time(side: &str, case: &str) -> ExitCode {
+    let Some(side) = Side::of(side) else {
+        return usage();
     };
-    (0..count).for_each(|_| round());
-    ExitCode::SUCCESS
+    measure::work(case, side).map_or(ExitCode::from(3), |round| {
+        println!("{:.0}", measure::nanoseconds(round));
+        ExitCode::SUCCESS
+    })
 }
 
 fn accessors() -> io::Result<()> {

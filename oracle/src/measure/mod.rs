@@ -1,6 +1,7 @@
 //! Work to be measured: one case done many times, by capnpc's functions or by the static library. The script bench/run
 //! counts its instructions, with and without the work, so that what comes before it falls out.
 
+mod leaves;
 mod sheets;
 
 use crate::answer::{answer, text_of_field, Request};
@@ -11,9 +12,13 @@ use crate::sheet::print::print;
 use crate::sheet::read::read;
 use crate::sheet::{Binding, Scope, Sheet, Slot, Type};
 use std::hint::black_box;
+use std::time::{Duration, Instant};
 
 /// The room for an answer.
 const BUFFER: usize = 65_536;
+
+/// One round of a case.
+pub type Round = Box<dyn FnMut()>;
 
 /// Who does the work.
 #[derive(Clone, Copy, PartialEq)]
@@ -68,7 +73,8 @@ fn bound() -> Scope {
 
 /// The names of all cases, as `work` takes them.
 pub fn names() -> Vec<String> {
-    let mut names: Vec<String> = sheets::admitted().iter().map(|(name, _)| format!("admit {name}")).collect();
+    let mut names: Vec<String> = leaves::NAMES.iter().map(|name| format!("leaf {name}")).collect();
+    names.extend(sheets::admitted().iter().map(|(name, _)| format!("admit {name}")));
     for (request, _) in REQUESTS.iter().take(7) {
         names.extend(SLOTS.iter().map(|(slot, _)| format!("{request} {slot}")));
     }
@@ -78,8 +84,9 @@ pub fn names() -> Vec<String> {
 }
 
 /// What one round of a case does; none where there is no such case or its side is not built.
-pub fn work(name: &str, side: Side) -> Option<Box<dyn FnMut()>> {
+pub fn work(name: &str, side: Side) -> Option<Round> {
     match name.split_once(' ')? {
+        ("leaf", name) => leaves::work(name, side),
         ("admit", sheet) => admission(sheets::admitted().into_iter().find(|(name, _)| name == sheet)?.1(), side),
         ("accessors", sheet) => program(sheets::WHOLE.iter().find(|(name, _)| *name == sheet)?.1, side),
         ("zero", "group") => request(sheets::group_sheet(), Request::Zero, side),
@@ -108,7 +115,7 @@ fn slot_sheet(slot: Slot) -> Sheet {
 }
 
 /// The answer to a request on the first field of node 1.
-fn request(sheet: Sheet, request: Request, side: Side) -> Option<Box<dyn FnMut()>> {
+fn request(sheet: Sheet, request: Request, side: Side) -> Option<Round> {
     let bytes = print(&sheet);
     let mut buffer = vec![0; BUFFER];
     match side {
@@ -126,7 +133,7 @@ fn request(sheet: Sheet, request: Request, side: Side) -> Option<Box<dyn FnMut()
 }
 
 /// capnpc reads no sheets: the reader of this package stands beside Kitlubas for orientation only.
-fn admission(bytes: Vec<u8>, side: Side) -> Option<Box<dyn FnMut()>> {
+fn admission(bytes: Vec<u8>, side: Side) -> Option<Round> {
     match side {
         Side::Rust => None,
         Side::RustFromBytes => Some(Box::new(move || discard(read(black_box(&bytes))))),
@@ -135,12 +142,23 @@ fn admission(bytes: Vec<u8>, side: Side) -> Option<Box<dyn FnMut()>> {
 }
 
 /// A whole sheet. The program of Kitlubas is measured by itself, on the bytes that `sheet` gives.
-fn program(size: usize, side: Side) -> Option<Box<dyn FnMut()>> {
+fn program(size: usize, side: Side) -> Option<Round> {
     let bytes = print(&sheets::ordinary(size));
     match side {
         Side::RustFromBytes => Some(Box::new(move || discard(accessors(black_box(&bytes))))),
         _ => None,
     }
+}
+
+/// The nanoseconds of one round, from rounds that take a fifth of a second.
+pub fn nanoseconds(mut round: Round) -> f64 {
+    let mut count = 0u32;
+    let start = Instant::now();
+    while start.elapsed() < Duration::from_millis(200) {
+        (0..20).for_each(|_| round());
+        count += 20;
+    }
+    start.elapsed().as_nanos() as f64 / f64::from(count)
 }
 
 /// The bytes of a case about whole sheets.
@@ -150,17 +168,17 @@ pub fn sheet(name: &str) -> Option<Vec<u8>> {
 }
 
 #[cfg(has_admit)]
-fn kitlubas_admit(bytes: Vec<u8>) -> Option<Box<dyn FnMut()>> {
+fn kitlubas_admit(bytes: Vec<u8>) -> Option<Round> {
     Some(Box::new(move || discard(crate::boundary::admit::admit(black_box(&bytes)))))
 }
 
 #[cfg(not(has_admit))]
-fn kitlubas_admit(_bytes: Vec<u8>) -> Option<Box<dyn FnMut()>> {
+fn kitlubas_admit(_bytes: Vec<u8>) -> Option<Round> {
     None
 }
 
 #[cfg(has_answer)]
-fn kitlubas_answer(bytes: Vec<u8>, request: Request) -> Option<Box<dyn FnMut()>> {
+fn kitlubas_answer(bytes: Vec<u8>, request: Request) -> Option<Round> {
     let mut buffer = vec![0; BUFFER];
     Some(Box::new(move || {
         let mut fill = 0;
@@ -169,6 +187,6 @@ fn kitlubas_answer(bytes: Vec<u8>, request: Request) -> Option<Box<dyn FnMut()>>
 }
 
 #[cfg(not(has_answer))]
-fn kitlubas_answer(_bytes: Vec<u8>, _request: Request) -> Option<Box<dyn FnMut()>> {
+fn kitlubas_answer(_bytes: Vec<u8>, _request: Request) -> Option<Round> {
     None
 }
