@@ -30,9 +30,12 @@ pub fn link(archive: &Path) {
     let mut linked = false;
     for (part, needed) in PARTS {
         println!("cargo:rustc-check-cfg=cfg({part})");
-        if needed.iter().all(|name| defined.iter().any(|symbol| symbol == name)) {
+        let missing: Vec<&&str> = needed.iter().filter(|name| !defined.iter().any(|symbol| symbol == *name)).collect();
+        if missing.is_empty() {
             println!("cargo:rustc-cfg={part}");
             linked = true;
+        } else if missing.len() < needed.len() {
+            panic!("{} has a part of {part}, but not {missing:?}", archive.display());
         }
     }
     if linked {

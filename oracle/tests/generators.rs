@@ -4,8 +4,8 @@ use oracle::answer::{text_of_field, Request};
 use oracle::context::context;
 use oracle::generate;
 use oracle::random::Random;
-use oracle::sheet::{Field, Sheet};
-use std::collections::BTreeMap;
+use oracle::sheet::{Binding, Field, Scope, Sheet, Type};
+use std::collections::{BTreeMap, BTreeSet};
 
 /// How often each kind of request was answered with a text (0) or with a refusal.
 type Census = BTreeMap<(&'static str, u64), u64>;
@@ -49,4 +49,75 @@ fn every_refusal_is_reached() {
             assert!(census.get(&(name, *number)).is_some_and(|&count| count >= 5), "{name} {number}");
         }
     }
+}
+
+/// What a valid sheet can be rich in.
+#[derive(Default)]
+struct Seen {
+    type_kinds: BTreeSet<u8>,
+    value_kinds: BTreeSet<u8>,
+    level: usize,
+    unbound: bool,
+    inherits: bool,
+    doubled: bool,
+    words: usize,
+    nodes: usize,
+    name: usize,
+    module: usize,
+    root: usize,
+}
+
+impl Seen {
+    fn sheet(&mut self, sheet: &Sheet) {
+        self.nodes = self.nodes.max(sheet.nodes.len());
+        self.root = self.root.max(sheet.root.len());
+        for node in &sheet.nodes {
+            self.module = self.module.max(node.module.len());
+            for field in &node.fields {
+                self.name = self.name.max(field.name().len());
+                if let Field::Slot(slot) = field {
+                    self.value_kinds.insert(slot.value.kind);
+                    self.words = self.words.max(slot.words.len());
+                    self.typ(&slot.typ, 1);
+                }
+            }
+        }
+    }
+
+    fn typ(&mut self, typ: &Type, level: usize) {
+        self.level = self.level.max(level);
+        self.type_kinds.insert(typ.kind());
+        match typ {
+            Type::List(element) => self.typ(element, level + 1),
+            Type::Enum(_, scopes) | Type::Struct(_, scopes) | Type::Interface(_, scopes) => self.scopes(scopes, level),
+            _ => {}
+        }
+    }
+
+    fn scopes(&mut self, scopes: &[Scope], level: usize) {
+        let ids: BTreeSet<u64> = scopes.iter().map(|scope| scope.id).collect();
+        self.doubled |= ids.len() < scopes.len();
+        for scope in scopes {
+            self.inherits |= scope.bindings.is_none();
+            for binding in scope.bindings.iter().flatten() {
+                match binding {
+                    Binding::Unbound => self.unbound = true,
+                    Binding::Type(typ) => self.typ(typ, level + 1),
+                }
+            }
+        }
+    }
+}
+
+#[test]
+fn valid_sheets_are_rich_in_everything() {
+    let random = &mut Random::new(32);
+    let mut seen = Seen::default();
+    for turn in 0..4000 {
+        seen.sheet(&generate::sheet(random, turn).0);
+    }
+    assert_eq!((seen.type_kinds.len(), seen.value_kinds.len()), (19, 19));
+    assert!(seen.unbound && seen.inherits && seen.doubled);
+    assert_eq!((seen.level, seen.words, seen.nodes), (16, 255, 64));
+    assert_eq!((seen.name, seen.module, seen.root), (64, 128, 64));
 }

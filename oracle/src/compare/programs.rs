@@ -27,7 +27,7 @@ pub fn outputs(times: u64) -> Option<Report> {
         one_sheet(&mut report, program, &bound.bytes, &bound.name);
     }
     let random = &mut Random::new(51);
-    for turn in 0..10_000 * times {
+    for turn in 0..2_500 * times {
         let (_, bytes) = generate::sheet(random, turn);
         one_sheet(&mut report, program, &bytes, "valid");
         one_sheet(&mut report, program, &damage::damaged(random, &bytes), "damaged");
