@@ -8,7 +8,8 @@ use Rattle.text.specs.declared.Text.{Text}
 use Rattle.exports.specs.Boundary.{FilledIf}
 
 -- t is the state at the fill count, and r the fill count of the state after the text
-pub wrote : {b : Bool} {l : Str} {at : ℕ} {s l′ : Str} {t t′ : Text} {r : ℕ} → b ≡ true → t ≡ textAt at → Wrote l t s l′ t′ → r ≡ t′ .at → FilledIf b l at s l′ r
+pub wrote : {b : Bool} {l : Str} {at : ℕ} {s l′ : Str} {t t′ : Text} {r : ℕ} → b ≡ true → t ≡ textAt at → Wrote l t s l′ t′
+    → r ≡ t′ .at → FilledIf b l at s l′ r
 wrote e f w g =
     let v = rw f at w in
     rw e (record { bytes = v .bytes; fill = g ∙ ap (λ (u : Text). u .at) (v .state) })

@@ -8,8 +8,8 @@ use Rattle.text.specs.Decimal.{signed}
 use Rattle.text.specs.Text.{adv, put, textAt}
 use Rattle.names.specs.Names.{taken}
 
--- where it is taken, the text s is written at a fill count into l, which leaves l′ and the fill count r; else nothing is written, and the
--- answer is the largest count
+-- where it is taken, the text s is written at a fill count into l, which leaves l′ and the fill count r; else nothing is
+-- written, and the answer is the largest count
 pub record FilledIf (isTaken : Bool) (l : Str) (at : ℕ) (s : Str) (l′ : Str) (r : ℕ) : Type 0 where
   pub bytes : l′ ≡ cond isTaken (put l (textAt at) s) l
   pub fill : r ≡ cond isTaken (adv (textAt at) s .at) (2 ^ 64 - 1)

@@ -9,8 +9,8 @@
 //     size_t kitlubas_default_name(size_t at, uint8_t *buf, size_t buf_len, const uint8_t *name, size_t name_len);
 //     size_t kitlubas_module_name(size_t at, uint8_t *buf, size_t buf_len, const uint8_t *name, size_t name_len);
 //
-// Each writes its text at the fill count `at` and answers the new one. Bytes past the end of the buffer are counted and not written. What is
-// not taken writes nothing and answers 18446744073709551615.
+// Each writes its text at the fill count `at` and answers the new one. Bytes past the end of the buffer are counted and not
+// written. What is not taken writes nothing and answers 18446744073709551615.
 use text::Text;
 ghost use Rattle.names.specs.Names.{camelToSnakeCase, defaultName, moduleName};
 ghost use Rattle.text.specs.Decimal.{decimal};

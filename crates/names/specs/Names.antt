@@ -1,4 +1,5 @@
--- Names in generated code: `camel_to_snake_case` and `module_name` of codegen.rs, and the name of a default's constant. Assumes nothing.
+-- Names in generated code: `camel_to_snake_case` and `module_name` of codegen.rs, and the name of a default's constant. Assumes
+-- nothing.
 use mathlib.Core.Bool.{Bool, true, false, not}
 use mathlib.Core.List.{[], _∷_, _++_, map}
 use Prim.Native.Nat.{ℕ, _+_, _-_}
@@ -29,7 +30,8 @@ isAscii (c ∷ cs) = both (ltb c 128) (isAscii cs)
 unfoldable pub taken : Str → Bool
 taken name = both (leb (length name) 64) (isAscii name)
 
--- a turn of the loop of `camel_to_snake_case`: an underscore before a capital that is not the first char, and the char in lower case
+-- a turn of the loop of `camel_to_snake_case`: an underscore before a capital that is not the first char, and the char in lower
+-- case
 abbrev pub snakeChar : Bool → ℕ → Str
 snakeChar first c = cond (both (isUppercase c) (not first)) (unit 95) [] ++ unit (toAsciiLowercase c)
 

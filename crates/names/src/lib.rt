@@ -9,7 +9,8 @@ ghost use mathlib.Core.List.{map};
 ghost use Prim.Native.Nat.{min};
 ghost use Rattle.text.specs.Text.{Wrote};
 ghost use Rattle.names.specs.Keywords.{isKeyword};
-ghost use Rattle.names.specs.Names.{isUppercase, toAsciiLowercase, toAsciiUppercase, taken, snakeChar, snakeFrom, camelToSnakeCase, defaultName, moduleName, held, nameOf};
+ghost use Rattle.names.specs.Names.{isUppercase, toAsciiLowercase, toAsciiUppercase, taken, snakeChar, snakeFrom};
+ghost use Rattle.names.specs.Names.{camelToSnakeCase, defaultName, moduleName, held, nameOf};
 
 // A snake name, held whole: its bytes, then zeros.
 pub struct Snake {

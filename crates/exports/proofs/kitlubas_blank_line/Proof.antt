@@ -11,4 +11,5 @@ returns c =
     wrote refl (w .before .before .at .ensures) (w .blank-line .ensures) (c .fill .ensures)
 
 pub kitlubas-blank-line-spec : {M : Type 1} → statement M
-kitlubas-blank-line-spec = tie.close (tie.spec (λ c κs. search needs) (λ c κs. search needs) (λ c κs. search needs) (λ c. search needs) returns)
+kitlubas-blank-line-spec = tie.close
+    (tie.spec (λ c κs. search needs) (λ c κs. search needs) (λ c κs. search needs) (λ c. search needs) returns)

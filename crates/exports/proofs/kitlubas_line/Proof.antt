@@ -11,4 +11,5 @@ returns c =
     wrote refl (w .before .before .at .ensures) (w .line .ensures) (c .fill .ensures)
 
 pub kitlubas-line-spec : {M : Type 1} → statement M
-kitlubas-line-spec = tie.close (tie.spec (λ c κs. search needs) (λ c κs. search needs) (λ c κs. search needs) (λ c. search needs) returns)
+kitlubas-line-spec = tie.close
+    (tie.spec (λ c κs. search needs) (λ c κs. search needs) (λ c κs. search needs) (λ c. search needs) returns)

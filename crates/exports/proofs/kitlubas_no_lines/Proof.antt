@@ -11,4 +11,5 @@ returns c =
     wrote refl (w .before .before .at .ensures) (w .no-lines .ensures) (c .fill .ensures)
 
 pub kitlubas-no-lines-spec : {M : Type 1} → statement M
-kitlubas-no-lines-spec = tie.close (tie.spec (λ c κs. search needs) (λ c κs. search needs) (λ c κs. search needs) (λ c. search needs) returns)
+kitlubas-no-lines-spec = tie.close
+    (tie.spec (λ c κs. search needs) (λ c κs. search needs) (λ c κs. search needs) (λ c. search needs) returns)

@@ -11,4 +11,5 @@ returns c =
     wrote refl (w .before .before .at .ensures) (w .number .ensures) (c .fill .ensures)
 
 pub kitlubas-number-spec : {M : Type 1} → statement M
-kitlubas-number-spec = tie.close (tie.spec (λ c κs. search needs) (λ c κs. search needs) (λ c κs. search needs) (λ c. search needs) returns)
+kitlubas-number-spec = tie.close
+    (tie.spec (λ c κs. search needs) (λ c κs. search needs) (λ c κs. search needs) (λ c. search needs) returns)

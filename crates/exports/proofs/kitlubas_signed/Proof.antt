@@ -12,23 +12,27 @@ use Rattle.exports.proofs.kitlubas_signed.Tie as tie
 returns : tie.Need-returns
 returns c =
     let w = c .before .before .before in
-    rw (w .before .before .match .keys1) (wrote refl (w .before .before .before .at .ensures) (w .signed8 .ensures) (c .fill .ensures))
+    rw (w .before .before .match .keys1)
+    (wrote refl (w .before .before .before .at .ensures) (w .signed8 .ensures) (c .fill .ensures))
 
 returns-2 : tie.Need-returns-2
 returns-2 c =
     let w = c .before .before .before in
-    rw (w .before .before .match .keys2) (wrote refl (w .before .before .before .at .ensures) (w .signed16 .ensures) (c .fill2 .ensures))
+    rw (w .before .before .match .keys2)
+    (wrote refl (w .before .before .before .at .ensures) (w .signed16 .ensures) (c .fill2 .ensures))
 
 returns-3 : tie.Need-returns-3
 returns-3 c =
     let w = c .before .before .before in
-    rw (w .before .before .match .keys3) (wrote refl (w .before .before .before .at .ensures) (w .signed32 .ensures) (c .fill3 .ensures))
+    rw (w .before .before .match .keys3)
+    (wrote refl (w .before .before .before .at .ensures) (w .signed32 .ensures) (c .fill3 .ensures))
 
 returns-4 : tie.Need-returns-4
 returns-4 c =
     let w = c .before .before .before in
     let n = w .before .before .before .before .before .args .n in
-    rw (w .before .before .match .keys4, mod-eq-of-lt {n = n} {m = 2 ^ 64} (omega arith)) (wrote refl (w .before .before .before .at .ensures) (w .signed64 .ensures) (c .fill4 .ensures))
+    rw (w .before .before .match .keys4, mod-eq-of-lt {n = n} {m = 2 ^ 64} (omega arith))
+    (wrote refl (w .before .before .before .at .ensures) (w .signed64 .ensures) (c .fill4 .ensures))
 
 returns-5 : tie.Need-returns-5
 returns-5 c =

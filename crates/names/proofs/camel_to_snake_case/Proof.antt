@@ -14,7 +14,8 @@ returns-2 c =
     let d = c .before .before in
     let e = d .before .before .before in
     rw (c .fill .ensures)
-    (held-taken _ _ _ (sym (e .before .takes .ensures) ∙ not-false _ (e .if1 .left)) (rw (d .before .before .at .ensures) at (d .snake-chars .ensures)))
+    (held-taken _ _ _ (sym (e .before .takes .ensures) ∙ not-false _ (e .if1 .left))
+    (rw (d .before .before .at .ensures) at (d .snake-chars .ensures)))
 
 pub camel-to-snake-case-spec : {M : Type 1} → statement M
 camel-to-snake-case-spec =

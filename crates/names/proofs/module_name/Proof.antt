@@ -13,7 +13,8 @@ returns c =
     let k = b .before .before in
     let w = k .before .before .before .before in
     let n = name-of _ _ (w .before .before .camel-to-snake-case .ensures) in
-    rw (module-keyword _ (ap isKeyword (sym n) ∙ sym (k .before .is-keyword .ensures) ∙ k .if1 .taken)) ((rw n at (w .write .ensures)) ⨾ b .byte .ensures)
+    rw (module-keyword _ (ap isKeyword (sym n) ∙ sym (k .before .is-keyword .ensures) ∙ k .if1 .taken))
+    ((rw n at (w .write .ensures)) ⨾ b .byte .ensures)
 
 returns-2 : tie.Need-returns-2
 returns-2 c =
