@@ -49,8 +49,10 @@ fn symbols(archive: &Path) -> Vec<String> {
     if !archive.exists() {
         return Vec::new();
     }
-    let listing = Command::new("nm").args(["-g", "--defined-only", "-j"]).arg(archive).output();
+    let listing = Command::new("nm").args(["-g", "-P", "--defined-only"]).arg(archive).output();
     let listing = listing.expect("nm can be started");
     assert!(listing.status.success(), "nm: {}", String::from_utf8_lossy(&listing.stderr));
-    String::from_utf8_lossy(&listing.stdout).lines().map(|line| line.trim().to_string()).collect()
+    // The portable format: a symbol's name is the first word of its line.
+    let names = String::from_utf8_lossy(&listing.stdout);
+    names.lines().filter_map(|line| line.split_whitespace().next()).map(str::to_string).collect()
 }

@@ -12,7 +12,7 @@ use crate::random::Random;
 
 pub fn sample() -> Sample {
     let random = &mut Random::new(4);
-    let mut cases = Cases(Sample { stdin: Vec::new(), stdout: Vec::new() });
+    let mut cases = Cases(Sample::default());
     for name in names_of_sample(random) {
         cases.name(&name);
     }

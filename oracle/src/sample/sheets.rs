@@ -1,15 +1,13 @@
 //! Admission: sheets, each after a line with its length in decimal. An answer is a line with the refusal's number and
 //! its line, `0 0` for an admitted sheet.
 
-use super::Sample;
+use super::{Sample, BYTES};
 use crate::generate::bounds::{self, Bound};
 use crate::generate::{self, damage};
 use crate::random::Random;
 use crate::sheet::read::{read, Refusal};
 
-/// All sheets together, with the lines of their lengths, stay below this.
-const BYTES: usize = 65_536;
-/// What the sheets at bounds may take of it.
+/// What the sheets at bounds may take of the input.
 const BOUNDS: usize = 55_000;
 /// Longer sheets would leave room for too few.
 const LONGEST: usize = 600;
@@ -23,7 +21,7 @@ const TOLD: [&str; 5] = [
 ];
 
 pub fn sample() -> Sample {
-    let mut sample = Sample { stdin: Vec::new(), stdout: Vec::new() };
+    let mut sample = Sample::default();
     let bounds = bounds::all();
     let told = |bound: &&Bound| TOLD.contains(&bound.name.as_str()) || bound.name.contains("an id on a");
     bounds.iter().filter(told).for_each(|bound| add(&mut sample, &bound.bytes));
@@ -47,7 +45,5 @@ pub fn sample() -> Sample {
 
 fn add(sample: &mut Sample, bytes: &[u8]) {
     let Refusal { number, line } = read(bytes).err().unwrap_or(Refusal { number: 0, line: 0 });
-    sample.stdin.extend(format!("{}\n", bytes.len()).bytes());
-    sample.stdin.extend(bytes);
-    sample.stdout.extend(format!("{number} {line}\n").bytes());
+    sample.sheet(bytes, format!("{number} {line}\n").as_bytes());
 }
