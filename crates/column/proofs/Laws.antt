@@ -9,7 +9,7 @@ use native.Mathlib.Numerals.{add-one}
 use lib.ListN.{length, getD, take, drop, drop-of-length-le, length-drop, List·getD-eq-default}
 use lib.Seq.{drop-cons, take-all}
 use borrow.Author.Tests.{eq-eqb, ne-eqb, lt-ltb, le-ltb, le-leb, lt-leb}
-use Rattle.text.specs.Bytes.{Str}
+use Rattle.text.specs.Bytes.{Str, cond}
 use Rattle.column.specs.Number.{trimmed, digits, unpadded, within, columnOf}
 use Rattle.column.specs.Texts.{between, isDigit, isWord, isGraphic, all, sized, isName, isGraphicText, endsIn}
 use Rattle.column.specs.declared.Number.{Number}
@@ -175,3 +175,21 @@ module _ (t : Str) (a : ℕ) where
       → endsIn (isGraphicText most) t a ≡ all isGraphic (take (length t - (a + 1)) (drop (a + 1) t))
   unfolding isGraphicText
   graphic-is most s l h = ends-text (isGraphicText most) s ∙ rw (well-sized most l h, rest-is t (a + 1))
+
+-- each byte of a name, and of a graphic text
+pub name-all : (t : Str) → isName t ≡ true → all isWord t ≡ true
+unfolding isName
+name-all t e = go (sized 64 t) (isDigit (getD t 0 0)) e
+  where
+    go : (p q : Bool) → cond p (cond q false (all isWord t)) false ≡ true → all isWord t ≡ true
+    go true false e = e
+    go true true e = cc
+    go false q e = cc
+
+pub graphic-all : (most : ℕ) (t : Str) → isGraphicText most t ≡ true → all isGraphic t ≡ true
+unfolding isGraphicText
+graphic-all most t e = go (sized most t) e
+  where
+    go : (p : Bool) → cond p (all isGraphic t) false ≡ true → all isGraphic t ≡ true
+    go true e = e
+    go false e = cc
