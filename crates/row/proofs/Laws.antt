@@ -86,11 +86,14 @@ rows-split b (x ∷ s) = by-test (rows-split x s) (eqb b 10) refl
 
 -- the row at a position inside the sheet: where it ends, and the rows from it on
 module _ (s : Str) (at e : ℕ) (h : at < length s) (is : e ≡ at + rowLen (drop at s)) where
-  pub row-starts : at < e
+  row-starts : at < e
   row-starts = omega (arith, rowLen-some (drop at s) (rw (length-drop at s) (omega arith)))
 
-  pub row-ends : e ≤ length s
+  row-ends : e ≤ length s
   row-ends = omega (arith, rowLen-le (drop at s), length-drop at s)
+
+  pub row-bounds : (at < e) × (e ≤ length s)
+  row-bounds = (row-starts, row-ends)
 
   pub rows-at : rows (drop at s) ≡ take (e - at) (drop at s) ∷ rows (drop e s)
   rows-at = rw (is, add-sub-cancel-left at (rowLen (drop at s)), ← drop-drop (rowLen (drop at s)) at s, drop-cons s at 0 h) (rows-split (getD s at 0) (drop (suc at) s))
