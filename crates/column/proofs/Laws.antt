@@ -54,14 +54,16 @@ module _ (t : Str) (i : ℕ) (h : i < length t) where
   pub digits-over : (v : ℕ) → 48 ≤ getD t i 0 → getD t i 0 ≤ 57 → 2 ^ 64 ≤ v * 10 + (getD t i 0 - 48) → digits v (drop i t) ≡ Not
   unfolding digits
   digits-over v l g o =
-      rw (drop-cons t i 0 h, digits, le-ltb (getD t i 0) 48 l, le-ltb 57 (getD t i 0) g, le-ltb (v * 10 + (getD t i 0 - 48)) (2 ^ 64) o)
+      let b = getD t i 0 in
+      rw (drop-cons t i 0 h, digits, le-ltb b 48 l, le-ltb 57 b g, le-ltb (v * 10 + (b - 48)) (2 ^ 64) o)
 
   pub digits-more :
       (v : ℕ) → 48 ≤ getD t i 0 → getD t i 0 ≤ 57 → v * 10 + (getD t i 0 - 48) < 2 ^ 64
       → digits v (drop i t) ≡ digits (v * 10 + (getD t i 0 - 48)) (drop (i + 1) t)
   unfolding digits
   digits-more v l g o =
-      rw (add-one, drop-cons t i 0 h, digits, le-ltb (getD t i 0) 48 l, le-ltb 57 (getD t i 0) g, lt-ltb (v * 10 + (getD t i 0 - 48)) (2 ^ 64) o)
+      let b = getD t i 0 in
+      rw (add-one, drop-cons t i 0 h, digits, le-ltb b 48 l, le-ltb 57 b g, lt-ltb (v * 10 + (b - 48)) (2 ^ 64) o)
 
 pub all-end : (ok : ℕ → Bool) (t : Str) (i : ℕ) → length t ≤ i → all ok (drop i t) ≡ true
 unfolding all
@@ -132,10 +134,14 @@ module _ (t : Str) (a : ℕ) where
   none-sized most e = between-below 1 most (length (drop (a + 1) t)) (rw (length-drop (a + 1) t) (omega arith))
 
   over-sized : (most : ℕ) → a + 1 < length t → most < length t - (a + 1) → sized most (drop (a + 1) t) ≡ false
-  over-sized most l h = let n = length-drop (a + 1) t in between-above 1 most (length (drop (a + 1) t)) (omega arith) (omega arith)
+  over-sized most l h =
+      let n = length-drop (a + 1) t in
+      between-above 1 most (length (drop (a + 1) t)) (omega arith) (omega arith)
 
   well-sized : (most : ℕ) → a + 1 < length t → length t - (a + 1) ≤ most → sized most (drop (a + 1) t) ≡ true
-  well-sized most l h = let n = length-drop (a + 1) t in between-in 1 most (length (drop (a + 1) t)) (omega arith) (omega arith)
+  well-sized most l h =
+      let n = length-drop (a + 1) t in
+      between-in 1 most (length (drop (a + 1) t)) (omega arith) (omega arith)
 
   first-is : a + 1 < length t → getD (drop (a + 1) t) 0 0 ≡ getD t (a + 1) 0
   first-is l = rw (drop-cons t (a + 1) 0 l)
@@ -150,7 +156,9 @@ module _ (t : Str) (a : ℕ) where
   pub name-over : getD t a 0 ≡ 32 → a + 1 < length t → 64 < length t - (a + 1) → endsIn isName t a ≡ false
   name-over s l h = name-not s (over-sized 64 l h)
 
-  pub name-digit : getD t a 0 ≡ 32 → a + 1 < length t → length t - (a + 1) ≤ 64 → isDigit (getD t (a + 1) 0) ≡ true → endsIn isName t a ≡ false
+  pub name-digit :
+      getD t a 0 ≡ 32 → a + 1 < length t → length t - (a + 1) ≤ 64 → isDigit (getD t (a + 1) 0) ≡ true
+      → endsIn isName t a ≡ false
   unfolding isName
   name-digit s l h e = ends-text isName s ∙ rw (well-sized 64 l h, first-is l, e)
 
@@ -167,7 +175,8 @@ module _ (t : Str) (a : ℕ) where
   pub graphic-none : (most : ℕ) → getD t a 0 ≡ 32 → length t ≡ a + 1 → endsIn (isGraphicText most) t a ≡ false
   graphic-none most s h = graphic-not most s (none-sized most h)
 
-  pub graphic-over : (most : ℕ) → getD t a 0 ≡ 32 → a + 1 < length t → most < length t - (a + 1) → endsIn (isGraphicText most) t a ≡ false
+  pub graphic-over :
+      (most : ℕ) → getD t a 0 ≡ 32 → a + 1 < length t → most < length t - (a + 1) → endsIn (isGraphicText most) t a ≡ false
   graphic-over most s l h = graphic-not most s (over-sized most l h)
 
   pub graphic-is :

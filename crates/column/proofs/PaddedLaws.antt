@@ -9,7 +9,8 @@ use native.Mathlib.Decide.{decLt}
 use native.Mathlib.Numerals.{add-one}
 use native.Mathlib.Omega.{arith}
 use lib.Dec.{eqb, ltb}
-use lib.ListN.{length, getD, take, drop, replicate, length-append, length-drop, length-replicate, take-append-drop, List·getD-eq-default}
+use lib.ListN.{length, getD, take, drop, replicate, length-append, length-drop, length-replicate, take-append-drop}
+use lib.ListN.{List·getD-eq-default}
 use lib.Seq.{drop-cons, drop-drop, getD-drop, take-append-seam, length-take-le}
 use borrow.Author.Tests.{eq-eqb, ne-eqb, lt-ltb, le-ltb, ltb-true, ltb-false, eqb-true, eqb-false}
 use Rattle.text.specs.Bytes.{Str, cond, unit}
@@ -210,7 +211,8 @@ padded-number t n w e = rw (← decimal-unpadded (trimmed t) n e, ← w) (trimme
 
 -- printed there, they are read
 pub column-printed :
-    (t rest : Str) (a least most n : ℕ) → drop a t ≡ padded n ++ rest → n < 2 ^ 64 → least ≤ n → n ≤ most → columnOf t a least most ≡ Is n
+    (t rest : Str) (a least most n : ℕ) → drop a t ≡ padded n ++ rest → n < 2 ^ 64 → least ≤ n → n ≤ most
+    → columnOf t a least most ≡ Is n
 unfolding columnOf
 column-printed t rest a least most n e s l h =
     let w = padded-length n s in

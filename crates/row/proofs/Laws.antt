@@ -96,7 +96,9 @@ module _ (s : Str) (at e : ℕ) (h : at < length s) (is : e ≡ at + rowLen (dro
   row-bounds = (row-starts, row-ends)
 
   pub rows-at : rows (drop at s) ≡ take (e - at) (drop at s) ∷ rows (drop e s)
-  rows-at = rw (is, add-sub-cancel-left at (rowLen (drop at s)), ← drop-drop (rowLen (drop at s)) at s, drop-cons s at 0 h) (rows-split (getD s at 0) (drop (suc at) s))
+  rows-at =
+      rw (is, add-sub-cancel-left at (rowLen (drop at s)), ← drop-drop (rowLen (drop at s)) at s, drop-cons s at 0 h)
+      (rows-split (getD s at 0) (drop (suc at) s))
 
 pub rows-out : (s : Str) (at : ℕ) → length s ≤ at → rows (drop at s) ≡ []
 unfolding rows
@@ -165,7 +167,9 @@ unfolding newlines
 newlines-append [] t = sym (zero-add (newlines t))
 newlines-append (x ∷ s) t = go (newlines-append s t) (eqb x 10) refl
   where
-    go : newlines (s ++ t) ≡ newlines s + newlines t → (v : Bool) → eqb x 10 ≡ v → newlines (x ∷ (s ++ t)) ≡ newlines (x ∷ s) + newlines t
+    go :
+        newlines (s ++ t) ≡ newlines s + newlines t → (v : Bool) → eqb x 10 ≡ v
+        → newlines (x ∷ (s ++ t)) ≡ newlines (x ∷ s) + newlines t
     go h true e = rw (newlines, e) (ap suc h ∙ sym (suc-add (newlines s) (newlines t)))
     go h false e = rw (newlines, e) h
 
@@ -175,7 +179,9 @@ newline-here s i h e = rw (add-one, take-suc s i 0 h, newlines-append (take i s)
 
 pub newline-not : (s : Str) (i : ℕ) → i < length s → (getD s i 0 ≡ 10 → ⊥) → newlines (take (i + 1) s) ≡ newlines (take i s)
 unfolding newlines
-newline-not s i h e = rw (add-one, take-suc s i 0 h, newlines-append (take i s) (unit (getD s i 0)), newlines, ne-eqb (getD s i 0) 10 e) (omega arith)
+newline-not s i h e =
+    rw (add-one, take-suc s i 0 h, newlines-append (take i s) (unit (getD s i 0)), newlines, ne-eqb (getD s i 0) 10 e)
+    (omega arith)
 
 drop-take : (m n : ℕ) (l : Str) → drop m (take n l) ≡ take (n - m) (drop m l)
 drop-take zero n l = rw (sub-zero n)
@@ -220,7 +226,9 @@ module _ (s : Str) (at e : ℕ) (lo : at < e) (hi : e ≤ length s) where
 
 -- what the row at a position says, by its last byte, and its text
 module _ (s : Str) (at e : ℕ) (h : at < length s) (is : e ≡ at + rowLen (drop at s)) where
-  pub said : lineAt (rows (drop at s)) ≡ cond (eqb (getD s (e - 1) 0) 10) (reader (getD s at 0)) badLine (take (e - 1 - at) (drop at s))
+  pub said :
+      lineAt (rows (drop at s))
+      ≡ cond (eqb (getD s (e - 1) 0) 10) (reader (getD s at 0)) badLine (take (e - 1 - at) (drop at s))
   unfolding lineAt
   said = rw (rows-at s at e h is) (line-row s at e (row-starts s at e h is) (row-ends s at e h is))
 

@@ -19,7 +19,8 @@ use Rattle.column.specs.declared.Number.the-variants.{Is, Not}
 use Rattle.column.proofs.Laws.{name-all, graphic-all}
 use Rattle.column.proofs.PaddedLaws.{padded-length, column-printed, ends-printed}
 use Rattle.row.specs.Rows.{newlines, rows}
-use Rattle.row.specs.Line.{rootLine, nodeLine, parameterLine, fieldLine, groupLine, typeLine, scopeLine, unboundLine, valueLine, wordLine}
+use Rattle.row.specs.Line.{rootLine, nodeLine, parameterLine, fieldLine, groupLine}
+use Rattle.row.specs.Line.{typeLine, scopeLine, unboundLine, valueLine, wordLine}
 use Rattle.row.specs.Line.{mostA, mostB, mostC, mostCount, mostBits, widths, reader, lineOf, textStart, textOf}
 use Rattle.row.specs.Print.{columns, rowText, spaced, printLine, Fits}
 use Rattle.row.specs.declared.Line.{Line}
@@ -64,7 +65,8 @@ drop-seam : (k : ℕ) (s t : Str) → length s ≡ k → drop k (s ++ t) ≡ t
 drop-seam k s t e = rw (← e) (drop-append-seam s t)
 
 -- what stands after k of the numbers
-drop-columns : (k : ℕ) (ns : List ℕ) (end : Str) → Narrow ns → k ≤ length ns → drop (k * 21) (columns ns end) ≡ columns (drop k ns) end
+drop-columns :
+    (k : ℕ) (ns : List ℕ) (end : Str) → Narrow ns → k ≤ length ns → drop (k * 21) (columns ns end) ≡ columns (drop k ns) end
 unfolding columns
 drop-columns zero ns end f l = refl
 drop-columns (suc k) [] end f l = let z : ⊥ = omega arith in absurd z
@@ -88,7 +90,8 @@ module _ (letter : ℕ) (ns : List ℕ) (end : Str) (fits : Narrow ns) where
   unfolding columns
   rest-read = drop-columns (length ns) ns end fits (omega arith) ∙ rw (drop-length ns)
 
-  ends-read : (ok : Str → Bool) (text : Str) → end ≡ 32 ∷ text → endsIn ok (letter ∷ columns ns end) (suc (length ns * 21)) ≡ ok text
+  ends-read :
+      (ok : Str → Bool) (text : Str) → end ≡ 32 ∷ text → endsIn ok (letter ∷ columns ns end) (suc (length ns * 21)) ≡ ok text
   ends-read ok text e = ends-printed ok _ text (suc (length ns * 21)) (rest-read ∙ e)
 
 columns-length : (ns : List ℕ) → Narrow ns → length (columns ns []) ≡ length ns * 21
@@ -158,11 +161,15 @@ root-read text f =
       f,
     )
 
-node-read : (i p s x g c o : ℕ) (text : Str) → Fits (Node i p s x g c o) text → lineOf (printLine (Node i p s x g c o) text) ≡ Node i p s x g c o
+node-read :
+    (i p s x g c o : ℕ) (text : Str) → Fits (Node i p s x g c o) text
+    → lineOf (printLine (Node i p s x g c o) text) ≡ Node i p s x g c o
 unfolding reader nodeLine
 node-read i p s x g c o text f =
     let ns = i ∷ p ∷ s ∷ x ∷ g ∷ c ∷ o ∷ [] in
-    let w : Narrow ns = (omega arith, (omega arith, (omega arith, (omega arith, (omega arith, (omega arith, (omega arith, tt))))))) in
+    let w : Narrow ns =
+    (omega arith, (omega arith, (omega arith, (omega arith, (omega arith, (omega arith, (omega arith, tt)))))))
+    in
     let read = column-read 78 ns (spaced text) w in
     row-read 78 ns (spaced text)
     ∙ rw (
@@ -307,7 +314,8 @@ text-after letter ns text w e =
     let t = letter ∷ columns ns (spaced text) in
     let m = suc (length ns * 21) in
     let d : drop (suc m) t ≡ text =
-    ap (λ (k : ℕ). drop k t) (sym (add-one m)) ∙ sym (drop-drop 1 m t) ∙ ap (λ (r : Str). drop 1 r) (rest-read letter ns (spaced text) w)
+    ap (λ (k : ℕ). drop k t) (sym (add-one m)) ∙ sym (drop-drop 1 m t)
+    ∙ ap (λ (r : Str). drop 1 r) (rest-read letter ns (spaced text) w)
     in
     rw (row-is letter ns (spaced text)) (text-read t ∙ rw (e, ne-eqb (suc m) 0 (omega arith), d))
 

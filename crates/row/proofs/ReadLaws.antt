@@ -15,7 +15,8 @@ use Rattle.column.specs.Texts.{endsIn, isName, isGraphicText}
 use Rattle.column.specs.declared.Number.{Number}
 use Rattle.column.specs.declared.Number.the-variants.{Is, Not}
 use Rattle.column.proofs.PaddedLaws.{Stands, column-stands, Ends, ends-stands}
-use Rattle.row.specs.Line.{rootLine, nodeLine, parameterLine, fieldLine, groupLine, typeLine, scopeLine, unboundLine, valueLine, wordLine}
+use Rattle.row.specs.Line.{rootLine, nodeLine, parameterLine, fieldLine, groupLine}
+use Rattle.row.specs.Line.{typeLine, scopeLine, unboundLine, valueLine, wordLine}
 use Rattle.row.specs.Line.{given, mostA, mostB, mostC, mostCount, mostBits, reader, badLine, lineOf, textStart, textOf}
 use Rattle.row.specs.Print.{columns, rowText, printLine, Fits}
 use Rattle.row.specs.declared.Line.{Line}
@@ -54,7 +55,8 @@ record Rest (t : Str) (a : ℕ) (ns : List ℕ) (end : Str) : Type 0 where
 
 infixr 50 _then_
 _then_ :
-    {t : Str} {a least most n : ℕ} {ns : List ℕ} {end : Str} → Stands t a least most n → Rest t (a + 21) ns end → Rest t a (n ∷ ns) end
+    {t : Str} {a least most n : ℕ} {ns : List ℕ} {end : Str} → Stands t a least most n → Rest t (a + 21) ns end
+    → Rest t a (n ∷ ns) end
 unfolding columns
 _then_ {n = n} c e = record { is = c .here ∙ ap (λ (s : Str). padded n ++ s) (e .is) }
 
@@ -68,7 +70,8 @@ no-end {t} {a} e = let l : length t ≤ a = omega arith in record { is = drop-of
 
 -- a row of a letter, its numbers and its end, with its text
 printed-as :
-    (letter : ℕ) (u : Str) (ns : List ℕ) (end text : Str) (l : Line) → Rest (letter ∷ u) 1 ns end → textOf ((letter ∷ u) ++ unit 10) ≡ text
+    (letter : ℕ) (u : Str) (ns : List ℕ) (end text : Str) (l : Line) → Rest (letter ∷ u) 1 ns end
+    → textOf ((letter ∷ u) ++ unit 10) ≡ text
     → Fits l text → rowText letter ns end ≡ printLine l text → Printed ((letter ∷ u) ++ unit 10) l
 printed-as letter u ns end text l c e f g = record {
   fits = rw e f;
@@ -82,7 +85,9 @@ root-told u =
     let r = t ++ unit 10 in
     on-test r _ _ λ z _.
     let q = ends-stands (isGraphicText 64) t 1 z in
-    printed-as 82 u [] (32 ∷ drop 2 t) (drop 2 t) Root (text-end q) (text-read t) (q .good) refl
+    printed-as 82 u [] (32 ∷ drop 2 t) (drop 2 t) Root
+    (text-end q) (text-read t)
+    (q .good) refl
 
 node-told : (u : Str) → Told ((78 ∷ u) ++ unit 10) (nodeLine (78 ∷ u))
 unfolding nodeLine textStart
@@ -98,7 +103,9 @@ node-told u =
     on-column r t _ _ _ _ λ o c₆.
     on-test r _ _ λ z _.
     let q = ends-stands (isGraphicText 128) t 148 z in
-    printed-as 78 u (i ∷ p ∷ s ∷ x ∷ g ∷ c ∷ o ∷ []) (32 ∷ drop 149 t) (drop 149 t) (Node i p s x g c o) (c₀ then c₁ then c₂ then c₃ then c₄ then c₅ then c₆ then text-end q) (text-read t) ((c₀ .low, c₀ .high), c₁ .high, c₂ .high, c₃ .high, c₄ .high, c₅ .high, c₆ .high, q .good) refl
+    printed-as 78 u (i ∷ p ∷ s ∷ x ∷ g ∷ c ∷ o ∷ []) (32 ∷ drop 149 t) (drop 149 t) (Node i p s x g c o)
+    (c₀ then c₁ then c₂ then c₃ then c₄ then c₅ then c₆ then text-end q) (text-read t)
+    ((c₀ .low, c₀ .high), c₁ .high, c₂ .high, c₃ .high, c₄ .high, c₅ .high, c₆ .high, q .good) refl
 
 parameter-told : (u : Str) → Told ((80 ∷ u) ++ unit 10) (parameterLine (80 ∷ u))
 unfolding parameterLine textStart
@@ -107,7 +114,9 @@ parameter-told u =
     let r = t ++ unit 10 in
     on-test r _ _ λ z _.
     let q = ends-stands isName t 1 z in
-    printed-as 80 u [] (32 ∷ drop 2 t) (drop 2 t) Parameter (text-end q) (text-read t) (q .good) refl
+    printed-as 80 u [] (32 ∷ drop 2 t) (drop 2 t) Parameter
+    (text-end q) (text-read t)
+    (q .good) refl
 
 field-told : (u : Str) → Told ((70 ∷ u) ++ unit 10) (fieldLine (70 ∷ u))
 unfolding fieldLine textStart
@@ -120,7 +129,9 @@ field-told u =
     on-column r t _ _ _ _ λ p c₃.
     on-test r _ _ λ z _.
     let q = ends-stands isName t 85 z in
-    printed-as 70 u (o ∷ d ∷ e ∷ p ∷ []) (32 ∷ drop 86 t) (drop 86 t) (Field o d e p) (c₀ then c₁ then c₂ then c₃ then text-end q) (text-read t) (c₀ .high, c₁ .high, c₂ .high, c₃ .high, q .good) refl
+    printed-as 70 u (o ∷ d ∷ e ∷ p ∷ []) (32 ∷ drop 86 t) (drop 86 t) (Field o d e p)
+    (c₀ then c₁ then c₂ then c₃ then text-end q) (text-read t)
+    (c₀ .high, c₁ .high, c₂ .high, c₃ .high, q .good) refl
 
 group-told : (u : Str) → Told ((71 ∷ u) ++ unit 10) (groupLine (71 ∷ u))
 unfolding groupLine textStart
@@ -131,7 +142,9 @@ group-told u =
     on-column r t _ _ _ _ λ d c₁.
     on-test r _ _ λ z _.
     let q = ends-stands isName t 43 z in
-    printed-as 71 u (i ∷ d ∷ []) (32 ∷ drop 44 t) (drop 44 t) (Group i d) (c₀ then c₁ then text-end q) (text-read t) ((c₀ .low, c₀ .high), c₁ .high, q .good) refl
+    printed-as 71 u (i ∷ d ∷ []) (32 ∷ drop 44 t) (drop 44 t) (Group i d)
+    (c₀ then c₁ then text-end q) (text-read t)
+    ((c₀ .low, c₀ .high), c₁ .high, q .good) refl
 
 type-told : (u : Str) → Told ((84 ∷ u) ++ unit 10) (typeLine (84 ∷ u))
 unfolding typeLine textStart
@@ -143,7 +156,9 @@ type-told u =
     on-column r t _ _ _ _ λ b c₂.
     on-column r t _ _ _ _ λ c c₃.
     on-test r _ _ λ z _.
-    printed-as 84 u (k ∷ a ∷ b ∷ c ∷ []) [] [] (Typ k a b c) (c₀ then c₁ then c₂ then c₃ then no-end (eqb-true _ 85 z)) (text-read t) (c₀ .high, c₁ .high, c₂ .high, c₃ .high, refl) refl
+    printed-as 84 u (k ∷ a ∷ b ∷ c ∷ []) [] [] (Typ k a b c)
+    (c₀ then c₁ then c₂ then c₃ then no-end (eqb-true _ 85 z)) (text-read t)
+    (c₀ .high, c₁ .high, c₂ .high, c₃ .high, refl) refl
 
 scope-told : (u : Str) → Told ((83 ∷ u) ++ unit 10) (scopeLine (83 ∷ u))
 unfolding scopeLine textStart
@@ -154,7 +169,9 @@ scope-told u =
     on-column r t _ _ _ _ λ b c₁.
     on-column r t _ _ _ _ λ n c₂.
     on-test r _ _ λ z _.
-    printed-as 83 u (i ∷ b ∷ n ∷ []) [] [] (Scope i b n) (c₀ then c₁ then c₂ then no-end (eqb-true _ 64 z)) (text-read t) (c₀ .high, c₁ .high, c₂ .high, refl) refl
+    printed-as 83 u (i ∷ b ∷ n ∷ []) [] [] (Scope i b n)
+    (c₀ then c₁ then c₂ then no-end (eqb-true _ 64 z)) (text-read t)
+    (c₀ .high, c₁ .high, c₂ .high, refl) refl
 
 unbound-told : (u : Str) → Told ((85 ∷ u) ++ unit 10) (unboundLine (85 ∷ u))
 unfolding unboundLine textStart
@@ -162,7 +179,9 @@ unbound-told u =
     let t : Str = 85 ∷ u in
     let r = t ++ unit 10 in
     on-test r _ _ λ z _.
-    printed-as 85 u [] [] [] Unbound (no-end (eqb-true _ 1 z)) (text-read t) refl refl
+    printed-as 85 u [] [] [] Unbound
+    (no-end (eqb-true _ 1 z)) (text-read t)
+    refl refl
 
 value-told : (u : Str) → Told ((86 ∷ u) ++ unit 10) (valueLine (86 ∷ u))
 unfolding valueLine textStart
@@ -172,7 +191,9 @@ value-told u =
     on-column r t _ _ _ _ λ k c₀.
     on-column r t _ _ _ _ λ b c₁.
     on-test r _ _ λ z _.
-    printed-as 86 u (k ∷ b ∷ []) [] [] (Value k b) (c₀ then c₁ then no-end (eqb-true _ 43 z)) (text-read t) (c₀ .high, c₁ .high, refl) refl
+    printed-as 86 u (k ∷ b ∷ []) [] [] (Value k b)
+    (c₀ then c₁ then no-end (eqb-true _ 43 z)) (text-read t)
+    (c₀ .high, c₁ .high, refl) refl
 
 word-told : (u : Str) → Told ((87 ∷ u) ++ unit 10) (wordLine (87 ∷ u))
 unfolding wordLine textStart
@@ -181,11 +202,14 @@ word-told u =
     let r = t ++ unit 10 in
     on-column r t _ _ _ _ λ v c₀.
     on-test r _ _ λ z _.
-    printed-as 87 u (v ∷ []) [] [] (Word v) (c₀ then no-end (eqb-true _ 22 z)) (text-read t) (c₀ .high, refl) refl
+    printed-as 87 u (v ∷ []) [] [] (Word v)
+    (c₀ then no-end (eqb-true _ 22 z)) (text-read t)
+    (c₀ .high, refl) refl
 
 -- the reader of a letter: that letter's, or another's
 by-letter :
-    (b x : ℕ) (u : Str) (f g : Str → Line) → ((v : Str) → Told ((x ∷ v) ++ unit 10) (f (x ∷ v))) → Told ((b ∷ u) ++ unit 10) (g (b ∷ u))
+    (b x : ℕ) (u : Str) (f g : Str → Line) → ((v : Str) → Told ((x ∷ v) ++ unit 10) (f (x ∷ v)))
+    → Told ((b ∷ u) ++ unit 10) (g (b ∷ u))
     → Told ((b ∷ u) ++ unit 10) (cond (eqb b x) f g (b ∷ u))
 by-letter b x u f g h k = go (eqb b x) refl
   where

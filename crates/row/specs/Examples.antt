@@ -9,7 +9,8 @@ use Rattle.text.specs.Decimal.{decimal}
 use Rattle.column.specs.Number.{trimmed, digits, unpadded, columnOf, padded}
 use Rattle.column.specs.Texts.{isWord, isGraphic, all, isName, isGraphicText, endsIn}
 use Rattle.row.specs.Rows.{rows, onto, newlines, size, lineNo}
-use Rattle.row.specs.Line.{rootLine, nodeLine, parameterLine, fieldLine, groupLine, typeLine, scopeLine, unboundLine, valueLine, wordLine}
+use Rattle.row.specs.Line.{rootLine, nodeLine, parameterLine, fieldLine, groupLine}
+use Rattle.row.specs.Line.{typeLine, scopeLine, unboundLine, valueLine, wordLine}
 use Rattle.row.specs.Line.{mostA, mostB, mostC, mostCount, mostBits, reader, lineOf, textStart, textOf}
 use Rattle.row.specs.Print.{columns, rowText, printLine}
 use Rattle.row.specs.declared.Line.{Line}
@@ -36,6 +37,10 @@ infix 70 _says_
 -- 60 letters
 sixty : Str
 sixty = ascii "abcdefghijklmnopqrstuvwxyzabcdefghijklmnopqrstuvwxyzabcdefgh"
+
+-- an N line up to its module
+node : Str
+node = ascii "N" ++ justified ("7" ∷ "0" ∷ "0" ∷ "0" ∷ "1" ∷ "0" ∷ "0" ∷ []) ++ unit 32
 
 numbers : List Case
 numbers =
@@ -106,10 +111,8 @@ texts =
     ∷ (ascii "P " ++ sixty ++ ascii "abcde" ++ unit 10) says Bad
     ∷ (ascii "R " ++ sixty ++ ascii "abcd" ++ unit 10) says Root
     ∷ (ascii "R " ++ sixty ++ ascii "abcde" ++ unit 10) says Bad
-    ∷ (ascii "N" ++ justified ("7" ∷ "0" ∷ "0" ∷ "0" ∷ "1" ∷ "0" ∷ "0" ∷ []) ++ unit 32 ++ sixty ++ sixty ++ ascii "abcdefgh" ++ unit 10)
-    says Node 7 0 0 0 1 0 0
-    ∷ (ascii "N" ++ justified ("7" ∷ "0" ∷ "0" ∷ "0" ∷ "1" ∷ "0" ∷ "0" ∷ []) ++ unit 32 ++ sixty ++ sixty ++ ascii "abcdefghi" ++ unit 10)
-    says Bad
+    ∷ (node ++ sixty ++ sixty ++ ascii "abcdefgh" ++ unit 10) says Node 7 0 0 0 1 0 0
+    ∷ (node ++ sixty ++ sixty ++ ascii "abcdefghi" ++ unit 10) says Bad
     ∷ (ascii "R r" ++ unit 126 ++ unit 10) says Root
     ∷ (ascii "R r" ++ unit 127 ++ unit 10) says Bad
     ∷ ascii "U" says Bad
@@ -126,9 +129,9 @@ expected : List Case → List Line
 expected cs = map (λ c. c .says) cs
 
 all-cases : readAll (numbers ++ kinds ++ texts) ≡ expected (numbers ++ kinds ++ texts)
-unfolding justified row _says_ sixty numbers kinds texts readAll expected trimmed digits unpadded columnOf isWord isGraphic all
-    isName isGraphicText endsIn rootLine nodeLine parameterLine fieldLine groupLine typeLine scopeLine unboundLine valueLine wordLine
-    mostA mostB mostC mostCount mostBits reader lineOf
+unfolding justified row _says_ sixty node numbers kinds texts readAll expected trimmed digits unpadded columnOf
+    isWord isGraphic all isName isGraphicText endsIn rootLine nodeLine parameterLine fieldLine groupLine typeLine scopeLine
+    unboundLine valueLine wordLine mostA mostB mostC mostCount mostBits reader lineOf
 all-cases = refl
 
 -- document 01's example: the rows of the sheet, what each says, its text; and the same printed

@@ -4,8 +4,9 @@ ghost use mathlib.Core.Path.{_≡_};
 ghost use Prim.Native.Nat.{_+_};
 ghost use lib.ListN.{drop};
 ghost use Rattle.row.specs.Rows.{rowLen, rows, restOf, lineNo};
-ghost use Rattle.row.specs.Line.{mostA, mostB, mostC, mostCount, mostBits, rootLine, nodeLine, parameterLine, fieldLine, groupLine};
-ghost use Rattle.row.specs.Line.{typeLine, scopeLine, unboundLine, valueLine, wordLine, reader, lineAt, textStart, textAt};
+ghost use Rattle.row.specs.Line.{rootLine, nodeLine, parameterLine, fieldLine, groupLine};
+ghost use Rattle.row.specs.Line.{typeLine, scopeLine, unboundLine, valueLine, wordLine};
+ghost use Rattle.row.specs.Line.{mostA, mostB, mostC, mostCount, mostBits, reader, lineAt, textStart, textAt};
 
 // The greatest numbers of 64, 32 and 16 bits.
 const MOST_64: u64 = 0xffff_ffff_ffff_ffff;
@@ -14,8 +15,8 @@ const MOST_32: u64 = 0xffff_ffff;
 
 const MOST_16: u64 = 0xffff;
 
-// The greatest bits of a value of each kind: Void, Bool, Int8 to Int64, Uint8 to Uint64, Float32, Float64, Text, Data, List, Enum,
-// Struct, Interface, AnyPointer.
+// The greatest bits of a value of each kind: Void, Bool, Int8 to Int64, Uint8 to Uint64, Float32, Float64, Text, Data, List,
+// Enum, Struct, Interface, AnyPointer.
 const MOST_BITS: [u64; 19] = [
     0,
     1,
@@ -387,7 +388,8 @@ fn read(letter: u8, t: &[u8]) -> Line
 }
 
 pub fn next(s: &[u8], at: usize) -> Got
-    ensures { λ r. ⌜ (r .line ≡ lineAt (rows (drop at (now (s .entry))))) × (rows (drop (r .next) (now (s .entry))) ≡ restOf (rows (drop at (now (s .entry))))) ⌝ }
+    ensures { λ r. ⌜ r .line ≡ lineAt (rows (drop at (now (s .entry)))) ⌝ }
+    ensures { λ r. ⌜ rows (drop (r .next) (now (s .entry))) ≡ restOf (rows (drop at (now (s .entry)))) ⌝ }
 {
     if s.len() <= at {
         return Got {
