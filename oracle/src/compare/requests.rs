@@ -11,6 +11,9 @@ use crate::sheet::print::print;
 use crate::sheet::read::{read, Refusal};
 use crate::sheet::Sheet;
 
+/// How many fields of a node are asked in a hostile sheet, each of which is as long as a sheet can be.
+const FEW: usize = 6;
+
 /// Types' texts at every leaf, and at one that there is not.
 pub fn types(times: u64) -> Report {
     let requests: Vec<Request> = (0..=10).map(|leaf| Request::Type { leaf }).collect();
@@ -22,17 +25,19 @@ pub fn accessors(times: u64) -> Report {
     compare("getters, setters, hasers, zeroing", 42, 2_200 * times, &Request::PARTS)
 }
 
-/// Every request on every field of the corners, of the hostile sheets and of `count` random ones.
+/// Every request on every field of the corners and of `count` random sheets, and on some of the hostile ones.
 fn compare(name: &'static str, seed: u64, count: u64, requests: &[Request]) -> Report {
     let mut report = Report::new(name);
     let random = &mut Random::new(seed);
-    for corner in corners::all().into_iter().chain(hostile::all()) {
-        let bytes = print(&corner.sheet);
-        every_field(&mut report, random, &corner.sheet, &bytes, requests);
+    for corner in corners::all() {
+        fields(&mut report, random, &corner.sheet, &print(&corner.sheet), requests, usize::MAX);
+    }
+    for corner in hostile::all() {
+        fields(&mut report, random, &corner.sheet, &print(&corner.sheet), requests, FEW);
     }
     for turn in 0..count {
         let (sheet, bytes) = generate::sheet(random, turn);
-        every_field(&mut report, random, &sheet, &bytes, requests);
+        fields(&mut report, random, &sheet, &bytes, requests, usize::MAX);
         nowhere(&mut report, random, &sheet, &bytes, requests);
         let damaged = damage::damaged(random, &bytes);
         let (node, place, request) = (sheet.nodes[0].id, random.below(3), *random.pick(requests));
@@ -49,12 +54,14 @@ struct Asked<'a> {
     request: Request,
 }
 
-fn every_field(report: &mut Report, random: &mut Random, sheet: &Sheet, bytes: &[u8], requests: &[Request]) {
+/// Every request on the fields of each node, on `most` of them where there are more.
+fn fields(report: &mut Report, random: &mut Random, sheet: &Sheet, bytes: &[u8], requests: &[Request], most: usize) {
     let ctx = context(sheet);
     for node in &sheet.nodes {
-        for place in 0..node.fields.len() as u64 {
+        let count = node.fields.len();
+        for place in (0..count).step_by(count.div_ceil(most).max(1)) {
             for &request in requests {
-                let asked = Asked { bytes, node: node.id, place, request };
+                let asked = Asked { bytes, node: node.id, place: place as u64, request };
                 at_places(report, random, &asked, told(sheet, &ctx, &asked));
             }
         }
