@@ -3,3 +3,4 @@ pub mod Reader
 pub mod Read
 pub mod Print
 pub mod WellFormed
+pub mod Examples
