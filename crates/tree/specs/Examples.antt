@@ -7,7 +7,7 @@ use lib.ListN.{length, take, drop, replicate}
 use Rattle.text.specs.Bytes.{Str, ascii, unit}
 use Rattle.text.specs.Decimal.{decimal}
 use Rattle.column.specs.Number.{trimmed, digits, unpadded, columnOf, padded}
-use Rattle.column.specs.Texts.{isWord, isGraphic, all, isName, isGraphicText}
+use Rattle.column.specs.Texts.{isWord, isGraphic, all, isName, isGraphicText, endsIn}
 use Rattle.row.specs.Rows.{rows, onto, restOf, newlines, size, lineNo}
 use Rattle.row.specs.Line.{rootLine, nodeLine, parameterLine, fieldLine, groupLine}
 use Rattle.row.specs.Line.{typeLine, scopeLine, unboundLine, valueLine, wordLine}
@@ -213,12 +213,12 @@ unfolding answers expected table rich down groups worded bed7 lists typed freeTr
     admitted sheetOf nodesOf nodeOf membersOf paramsOf groupIds fieldsUpTo among slotOf wordsOf wordsUpTo valueOf
     typeOf typeFrom scopeOf bindingOf times lineNo size newlines restOf onto rows textAt textOf textStart lineAt lineOf reader
     rootLine nodeLine parameterLine fieldLine groupLine typeLine scopeLine unboundLine valueLine wordLine
-    mostA mostB mostC mostCount mostBits columnOf unpadded digits trimmed isGraphicText isName all isGraphic isWord
+    mostA mostB mostC mostCount mostBits columnOf unpadded digits trimmed isGraphicText isName all isGraphic isWord endsIn
 worked = refl
 
 -- the two trees with most in them are well-formed
 fit : (wellFormed freeTree ≡ true) × (wellFormed rich ≡ true)
-unfolding wellFormed every distinct typeFits nodeIds allGroupIds groupIds among mostBits isGraphicText isName all isGraphic isWord
+unfolding wellFormed every distinct typeFits nodeIds allGroupIds groupIds among mostBits isGraphicText isName all isGraphic isWord endsIn
     freeTree rich groups field tree node
     joined printed sheetRows nodeRows paramRows fieldRows wordRows typeRows bindCount scopeCount rowText columns padded decimal
 fit = (refl, refl)

@@ -4,3 +4,4 @@ pub mod Read
 pub mod Print
 pub mod WellFormed
 pub mod Examples
+pub mod Walked
