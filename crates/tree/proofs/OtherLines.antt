@@ -10,7 +10,8 @@ use Rattle.row.specs.Line.{asRoot, asNode, asParameter, asField, asGroup, asTyp
 use Rattle.row.specs.declared.Line.{Line}
 use Rattle.row.specs.declared.Line.the-variants.{Root, Node, Parameter, Field, Group, Typ, Scope, Unbound, Value, Word, Bad}
 
-pub not-root : {A : Type 0} (l : Line) (y : A) (z : A) → OneOf (1 ∷ 2 ∷ 3 ∷ 4 ∷ 5 ∷ 6 ∷ 7 ∷ 8 ∷ 9 ∷ 10 ∷ []) (tagOf the-type l) → asRoot l y z ≡ z
+pub not-root : {A : Type 0} (l : Line) (y : A) (z : A) → OneOf (1 ∷ 2 ∷ 3 ∷ 4 ∷ 5 ∷ 6 ∷ 7 ∷ 8 ∷ 9 ∷ 10 ∷ [])
+    (tagOf the-type l) → asRoot l y z ≡ z
 not-root Root y z h = absurd (miss (1 ∷ 2 ∷ 3 ∷ 4 ∷ 5 ∷ 6 ∷ 7 ∷ 8 ∷ 9 ∷ 10 ∷ []) 0 tt h)
 not-root (Node a b c d e f g) y z h = refl
 not-root Parameter y z h = refl
@@ -23,7 +24,8 @@ not-root (Value a b) y z h = refl
 not-root (Word a) y z h = refl
 not-root Bad y z h = refl
 
-pub not-node : {A : Type 0} (l : Line) (y : (ℕ → ℕ → ℕ → ℕ → ℕ → ℕ → ℕ → A)) (z : A) → OneOf (0 ∷ 2 ∷ 3 ∷ 4 ∷ 5 ∷ 6 ∷ 7 ∷ 8 ∷ 9 ∷ 10 ∷ []) (tagOf the-type l) → asNode l y z ≡ z
+pub not-node : {A : Type 0} (l : Line) (y : (ℕ → ℕ → ℕ → ℕ → ℕ → ℕ → ℕ → A)) (z : A) → OneOf
+    (0 ∷ 2 ∷ 3 ∷ 4 ∷ 5 ∷ 6 ∷ 7 ∷ 8 ∷ 9 ∷ 10 ∷ []) (tagOf the-type l) → asNode l y z ≡ z
 not-node Root y z h = refl
 not-node (Node a b c d e f g) y z h = absurd (miss (0 ∷ 2 ∷ 3 ∷ 4 ∷ 5 ∷ 6 ∷ 7 ∷ 8 ∷ 9 ∷ 10 ∷ []) 1 tt h)
 not-node Parameter y z h = refl
@@ -36,7 +38,8 @@ not-node (Value a b) y z h = refl
 not-node (Word a) y z h = refl
 not-node Bad y z h = refl
 
-pub not-parameter : {A : Type 0} (l : Line) (y : A) (z : A) → OneOf (0 ∷ 1 ∷ 3 ∷ 4 ∷ 5 ∷ 6 ∷ 7 ∷ 8 ∷ 9 ∷ 10 ∷ []) (tagOf the-type l) → asParameter l y z ≡ z
+pub not-parameter : {A : Type 0} (l : Line) (y : A) (z : A) → OneOf (0 ∷ 1 ∷ 3 ∷ 4 ∷ 5 ∷ 6 ∷ 7 ∷ 8 ∷ 9 ∷ 10 ∷ [])
+    (tagOf the-type l) → asParameter l y z ≡ z
 not-parameter Root y z h = refl
 not-parameter (Node a b c d e f g) y z h = refl
 not-parameter Parameter y z h = absurd (miss (0 ∷ 1 ∷ 3 ∷ 4 ∷ 5 ∷ 6 ∷ 7 ∷ 8 ∷ 9 ∷ 10 ∷ []) 2 tt h)
@@ -49,7 +52,8 @@ not-parameter (Value a b) y z h = refl
 not-parameter (Word a) y z h = refl
 not-parameter Bad y z h = refl
 
-pub not-field : {A : Type 0} (l : Line) (y : (ℕ → ℕ → ℕ → ℕ → A)) (z : A) → OneOf (0 ∷ 1 ∷ 2 ∷ 4 ∷ 5 ∷ 6 ∷ 7 ∷ 8 ∷ 9 ∷ 10 ∷ []) (tagOf the-type l) → asField l y z ≡ z
+pub not-field : {A : Type 0} (l : Line) (y : (ℕ → ℕ → ℕ → ℕ → A)) (z : A) → OneOf
+    (0 ∷ 1 ∷ 2 ∷ 4 ∷ 5 ∷ 6 ∷ 7 ∷ 8 ∷ 9 ∷ 10 ∷ []) (tagOf the-type l) → asField l y z ≡ z
 not-field Root y z h = refl
 not-field (Node a b c d e f g) y z h = refl
 not-field Parameter y z h = refl
@@ -62,7 +66,8 @@ not-field (Value a b) y z h = refl
 not-field (Word a) y z h = refl
 not-field Bad y z h = refl
 
-pub not-group : {A : Type 0} (l : Line) (y : (ℕ → ℕ → A)) (z : A) → OneOf (0 ∷ 1 ∷ 2 ∷ 3 ∷ 5 ∷ 6 ∷ 7 ∷ 8 ∷ 9 ∷ 10 ∷ []) (tagOf the-type l) → asGroup l y z ≡ z
+pub not-group : {A : Type 0} (l : Line) (y : (ℕ → ℕ → A)) (z : A) → OneOf (0 ∷ 1 ∷ 2 ∷ 3 ∷ 5 ∷ 6 ∷ 7 ∷ 8 ∷ 9 ∷ 10 ∷ [])
+    (tagOf the-type l) → asGroup l y z ≡ z
 not-group Root y z h = refl
 not-group (Node a b c d e f g) y z h = refl
 not-group Parameter y z h = refl
@@ -75,7 +80,8 @@ not-group (Value a b) y z h = refl
 not-group (Word a) y z h = refl
 not-group Bad y z h = refl
 
-pub not-type : {A : Type 0} (l : Line) (y : (ℕ → ℕ → ℕ → ℕ → A)) (z : A) → OneOf (0 ∷ 1 ∷ 2 ∷ 3 ∷ 4 ∷ 6 ∷ 7 ∷ 8 ∷ 9 ∷ 10 ∷ []) (tagOf the-type l) → asType l y z ≡ z
+pub not-type : {A : Type 0} (l : Line) (y : (ℕ → ℕ → ℕ → ℕ → A)) (z : A) → OneOf (0 ∷ 1 ∷ 2 ∷ 3 ∷ 4 ∷ 6 ∷ 7 ∷ 8 ∷ 9 ∷ 10 ∷ [])
+    (tagOf the-type l) → asType l y z ≡ z
 not-type Root y z h = refl
 not-type (Node a b c d e f g) y z h = refl
 not-type Parameter y z h = refl
@@ -88,7 +94,8 @@ not-type (Value a b) y z h = refl
 not-type (Word a) y z h = refl
 not-type Bad y z h = refl
 
-pub not-scope : {A : Type 0} (l : Line) (y : (ℕ → ℕ → ℕ → A)) (z : A) → OneOf (0 ∷ 1 ∷ 2 ∷ 3 ∷ 4 ∷ 5 ∷ 7 ∷ 8 ∷ 9 ∷ 10 ∷ []) (tagOf the-type l) → asScope l y z ≡ z
+pub not-scope : {A : Type 0} (l : Line) (y : (ℕ → ℕ → ℕ → A)) (z : A) → OneOf (0 ∷ 1 ∷ 2 ∷ 3 ∷ 4 ∷ 5 ∷ 7 ∷ 8 ∷ 9 ∷ 10 ∷ [])
+    (tagOf the-type l) → asScope l y z ≡ z
 not-scope Root y z h = refl
 not-scope (Node a b c d e f g) y z h = refl
 not-scope Parameter y z h = refl
@@ -101,7 +108,8 @@ not-scope (Value a b) y z h = refl
 not-scope (Word a) y z h = refl
 not-scope Bad y z h = refl
 
-pub not-unbound : {A : Type 0} (l : Line) (y : A) (z : A) → OneOf (0 ∷ 1 ∷ 2 ∷ 3 ∷ 4 ∷ 5 ∷ 6 ∷ 8 ∷ 9 ∷ 10 ∷ []) (tagOf the-type l) → asUnbound l y z ≡ z
+pub not-unbound : {A : Type 0} (l : Line) (y : A) (z : A) → OneOf (0 ∷ 1 ∷ 2 ∷ 3 ∷ 4 ∷ 5 ∷ 6 ∷ 8 ∷ 9 ∷ 10 ∷ [])
+    (tagOf the-type l) → asUnbound l y z ≡ z
 not-unbound Root y z h = refl
 not-unbound (Node a b c d e f g) y z h = refl
 not-unbound Parameter y z h = refl
@@ -114,7 +122,8 @@ not-unbound (Value a b) y z h = refl
 not-unbound (Word a) y z h = refl
 not-unbound Bad y z h = refl
 
-pub not-value : {A : Type 0} (l : Line) (y : (ℕ → ℕ → A)) (z : A) → OneOf (0 ∷ 1 ∷ 2 ∷ 3 ∷ 4 ∷ 5 ∷ 6 ∷ 7 ∷ 9 ∷ 10 ∷ []) (tagOf the-type l) → asValue l y z ≡ z
+pub not-value : {A : Type 0} (l : Line) (y : (ℕ → ℕ → A)) (z : A) → OneOf (0 ∷ 1 ∷ 2 ∷ 3 ∷ 4 ∷ 5 ∷ 6 ∷ 7 ∷ 9 ∷ 10 ∷ [])
+    (tagOf the-type l) → asValue l y z ≡ z
 not-value Root y z h = refl
 not-value (Node a b c d e f g) y z h = refl
 not-value Parameter y z h = refl
@@ -127,7 +136,8 @@ not-value (Value a b) y z h = absurd (miss (0 ∷ 1 ∷ 2 ∷ 3 ∷ 4 ∷ 5 ∷ 
 not-value (Word a) y z h = refl
 not-value Bad y z h = refl
 
-pub not-word : {A : Type 0} (l : Line) (y : (ℕ → A)) (z : A) → OneOf (0 ∷ 1 ∷ 2 ∷ 3 ∷ 4 ∷ 5 ∷ 6 ∷ 7 ∷ 8 ∷ 10 ∷ []) (tagOf the-type l) → asWord l y z ≡ z
+pub not-word : {A : Type 0} (l : Line) (y : (ℕ → A)) (z : A) → OneOf (0 ∷ 1 ∷ 2 ∷ 3 ∷ 4 ∷ 5 ∷ 6 ∷ 7 ∷ 8 ∷ 10 ∷ [])
+    (tagOf the-type l) → asWord l y z ≡ z
 not-word Root y z h = refl
 not-word (Node a b c d e f g) y z h = refl
 not-word Parameter y z h = refl
