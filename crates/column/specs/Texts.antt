@@ -14,9 +14,9 @@ between lo hi b = both (leb lo b) (leb b hi)
 abbrev pub isDigit : ℕ → Bool
 isDigit b = between 48 57 b
 
--- a digit, a letter A to Z, an underscore or a letter a to z
+-- a letter, a to z or A to Z, an underscore or a digit
 unfoldable pub isWord : ℕ → Bool
-isWord b = either (isDigit b) (either (between 65 90 b) (either (eqb b 95) (between 97 122 b)))
+isWord b = either (between 97 122 b) (either (between 65 90 b) (either (eqb b 95) (isDigit b)))
 
 -- bytes 33 to 126
 unfoldable pub isGraphic : ℕ → Bool
