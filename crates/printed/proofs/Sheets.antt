@@ -1,0 +1,154 @@
+-- The two laws: reading what is printed of a well-formed tree gives that tree, and printing the tree of an admitted sheet gives
+-- the same bytes. The rows of a sheet come back when their bytes are joined and cut again. Assumes nothing.
+use mathlib.Core.Path.{_≡_, refl, sym, ap, _∙_}
+use mathlib.Core.Bool.{Bool, true, false}
+use mathlib.Core.List.{List, [], _∷_, _++_}
+use Prim.Native.Nat.{ℕ, _+_, _≤_, _<_}
+use native.Mathlib.Omega.{arith}
+use borrow.Author.Tests.{ltb-true, ltb-false, lt-ltb, le-ltb, leb-true, le-leb}
+use lib.Dec.{ltb}
+use lib.ListN.{length, length-append}
+use Rattle.text.specs.Bytes.{Str}
+use Rattle.column.specs.Number.{most}
+use Rattle.column.specs.Texts.{isGraphicText}
+use Rattle.row.specs.Rows.{rows, restOf, size, joined as joinedRows}
+use Rattle.row.specs.Line.{textAt}
+use Rattle.row.specs.Print.{printRoot}
+use Rattle.row.proofs.Laws.{joined-rows}
+use Rattle.tree.specs.Tree.{Node, Sheet}
+use Rattle.tree.specs.Reader.{Rows, Reading, got, no, mapR}
+use Rattle.tree.specs.Read.{nodesOf, sheetOf, Admitted, sheet, refused, numbered, admitted}
+use Rattle.tree.specs.Print.{nodeRows, sheetRows, joined, printed}
+use Rattle.tree.specs.WellFormed.{every, distinct, nodeFits, nodeIds, allGroupIds, wellFormed}
+use Rattle.printed.specs.Claims.{ReadsPrinted, PrintsRead}
+use Rattle.printed.proofs.Reading.{line-here, text-here, Reads, reads-back, reads-line, reads-map}
+use Rattle.printed.proofs.Reading.{Tells, told, nothing, tells-map}
+use Rattle.printed.proofs.Lines.{tells-root}
+use Rattle.printed.proofs.Tests.{both-true, _and_}
+use Rattle.printed.proofs.Types.{Room, size-line}
+use Rattle.printed.proofs.Fresh.{fresh-distinct}
+use Rattle.printed.proofs.Nodes.{Nodes, read-nodes, NodesAt, tell-nodes}
+use Rattle.row.specs.declared.Line.the-variants as line
+
+-- the bytes of rows, counted and joined
+joined-size : (rs : Rows) → length (joined rs) ≡ size rs
+unfolding joined size
+joined-size [] = refl
+joined-size (r ∷ rs) = length-append r (joined rs) ∙ ap (λ (n : ℕ). length r + n) (joined-size rs)
+
+joined-same : (rs : Rows) → joined rs ≡ joinedRows rs
+unfolding joined joinedRows
+joined-same [] = refl
+joined-same (r ∷ rs) = ap (r ++_) (joined-same rs)
+
+-- what a well-formed tree keeps
+record Keeps (sh : Sheet) : Type 0 where
+  root : isGraphicText 64 (sh .root) ≡ true
+  some : 0 < length (sh .nodes)
+  few : length (sh .nodes) < 65
+  nodes : Nodes [] [] (sh .nodes)
+  room : length (printed sh) ≤ 65536
+
+keeps : (sh : Sheet) → wellFormed sh ≡ true → Keeps sh
+unfolding wellFormed
+keeps sh e =
+    let (root, e₁) = both-true _ _ e in
+    let (some, e₂) = both-true _ _ e₁ in
+    let (few, e₃) = both-true _ _ e₂ in
+    let (fit, e₄) = both-true _ _ e₃ in
+    let (ids, e₅) = both-true _ _ e₄ in
+    let (groups, e₆) = both-true _ _ e₅ in
+    let (size, e₇) = both-true _ true e₆ in
+    record {
+      root = root;
+      some = ltb-true 0 (length (sh .nodes)) some;
+      few = ltb-true (length (sh .nodes)) 65 few;
+      nodes = record {
+        fit = fit;
+        new = fresh-distinct (nodeIds (sh .nodes)) ∙ ids;
+        groups = fresh-distinct (allGroupIds (sh .nodes)) ∙ groups;
+      };
+      room = leb-true (length (printed sh)) 65536 size;
+    }
+
+kept : (sh : Sheet) → Keeps sh → wellFormed sh ≡ true
+unfolding wellFormed
+kept sh k =
+    k .root and lt-ltb 0 (length (sh .nodes)) (k .some) and lt-ltb (length (sh .nodes)) 65 (k .few) and k .nodes .fit
+    and (sym (fresh-distinct (nodeIds (sh .nodes))) ∙ k .nodes .new)
+    and (sym (fresh-distinct (allGroupIds (sh .nodes))) ∙ k .nodes .groups)
+    and le-leb (length (printed sh)) 65536 (k .room) and refl
+
+-- ---- what is printed is read
+
+read-sheet :
+    (root : Str) (ns : List Node) → isGraphicText 64 root ≡ true → 0 < length ns → length ns < 65 → Nodes [] [] ns
+    → Room (nodeRows ns)
+    → Reads (printRoot root ∷ nodeRows ns) (sheetOf (printRoot root ∷ nodeRows ns)) (record { root = root; nodes = ns }) []
+unfolding sheetOf restOf
+read-sheet root [] r some few f room = let z : ⊥ = omega arith in absurd z
+read-sheet root (n ∷ ns) r some few f room =
+    let us = nodeRows (n ∷ ns) in
+    reads-line line.Root root r (rw (line-here line.Root root us r, text-here line.Root root us r))
+    (reads-map (λ ns. record { root = root; nodes = ns }) (read-nodes ns n 64 [] [] (omega arith) f room))
+
+-- reading what is printed of a well-formed tree gives that tree
+pub reads-printed : ReadsPrinted
+unfolding admitted printed sheetRows
+reads-printed sh e =
+    let k = keeps sh e in
+    let us = nodeRows (sh .nodes) in
+    let n = joined-size (printRoot (sh .root) ∷ us) in
+    let b = size-line 82 [] (32 ∷ sh .root) us in
+    let r = read-sheet (sh .root) (sh .nodes) (k .root) (k .some) (k .few) (k .nodes) (omega (arith, n, b, k .room)) in
+    rw (admitted, le-ltb 65536 (length (printed sh)) (k .room), reads-back r, r .gives)
+
+-- ---- what is read is printed
+
+-- the rows rs are a sheet
+record SheetAt (rs : Rows) (sh : Sheet) (rest : Rows) : Type 0 where
+  is : rs ≡ sheetRows sh
+  root : isGraphicText 64 (sh .root) ≡ true
+  nodes : NodesAt 64 [] [] (restOf rs) (sh .nodes) rest
+
+tell-sheet : (rs : Rows) → Tells (SheetAt rs) (sheetOf rs)
+unfolding sheetOf sheetRows
+tell-sheet rs =
+    tells-root rs (no 2) nothing (λ root. mapR (λ ns. record { root = root; nodes = ns }) (nodesOf 64 [] [])) (λ w.
+    tells-map (λ ns. record { root = textAt rs; nodes = ns }) (tell-nodes 64 [] [] (restOf rs)) (λ ns rest q.
+    record { is = w .row ∙ ap (λ (us : Rows). printRoot (textAt rs) ∷ us) (q .is); root = w .fits; nodes = q }))
+
+-- the tree of the rows of a byte string that is not too long
+tree-printed :
+    (s : Str) (sh : Sheet) (rest : Rows) → length s ≤ 65536 → SheetAt (rows s) sh rest → (printed sh ≡ s) × (wellFormed sh ≡ true)
+unfolding printed
+tree-printed s sh rest l h =
+    let e : printed sh ≡ s = ap joined (sym (h .is)) ∙ joined-same (rows s) ∙ joined-rows s in
+    let few = h .nodes .few in (
+      e,
+      kept sh (record {
+        root = h .root;
+        some = h .nodes .some;
+        few = omega arith;
+        nodes = h .nodes .nodes;
+        room = rw e l;
+      }),
+    )
+
+-- printing the tree of an admitted sheet gives the same bytes, and that tree is well-formed
+pub prints-read : PrintsRead
+unfolding admitted
+prints-read s sh e = by-size (ltb 65536 (length s)) refl e
+  where
+    by-reading :
+        length s ≤ 65536 → (g : Reading Sheet) → Tells (SheetAt (rows s)) g → numbered s g ≡ sheet sh
+        → (printed sh ≡ s) × (wellFormed sh ≡ true)
+    by-reading l g (told {a = tree} {rest = rest} h) e = let z : tree ≡ sh = cc in tree-printed s sh rest l (rw z at h)
+    by-reading l g nothing e = let z : _≡_ {A = ℕ} 0 1 = cc in let y : ⊥ = omega arith in absurd y
+
+    by-size :
+        (b : Bool) → ltb 65536 (length s) ≡ b
+        → (elim b as (λ _. Admitted) [ true ↦ refused 1 0 | false ↦ numbered s (sheetOf (rows s)) ]) ≡ sheet sh
+        → (printed sh ≡ s) × (wellFormed sh ≡ true)
+    by-size true h e = let z : _≡_ {A = ℕ} 0 1 = cc in let y : ⊥ = omega arith in absurd y
+    by-size false h e = by-reading (ltb-false 65536 (length s) h) (sheetOf (rows s)) (tell-sheet (rows s)) e

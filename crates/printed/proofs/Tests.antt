@@ -1,0 +1,37 @@
+-- Tests that hold together, and a number's width as a test and as a bound. Assumes nothing.
+use mathlib.Core.Path.{_≡_, refl, sym}
+use mathlib.Core.Bool.{Bool, true, false}
+use Prim.Native.Nat.{ℕ, _^_, _≤_}
+use native.Mathlib.Omega.{arith}
+use borrow.Author.Tests.{ltb-true, lt-ltb}
+use lib.Pow.{pow-pos}
+use Rattle.text.specs.Bytes.{cond, both}
+use Rattle.column.specs.Number.{most}
+use Rattle.tree.specs.WellFormed.{fits, isId}
+
+pub both-true : (a b : Bool) → both a b ≡ true → (a ≡ true) × (b ≡ true)
+both-true true b e = (refl, e)
+both-true false b e = (e, cc)
+
+infixr 50 _and_
+pub _and_ : {a b : Bool} → a ≡ true → b ≡ true → both a b ≡ true
+_and_ e f = rw e f
+
+pub fits-most : (bits n : ℕ) → fits bits n ≡ true → n ≤ most bits
+fits-most bits n e = omega (arith, ltb-true n (2 ^ bits) e)
+
+pub most-fits : (bits n : ℕ) → n ≤ most bits → fits bits n ≡ true
+most-fits bits n h = lt-ltb n (2 ^ bits) (omega (arith, pow-pos bits))
+
+pub not-true : (b : Bool) → cond b false true ≡ true → b ≡ false
+not-true true e = sym e
+not-true false e = refl
+
+pub true-not : (b : Bool) → b ≡ false → cond b false true ≡ true
+true-not b e = rw e
+
+pub id-most : (n : ℕ) → isId n ≡ true → (1 ≤ n) × (n ≤ most 64)
+id-most n e = let (some, low) = both-true _ _ e in (ltb-true 0 n some, fits-most 64 n low)
+
+pub most-id : (n : ℕ) → 1 ≤ n → n ≤ most 64 → isId n ≡ true
+most-id n some low = lt-ltb 0 n some and most-fits 64 n low
