@@ -4,19 +4,19 @@
 use mathlib.Core.Path.{_≡_, refl, sym, ap, _∙_}
 use mathlib.Core.Bool.{Bool, true, false}
 use mathlib.Core.List.{List, [], _∷_, _++_}
-use Prim.Native.Nat.{ℕ, zero, suc, _≤_, _<_}
+use Prim.Native.Nat.{ℕ, zero, suc, _≤_}
 use native.Mathlib.Omega.{arith}
 use borrow.Author.Tests.{ltb-true, lt-ltb, leb-true, le-leb, eqb-true}
 use lib.Dec.{ltb, leb}
 use lib.ListN.{length}
 use Rattle.text.specs.Bytes.{Str, both}
 use Rattle.column.specs.Texts.{isName}
-use Rattle.row.specs.Rows.{restOf, size}
+use Rattle.row.specs.Rows.{restOf}
 use Rattle.row.specs.Line.{lineAt, textAt, asWord, mostBits}
 use Rattle.row.specs.Print.{printField, printValue, printWord, Fits}
 use Rattle.row.specs.declared.Line.{Line}
 use Rattle.tree.specs.Tree.{Value, Slot, Arm, slot, group, Field}
-use Rattle.tree.specs.Reader.{Rows, Reading, got, no, Reader, _then_, mapR, onWord, onGroup}
+use Rattle.tree.specs.Reader.{Rows, got, no, Reader, mapR, onWord, onGroup}
 use Rattle.tree.specs.Read.{valueOf, wordsUpTo, wordsOf, hasWords, slotOf, field, isField, fieldOf}
 use Rattle.tree.specs.Read.{overlap, groupId, groupIds, fieldsUpTo, fieldsOf}
 use Rattle.tree.specs.Print.{typeRows, wordRows, armRows, fieldRows}
@@ -24,9 +24,9 @@ use Rattle.tree.specs.WellFormed.{fits, isFlag, every, typeFits, valueFits, wor
 use Rattle.tree.proofs.FieldLaws.{fields-here}
 use Rattle.printed.proofs.Reading.{line-here, text-here, Reads, reads-none, reads-line, reads-both, reads-then, reads-map}
 use Rattle.printed.proofs.Reading.{Tells, told, nothing, tells-then, tells-map, tells-cond}
-use Rattle.printed.proofs.Lines.{Says, tells-field, tells-group, tells-value, tells-word}
-use Rattle.printed.proofs.Tests.{both-true, _and_, fits-most, most-fits, not-true, true-not, id-most, most-id}
-use Rattle.printed.proofs.Types.{Room, size-line, size-type, read-type, TypeAt, tell-type}
+use Rattle.printed.proofs.Lines.{tells-field, tells-group, tells-value, tells-word}
+use Rattle.printed.proofs.Tests.{both-true, holds, _and_, fits-most, most-fits, not-true, true-not, id-most, most-id}
+use Rattle.printed.proofs.Types.{Room, room-rest, room-type, read-type, tell-type}
 use Rattle.printed.proofs.Fresh.{fresh, fresh-append, fresh-arm}
 use Rattle.row.specs.declared.Line.the-variants as line
 
@@ -39,6 +39,7 @@ pub data AfterField : Line → Type 0 where
   a-node : {i p s x g c o : ℕ} → AfterField (line.Node i p s x g c o)
   the-end : AfterField line.Bad
 
+-- a V line
 read-value :
     (v : Value) (rs : Rows) → valueFits v ≡ true
     → Reads (printValue (v .kind) (v .bits) ∷ rs) (valueOf (printValue (v .kind) (v .bits) ∷ rs)) v rs
@@ -58,6 +59,7 @@ words-end {A} f other rs h = go (lineAt rs) h
     go l a-node = refl
     go l the-end = refl
 
+-- W lines up to a bound, and 1 to 255 where they belong
 read-words-up-to :
     (n : ℕ) (ws : List ℕ) (rs : Rows) → length ws ≤ n → every (fits 64) ws ≡ true → AfterField (lineAt rs)
     → Reads (wordRows ws rs) (wordsUpTo n (wordRows ws rs)) ws rs
@@ -88,33 +90,28 @@ read-words true (w ∷ ws) rs e h =
 read-words false [] rs e h = reads-none
 read-words false (w ∷ ws) rs e h = let z = eqb-true (suc (length ws)) 0 e in let y : ⊥ = omega arith in absurd y
 
--- the tests of a slot
-slot-tests :
-    (s : Slot) → slotFits s ≡ true
-    → (fits 32 (s .offset) ≡ true) × (isFlag (s .explicit) ≡ true) × (isFlag (s .option) ≡ true)
-    × (typeFits (s .ty) 16 ≡ true) × (valueFits (s .default) ≡ true)
-    × (wordsFit (hasWords (s .explicit) (s .default .kind)) (s .words) ≡ true)
-slot-tests s e =
-    let (offset, e₁) = both-true _ _ e in
-    let (explicit, e₂) = both-true _ _ e₁ in
-    let (option, e₃) = both-true _ _ e₂ in
-    let (typ, e₄) = both-true _ _ e₃ in
-    let (value, e₅) = both-true _ _ e₄ in
-    let (words, e₆) = both-true _ true e₅ in
-    (offset, explicit, option, typ, value, words)
+-- the tests of a slot, and of a field
+abbrev slotTests : Slot → List Bool
+slotTests s =
+    fits 32 (s .offset) ∷ isFlag (s .explicit) ∷ isFlag (s .option) ∷ typeFits (s .ty) 16 ∷ valueFits (s .default)
+    ∷ wordsFit (hasWords (s .explicit) (s .default .kind)) (s .words) ∷ []
+
+abbrev fieldTests : Field → List Bool
+fieldTests f = isName (f .name) ∷ fits 16 (f .discriminant) ∷ armFits (f .arm) ∷ []
+
+-- what belongs to an F line
+abbrev slotRows : Slot → Rows → Rows
+slotRows s rs = typeRows (s .ty) (printValue (s .default .kind) (s .default .bits) ∷ wordRows (s .words) rs)
 
 read-slot :
-    (s : Slot) (rs : Rows) → slotFits s ≡ true → AfterField (lineAt rs)
-    → Room (typeRows (s .ty) (printValue (s .default .kind) (s .default .bits) ∷ wordRows (s .words) rs))
-    → Reads (typeRows (s .ty) (printValue (s .default .kind) (s .default .bits) ∷ wordRows (s .words) rs))
-    (slotOf (s .offset) (s .explicit) (s .option)
-    (typeRows (s .ty) (printValue (s .default .kind) (s .default .bits) ∷ wordRows (s .words) rs))) s rs
+    (s : Slot) (rs : Rows) → slotFits s ≡ true → AfterField (lineAt rs) → Room (slotRows s rs)
+    → Reads (slotRows s rs) (slotOf (s .offset) (s .explicit) (s .option) (slotRows s rs)) s rs
 unfolding slotOf
 read-slot s rs e h room =
-    let tests = slot-tests s e in
-    reads-then _ (read-type (s .ty) 16 _ room (tests .3))
-    (reads-then _ (read-value (s .default) (wordRows (s .words) rs) (tests .4))
-    (reads-map _ (read-words (hasWords (s .explicit) (s .default .kind)) (s .words) rs (tests .5) h)))
+    let tests = holds (slotTests s) e in
+    reads-then _ (read-type (s .ty) 16 _ room (tests 3))
+    (reads-then _ (read-value (s .default) (wordRows (s .words) rs) (tests 4))
+    (reads-map _ (read-words (hasWords (s .explicit) (s .default .kind)) (s .words) rs (tests 5) h)))
 
 -- the line of a field
 abbrev armLine : ℕ → Arm → Line
@@ -124,34 +121,25 @@ armLine d (group i) = line.Group i d
 arm-fits :
     (name : Str) (d : ℕ) (arm : Arm) → isName name ≡ true → fits 16 d ≡ true → armFits arm ≡ true → Fits (armLine d arm) name
 arm-fits name d (slot s) n f e =
-    let tests = slot-tests s e in
-    (fits-most 32 _ (tests .0), fits-most 16 d f, fits-most 1 _ (tests .1), fits-most 1 _ (tests .2), n)
+    let tests = holds (slotTests s) e in
+    (fits-most 32 _ (tests 0), fits-most 16 d f, fits-most 1 _ (tests 1), fits-most 1 _ (tests 2), n)
 arm-fits name d (group i) n f e = (id-most i e, fits-most 16 d f, n)
 
--- how many bytes
-size-words : (ws : List ℕ) (rs : Rows) → size rs ≤ size (wordRows ws rs)
+-- the rows that follow words, a field, and fields
+room-words : (ws : List ℕ) (rs : Rows) → Room (wordRows ws rs) → Room rs
 unfolding wordRows
-size-words [] rs = omega arith
-size-words (w ∷ ws) rs = omega (arith, size-line 87 (w ∷ []) [] (wordRows ws rs), size-words ws rs)
+room-words [] rs room = room
+room-words (w ∷ ws) rs room = room-words ws rs (room-rest room)
 
-size-arm : (name : Str) (d : ℕ) (arm : Arm) (rs : Rows) → size rs < size (armRows name d arm rs)
-size-arm name d (slot s) rs =
-    let ws = wordRows (s .words) rs in
-    let vs = printValue (s .default .kind) (s .default .bits) ∷ ws in
-    omega (
-      arith,
-      size-line 70 (s .offset ∷ d ∷ s .explicit ∷ s .option ∷ []) (32 ∷ name) (typeRows (s .ty) vs),
-      size-type (s .ty) vs,
-      size-line 86 (s .default .kind ∷ s .default .bits ∷ []) [] ws,
-      size-words (s .words) rs,
-    )
-size-arm name d (group i) rs = size-line _ _ _ rs
+room-arm : (name : Str) (d : ℕ) (arm : Arm) (rs : Rows) → Room (armRows name d arm rs) → Room rs
+room-arm name d (slot s) rs room = room-words (s .words) rs (room-rest (room-type (s .ty) _ (room-rest room)))
+room-arm name d (group i) rs room = room-rest room
 
-pub size-fields : (fs : List Field) (rs : Rows) → size rs ≤ size (fieldRows fs rs)
+pub room-fields : (fs : List Field) (rs : Rows) → Room (fieldRows fs rs) → Room rs
 unfolding fieldRows
-size-fields [] rs = omega arith
-size-fields (f ∷ fs) rs =
-    omega (arith, size-arm (f .name) (f .discriminant) (f .arm) (fieldRows fs rs), size-fields fs rs)
+room-fields [] rs room = room
+room-fields (f ∷ fs) rs room =
+    room-fields fs rs (room-arm (f .name) (f .discriminant) (f .arm) (fieldRows fs rs) room)
 
 -- a field printed, read
 module _ (name : Str) (d : ℕ) where
@@ -161,23 +149,22 @@ module _ (name : Str) (d : ℕ) where
   unfolding fieldOf restOf
   read-arm (slot s) rs n f e h room =
       let l = armLine d (slot s) in
-      let vs = typeRows (s .ty) (printValue (s .default .kind) (s .default .bits) ∷ wordRows (s .words) rs) in
-      let b = size-line 70 (s .offset ∷ d ∷ s .explicit ∷ s .option ∷ []) (32 ∷ name) vs in
+      let vs = slotRows s rs in
       let fit = arm-fits name d (slot s) n f e in
       reads-line l name fit (rw (line-here l name vs fit, text-here l name vs fit))
-      (reads-map (λ sl. field name d (slot sl)) (read-slot s rs e h (omega arith)))
+      (reads-map (λ sl. field name d (slot sl)) (read-slot s rs e h (room-rest room)))
   read-arm (group i) rs n f e h room =
       let l = armLine d (group i) in
       let fit = arm-fits name d (group i) n f e in
       let h = line-here l name rs fit in
       reads-line l name fit (rw (h, h, text-here l name rs fit)) reads-none
 
+  -- its first line is an F or a G
   arm-field :
       (arm : Arm) (rs : Rows) → isName name ≡ true → fits 16 d ≡ true → armFits arm ≡ true
       → (isField (lineAt (armRows name d arm rs)) ≡ true) × AfterField (lineAt (armRows name d arm rs))
   arm-field (slot s) rs n f e =
-      let vs = typeRows (s .ty) (printValue (s .default .kind) (s .default .bits) ∷ wordRows (s .words) rs) in
-      let h = line-here (armLine d (slot s)) name vs (arm-fits name d (slot s) n f e) in
+      let h = line-here (armLine d (slot s)) name (slotRows s rs) (arm-fits name d (slot s) n f e) in
       (rw h, rw h a-field)
   arm-field (group i) rs n f e =
       let h = line-here (armLine d (group i)) name rs (arm-fits name d (group i) n f e) in (rw h, rw h a-group)
@@ -194,6 +181,7 @@ fields-turn :
     → fieldsOf seen rs ≡ got (f ∷ fs) rest
 fields-turn seen rs mid rest f fs a b c d = fields-here seen rs ∙ rw (a, b, c, d)
 
+-- fields end where another line stands
 fields-end : (seen : List ℕ) (rs : Rows) → AfterFields (lineAt rs) → fieldsOf seen rs ≡ got [] rs
 fields-end seen rs h = fields-here seen rs ∙ rw (go (lineAt rs) h)
   where
@@ -201,27 +189,20 @@ fields-end seen rs h = fields-here seen rs ∙ rw (go (lineAt rs) h)
     go l a-node = refl
     go l the-end = refl
 
--- the fields of a node begin with a field, or there are none
+-- what follows the fields may follow a field
 after-field : (l : Line) → AfterFields l → AfterField l
 after-field l a-node = a-node
 after-field l the-end = the-end
 
-field-tests :
-    (f : Field) → fieldFits f ≡ true → (isName (f .name) ≡ true) × (fits 16 (f .discriminant) ≡ true) × (armFits (f .arm) ≡ true)
-field-tests f e =
-    let (name, e₁) = both-true _ _ e in
-    let (discriminant, e₂) = both-true _ _ e₁ in
-    let (arm, e₃) = both-true _ true e₂ in
-    (name, discriminant, arm)
-
+-- fields may follow a field too
 pub fields-follow :
     (fs : List Field) (rs : Rows) → every fieldFits fs ≡ true → AfterFields (lineAt rs) → AfterField (lineAt (fieldRows fs rs))
 unfolding every fieldRows
 fields-follow [] rs e h = after-field (lineAt rs) h
 fields-follow (f ∷ fs) rs e h =
     let (here, more) = both-true _ _ e in
-    let tests = field-tests f here in
-    arm-field (f .name) (f .discriminant) (f .arm) (fieldRows fs rs) (tests .0) (tests .1) (tests .2) .1
+    let tests = holds (fieldTests f) here in
+    arm-field (f .name) (f .discriminant) (f .arm) (fieldRows fs rs) (tests 0) (tests 1) (tests 2) .1
 
 -- fields printed are read
 pub read-fields :
@@ -231,20 +212,21 @@ unfolding every fieldRows groupIds
 read-fields [] seen rs e u h room = rw (fields-end seen rs h) reads-none
 read-fields (f ∷ fs) seen rs e u h room =
     let (here, more) = both-true (fieldFits f) (every fieldFits fs) e in
-    let tests = field-tests f here in
+    let tests = holds (fieldTests f) here in
     let ids = groupId (f .arm) in
     let us = fieldRows fs rs in
     let (new, later) = both-true _ _ (sym (fresh-append seen ids (groupIds fs)) ∙ u) in
     let follow = fields-follow fs rs more h in
-    let b = size-arm (f .name) (f .discriminant) (f .arm) us in
-    let r = read-arm (f .name) (f .discriminant) (f .arm) us (tests .0) (tests .1) (tests .2) follow room in
-    let q = read-fields fs (seen ++ ids) rs more later h (omega arith) in
-    let is = arm-field (f .name) (f .discriminant) (f .arm) us (tests .0) (tests .1) (tests .2) .0 in
+    let less = room-arm (f .name) (f .discriminant) (f .arm) us room in
+    let r = read-arm (f .name) (f .discriminant) (f .arm) us (tests 0) (tests 1) (tests 2) follow room in
+    let q = read-fields fs (seen ++ ids) rs more later h less in
+    let is = arm-field (f .name) (f .discriminant) (f .arm) us (tests 0) (tests 1) (tests 2) .0 in
     let one = not-true (overlap ids seen) (sym (fresh-arm seen (f .arm)) ∙ new) in
     reads-both (fields-turn seen _ us rs f fs is (r .gives) one (q .gives)) r q
 
 -- ---- what is read is printed
 
+-- a V line
 tell-value :
     (rs : Rows)
     → Tells (λ v rest. (rs ≡ printValue (v .kind) (v .bits) ∷ rest) × (valueFits v ≡ true)) (valueOf rs)
@@ -253,6 +235,7 @@ tell-value rs =
     tells-value rs (no 2) nothing (λ k b. got (record { kind = k; bits = b })) (λ k b w.
     told (w .row, lt-ltb k 19 (omega (arith, w .fits .0)) and le-leb b (mostBits k) (w .fits .1)))
 
+-- W lines up to a bound, and 1 to 255 where they belong
 tell-words-up-to :
     (n : ℕ) (rs : Rows)
     → Tells (λ ws rest. (rs ≡ wordRows ws rest) × (length ws ≤ n) × (every (fits 64) ws ≡ true)) (wordsUpTo n rs)
@@ -276,7 +259,7 @@ tell-words true rs =
     )))
 tell-words false rs = told (refl, refl)
 
--- the rows rs are an F line of these numbers and this name, and its slot; nothing is asked of a slot but its bounds
+-- what belongs to an F line of these numbers and this name
 module _ (o d e p : ℕ) (name : Str) (offset : fits 32 o ≡ true) (explicit : isFlag e ≡ true) (option : isFlag p ≡ true) where
   tell-slot :
       (rs : Rows)
@@ -292,6 +275,7 @@ module _ (o d e p : ℕ) (name : Str) (offset : fits 32 o ≡ true) (explicit : 
         offset and explicit and option and x .1 and y .1 and z .1 and refl,
       ))))
 
+-- the rows rs are a field and the rows after it; fields, with group ids that are new
 abbrev FieldAt : Rows → Field → Rows → Type 0
 FieldAt rs f rest = (rs ≡ armRows (f .name) (f .discriminant) (f .arm) rest) × (fieldFits f ≡ true)
 

@@ -32,10 +32,6 @@ fresh-append seen (i ∷ a) b =
     ∙ rw (append-assoc seen (unit i) a)
     (both-assoc (cond (among i seen) false true) (fresh (seen ++ unit i) a) (fresh (seen ++ (i ∷ a)) b))
 
-pub fresh-one : (seen : List ℕ) (i : ℕ) → fresh seen (unit i) ≡ cond (among i seen) false true
-unfolding fresh
-fresh-one seen i = both-both (cond (among i seen) false true)
-
 -- the id of a group, if there is one
 pub fresh-arm : (seen : List ℕ) (arm : Arm) → fresh seen (groupId arm) ≡ cond (overlap (groupId arm) seen) false true
 unfolding fresh overlap

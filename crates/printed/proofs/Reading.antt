@@ -32,13 +32,16 @@ pub record Reads {A : Type 0} (rs : Rows) (g : Reading A) (a : A) (rest : Rows) 
   pub gives : g ≡ got a rest
   back : Cut rest → Cut rs
 
+-- rows that are read to the end come back
 pub reads-back : {A : Type 0} {rs : Rows} {g : Reading A} {a : A} → Reads rs g a [] → rows (joined rs) ≡ rs
 unfolding Cut joined rows
 reads-back r = r .back refl
 
+-- nothing is read
 pub reads-none : {A : Type 0} {rs : Rows} {a : A} → Reads rs (got a rs) a rs
 reads-none = record { gives = refl; back = λ h. h }
 
+-- a line in front
 pub reads-line :
     {A : Type 0} (l : Line) (text : Str) {rs rest : Rows} {g whole : Reading A} {a : A} → Fits l text → whole ≡ g
     → Reads rs g a rest → Reads (printLine l text ∷ rs) whole a rest

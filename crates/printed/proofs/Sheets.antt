@@ -6,17 +6,16 @@ use mathlib.Core.List.{List, [], _∷_, _++_}
 use Prim.Native.Nat.{ℕ, _+_, _≤_, _<_}
 use native.Mathlib.Omega.{arith}
 use borrow.Author.Tests.{ltb-true, ltb-false, lt-ltb, le-ltb, leb-true, le-leb}
-use lib.Dec.{ltb}
+use lib.Dec.{ltb, leb}
 use lib.ListN.{length, length-append}
 use Rattle.text.specs.Bytes.{Str}
-use Rattle.column.specs.Number.{most}
 use Rattle.column.specs.Texts.{isGraphicText}
 use Rattle.row.specs.Rows.{rows, restOf, size, joined as joinedRows}
 use Rattle.row.specs.Line.{textAt}
 use Rattle.row.specs.Print.{printRoot}
 use Rattle.row.proofs.Laws.{joined-rows}
 use Rattle.tree.specs.Tree.{Node, Sheet}
-use Rattle.tree.specs.Reader.{Rows, Reading, got, no, mapR}
+use Rattle.tree.specs.Reader.{Rows, Reading, no, mapR}
 use Rattle.tree.specs.Read.{nodesOf, sheetOf, Admitted, sheet, refused, numbered, admitted}
 use Rattle.tree.specs.Print.{nodeRows, sheetRows, joined, printed}
 use Rattle.tree.specs.WellFormed.{every, distinct, nodeFits, nodeIds, allGroupIds, wellFormed}
@@ -24,10 +23,10 @@ use Rattle.printed.specs.Claims.{ReadsPrinted, PrintsRead}
 use Rattle.printed.proofs.Reading.{line-here, text-here, Reads, reads-back, reads-line, reads-map}
 use Rattle.printed.proofs.Reading.{Tells, told, nothing, tells-map}
 use Rattle.printed.proofs.Lines.{tells-root}
-use Rattle.printed.proofs.Tests.{both-true, _and_}
-use Rattle.printed.proofs.Types.{Room, size-line}
+use Rattle.printed.proofs.Tests.{holds, _and_}
+use Rattle.printed.proofs.Types.{Room, room-rest}
 use Rattle.printed.proofs.Fresh.{fresh-distinct}
-use Rattle.printed.proofs.Nodes.{Nodes, read-nodes, NodesAt, tell-nodes}
+use Rattle.printed.proofs.Nodes.{NodesFit, read-nodes, NodesAt, tell-nodes}
 use Rattle.row.specs.declared.Line.the-variants as line
 
 -- the bytes of rows, counted and joined
@@ -41,48 +40,48 @@ unfolding joined joinedRows
 joined-same [] = refl
 joined-same (r ∷ rs) = ap (r ++_) (joined-same rs)
 
--- what a well-formed tree keeps
-record Keeps (sh : Sheet) : Type 0 where
+-- what holds of a well-formed tree; nodes and groups have ids that are new one after the other
+record Formed (sh : Sheet) : Type 0 where
   root : isGraphicText 64 (sh .root) ≡ true
   some : 0 < length (sh .nodes)
   few : length (sh .nodes) < 65
-  nodes : Nodes [] [] (sh .nodes)
-  room : length (printed sh) ≤ 65536
+  nodes : NodesFit [] [] (sh .nodes)
+  short : length (printed sh) ≤ 65536
 
-keeps : (sh : Sheet) → wellFormed sh ≡ true → Keeps sh
+abbrev sheetTests : Sheet → List Bool
+sheetTests sh =
+    isGraphicText 64 (sh .root) ∷ ltb 0 (length (sh .nodes)) ∷ ltb (length (sh .nodes)) 65 ∷ every nodeFits (sh .nodes)
+    ∷ distinct (nodeIds (sh .nodes)) ∷ distinct (allGroupIds (sh .nodes)) ∷ leb (length (printed sh)) 65536 ∷ []
+
+formed : (sh : Sheet) → wellFormed sh ≡ true → Formed sh
 unfolding wellFormed
-keeps sh e =
-    let (root, e₁) = both-true _ _ e in
-    let (some, e₂) = both-true _ _ e₁ in
-    let (few, e₃) = both-true _ _ e₂ in
-    let (fit, e₄) = both-true _ _ e₃ in
-    let (ids, e₅) = both-true _ _ e₄ in
-    let (groups, e₆) = both-true _ _ e₅ in
-    let (size, e₇) = both-true _ true e₆ in
+formed sh e =
+    let tests = holds (sheetTests sh) e in
     record {
-      root = root;
-      some = ltb-true 0 (length (sh .nodes)) some;
-      few = ltb-true (length (sh .nodes)) 65 few;
+      root = tests 0;
+      some = ltb-true 0 (length (sh .nodes)) (tests 1);
+      few = ltb-true (length (sh .nodes)) 65 (tests 2);
       nodes = record {
-        fit = fit;
-        new = fresh-distinct (nodeIds (sh .nodes)) ∙ ids;
-        groups = fresh-distinct (allGroupIds (sh .nodes)) ∙ groups;
+        fit = tests 3;
+        new = fresh-distinct (nodeIds (sh .nodes)) ∙ tests 4;
+        groups = fresh-distinct (allGroupIds (sh .nodes)) ∙ tests 5;
       };
-      room = leb-true (length (printed sh)) 65536 size;
+      short = leb-true (length (printed sh)) 65536 (tests 6);
     }
 
-kept : (sh : Sheet) → Keeps sh → wellFormed sh ≡ true
+well-formed : (sh : Sheet) → Formed sh → wellFormed sh ≡ true
 unfolding wellFormed
-kept sh k =
-    k .root and lt-ltb 0 (length (sh .nodes)) (k .some) and lt-ltb (length (sh .nodes)) 65 (k .few) and k .nodes .fit
-    and (sym (fresh-distinct (nodeIds (sh .nodes))) ∙ k .nodes .new)
-    and (sym (fresh-distinct (allGroupIds (sh .nodes))) ∙ k .nodes .groups)
-    and le-leb (length (printed sh)) 65536 (k .room) and refl
+well-formed sh f =
+    f .root and lt-ltb 0 (length (sh .nodes)) (f .some) and lt-ltb (length (sh .nodes)) 65 (f .few) and f .nodes .fit
+    and (sym (fresh-distinct (nodeIds (sh .nodes))) ∙ f .nodes .new)
+    and (sym (fresh-distinct (allGroupIds (sh .nodes))) ∙ f .nodes .groups)
+    and le-leb (length (printed sh)) 65536 (f .short) and refl
 
 -- ---- what is printed is read
 
+-- an R line and nodes
 read-sheet :
-    (root : Str) (ns : List Node) → isGraphicText 64 root ≡ true → 0 < length ns → length ns < 65 → Nodes [] [] ns
+    (root : Str) (ns : List Node) → isGraphicText 64 root ≡ true → 0 < length ns → length ns < 65 → NodesFit [] [] ns
     → Room (nodeRows ns)
     → Reads (printRoot root ∷ nodeRows ns) (sheetOf (printRoot root ∷ nodeRows ns)) (record { root = root; nodes = ns }) []
 unfolding sheetOf restOf
@@ -96,12 +95,10 @@ read-sheet root (n ∷ ns) r some few f room =
 pub reads-printed : ReadsPrinted
 unfolding admitted printed sheetRows
 reads-printed sh e =
-    let k = keeps sh e in
-    let us = nodeRows (sh .nodes) in
-    let n = joined-size (printRoot (sh .root) ∷ us) in
-    let b = size-line 82 [] (32 ∷ sh .root) us in
-    let r = read-sheet (sh .root) (sh .nodes) (k .root) (k .some) (k .few) (k .nodes) (omega (arith, n, b, k .room)) in
-    rw (admitted, le-ltb 65536 (length (printed sh)) (k .room), reads-back r, r .gives)
+    let f = formed sh e in
+    let room : Room (sheetRows sh) = record { few = omega (arith, joined-size (sheetRows sh), f .short) } in
+    let r = read-sheet (sh .root) (sh .nodes) (f .root) (f .some) (f .few) (f .nodes) (room-rest room) in
+    rw (admitted, le-ltb 65536 (length (printed sh)) (f .short), reads-back r, r .gives)
 
 -- ---- what is read is printed
 
@@ -111,6 +108,7 @@ record SheetAt (rs : Rows) (sh : Sheet) (rest : Rows) : Type 0 where
   root : isGraphicText 64 (sh .root) ≡ true
   nodes : NodesAt 64 [] [] (restOf rs) (sh .nodes) rest
 
+-- a sheet that is read is printed
 tell-sheet : (rs : Rows) → Tells (SheetAt rs) (sheetOf rs)
 unfolding sheetOf sheetRows
 tell-sheet rs =
@@ -126,12 +124,12 @@ tree-printed s sh rest l h =
     let e : printed sh ≡ s = ap joined (sym (h .is)) ∙ joined-same (rows s) ∙ joined-rows s in
     let few = h .nodes .few in (
       e,
-      kept sh (record {
+      well-formed sh (record {
         root = h .root;
         some = h .nodes .some;
         few = omega arith;
         nodes = h .nodes .nodes;
-        room = rw e l;
+        short = rw e l;
       }),
     )
 

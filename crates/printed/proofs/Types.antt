@@ -3,13 +3,12 @@
 -- has a row, and the rows are few. Assumes nothing.
 use mathlib.Core.Path.{_≡_, refl, sym, ap, _∙_}
 use mathlib.Core.Bool.{Bool, true, false}
-use mathlib.Core.List.{List, [], _∷_}
+use mathlib.Core.List.{[], _∷_}
 use Prim.Native.Nat.{ℕ, zero, suc, _+_, _-_, _≤_, _<_}
 use native.Mathlib.Omega.{arith}
 use native.Mathlib.Numerals.{sub-one}
 use borrow.Author.Tests.{ltb-true, ltb-false, lt-ltb, le-ltb, eqb-true, eqb-false, ne-eqb}
 use lib.Dec.{eqb, ltb}
-use lib.ListN.{length}
 use Rattle.text.specs.Bytes.{Str, cond, both}
 use Rattle.column.specs.Number.{most}
 use Rattle.row.specs.Rows.{restOf, size}
@@ -19,7 +18,7 @@ use Rattle.row.specs.declared.Line.{Line}
 use Rattle.row.specs.declared.Line.the-variants.{Root, Node, Parameter, Field, Group, Typ, Scope, Unbound, Value, Word, Bad}
 use Rattle.tree.specs.Tree.{Ty, plain, list, enum, struct, interface, anyPointer, parameter}
 use Rattle.tree.specs.Tree.{Scopes, end, inherit, bind, Binds, stop, unbound, bound}
-use Rattle.tree.specs.Reader.{Rows, Reading, got, no, Reader, _then_, mapR, times, onType, onUnbound}
+use Rattle.tree.specs.Reader.{Rows, got, no, Reader, _then_, mapR, times, onType}
 use Rattle.tree.specs.Read.{bindingOf, scopeOf, branded, pointer, typeFrom, typeOf}
 use Rattle.tree.specs.Print.{scopeCount, bindCount, typeRows, scopeRows, bindRows}
 use Rattle.tree.specs.WellFormed.{fits, typeFits, scopesFit, bindsFit}
@@ -30,44 +29,50 @@ use Rattle.printed.proofs.Tests.{both-true, _and_, fits-most, most-fits
 
 -- ---- how many bytes: each part has a row of its own
 
-pub size-line : (letter : ℕ) (ns : List ℕ) (text : Str) (rs : Rows) → size rs < size (rowText letter ns text ∷ rs)
-unfolding size rowText
-size-line letter ns text rs = omega arith
-
 mutual
-  unfolding typeRows scopeCount bindCount
+  unfolding size rowText typeRows scopeCount bindCount
 
-  pub size-type : (t : Ty) (rs : Rows) → size rs < size (typeRows t rs)
-  size-type (plain k) rs = size-line _ _ _ rs
-  size-type (list t) rs = omega (arith, size-line 84 (14 ∷ 0 ∷ 0 ∷ 0 ∷ []) [] (typeRows t rs), size-type t rs)
-  size-type (enum i ss) rs =
-      omega (arith, size-line 84 (15 ∷ i ∷ scopeCount ss ∷ 0 ∷ []) [] (scopeRows ss rs), size-scopes ss rs)
-  size-type (struct i ss) rs =
-      omega (arith, size-line 84 (16 ∷ i ∷ scopeCount ss ∷ 0 ∷ []) [] (scopeRows ss rs), size-scopes ss rs)
-  size-type (interface i ss) rs =
-      omega (arith, size-line 84 (17 ∷ i ∷ scopeCount ss ∷ 0 ∷ []) [] (scopeRows ss rs), size-scopes ss rs)
-  size-type anyPointer rs = size-line _ _ _ rs
-  size-type (parameter i k) rs = size-line _ _ _ rs
+  size-type : (t : Ty) (rs : Rows) → size rs < size (typeRows t rs)
+  size-type (plain k) rs = omega arith
+  size-type (list t) rs = omega (arith, size-type t rs)
+  size-type (enum i ss) rs = omega (arith, size-scopes ss rs)
+  size-type (struct i ss) rs = omega (arith, size-scopes ss rs)
+  size-type (interface i ss) rs = omega (arith, size-scopes ss rs)
+  size-type anyPointer rs = omega arith
+  size-type (parameter i k) rs = omega arith
 
   size-scopes : (ss : Scopes) (rs : Rows) → size rs + scopeCount ss ≤ size (scopeRows ss rs)
   size-scopes end rs = omega arith
-  size-scopes (inherit i ss) rs =
-      omega (arith, size-line 83 (i ∷ 0 ∷ 0 ∷ []) [] (scopeRows ss rs), size-scopes ss rs)
-  size-scopes (bind i bs ss) rs =
-      omega (
-        arith,
-        size-line 83 (i ∷ 1 ∷ bindCount bs ∷ []) [] (bindRows bs (scopeRows ss rs)),
-        size-binds bs (scopeRows ss rs),
-        size-scopes ss rs,
-      )
+  size-scopes (inherit i ss) rs = omega (arith, size-scopes ss rs)
+  size-scopes (bind i bs ss) rs = omega (arith, size-binds bs (scopeRows ss rs), size-scopes ss rs)
 
   size-binds : (bs : Binds) (rs : Rows) → size rs + bindCount bs ≤ size (bindRows bs rs)
   size-binds stop rs = omega arith
-  size-binds (unbound bs) rs = omega (arith, size-line 85 [] [] (bindRows bs rs), size-binds bs rs)
+  size-binds (unbound bs) rs = omega (arith, size-binds bs rs)
   size-binds (bound t bs) rs = omega (arith, size-type t (bindRows bs rs), size-binds bs rs)
+
+-- rows so few that a column can count them
+pub record Room (rs : Rows) : Type 0 where
+  pub few : size rs ≤ most 64
+
+-- the rows that follow a row, and those that follow a type
+pub room-rest : {r : Str} {rs : Rows} → Room (r ∷ rs) → Room rs
+unfolding size
+room-rest room = record { few = omega (arith, room .few) }
+
+pub room-type : (t : Ty) (rs : Rows) → Room (typeRows t rs) → Room rs
+room-type t rs room = record { few = omega (arith, size-type t rs, room .few) }
+
+-- the count of bindings, and the rows that follow them
+room-count : (bs : Binds) (rs : Rows) → Room (bindRows bs rs) → bindCount bs ≤ most 64
+room-count bs rs room = omega (arith, size-binds bs rs, room .few)
+
+room-binds : (bs : Binds) (rs : Rows) → Room (bindRows bs rs) → Room rs
+room-binds bs rs room = record { few = omega (arith, size-binds bs rs, room .few) }
 
 -- ---- what is printed is read
 
+-- a type is read where a level is left
 type-turn : (left : ℕ) (rs : Rows) → 0 < left → typeOf left rs ≡ onType (typeFrom (typeOf (left - 1))) (no 2) rs
 unfolding typeOf
 type-turn zero rs h = let z : ⊥ = omega arith in absurd z
@@ -84,6 +89,7 @@ module _ (left : ℕ) (some : ltb 0 left ≡ true) where
       reads-line (Typ k a b c) [] f
       (type-turn left (printType k a b c ∷ rs) (ltb-true 0 left some) ∙ rw (line-here (Typ k a b c) [] rs f)) r
 
+  -- kinds 0 to 13
   read-plain :
       (k : ℕ) (rs : Rows) → ltb k 14 ≡ true
       → Reads (printType k 0 0 0 ∷ rs) (typeOf left (printType k 0 0 0 ∷ rs)) (plain k) rs
@@ -92,49 +98,46 @@ module _ (left : ℕ) (some : ltb 0 left ≡ true) where
       on-type k 0 0 0 (omega (arith, ltb-true k 14 h), omega arith, omega arith, omega arith, refl)
       (rw (typeFrom, h) reads-none)
 
--- the bytes of rows can be counted in a column
-abbrev pub Room : Rows → Type 0
-Room rs = size rs ≤ most 64
-
 -- kinds 15 to 17
-module _ (left k i : ℕ) (lo : 14 < k) (hi : k < 18) (ss : Scopes) (fit : Bool) (rs : Rows) where
-  brand-fits : fits 64 i ≡ true → Room (printType k i (scopeCount ss) 0 ∷ scopeRows ss rs) → Fits (Typ k i (scopeCount ss) 0) []
+module _ (left k i : ℕ) (lo : 14 < k) (hi : k < 18) (ss : Scopes) (fit : Bool) (rs : Rows) (room : Room (scopeRows ss rs)) where
+  brand-fits : fits 64 i ≡ true → Fits (Typ k i (scopeCount ss) 0) []
   unfolding mostA mostB
-  brand-fits e room =
+  brand-fits e =
       let p = le-ltb k 15 lo in
       let q = lt-ltb k 18 hi in
-      let n = size-line 84 (k ∷ i ∷ scopeCount ss ∷ 0 ∷ []) [] (scopeRows ss rs) in
-      let m : scopeCount ss ≤ most 64 = omega (arith, size-scopes ss rs) in
+      let m : scopeCount ss ≤ most 64 = omega (arith, size-scopes ss rs, room .few) in
       (omega arith, rw (mostA, p, q) (fits-most 64 i e), rw (mostB, p, q) m, omega arith, refl)
 
   read-brand :
-      both (ltb 0 left) (both (fits 64 i) fit) ≡ true → Room (printType k i (scopeCount ss) 0 ∷ scopeRows ss rs)
-      → (Room (scopeRows ss rs) → fit ≡ true
+      both (ltb 0 left) (both (fits 64 i) fit) ≡ true
+      → (fit ≡ true
       → Reads (scopeRows ss rs) (times (scopeOf (typeOf (left - 1))) end (scopeCount ss) (scopeRows ss rs)) ss rs)
       → Reads (printType k i (scopeCount ss) 0 ∷ scopeRows ss rs)
       (typeOf left (printType k i (scopeCount ss) 0 ∷ scopeRows ss rs)) (branded k i ss) rs
   unfolding typeFrom
-  read-brand e room more =
-      let n = size-line 84 (k ∷ i ∷ scopeCount ss ∷ 0 ∷ []) [] (scopeRows ss rs) in
+  read-brand e scopes =
       let other : k ≡ 14 → ⊥ = omega arith in
-      let (some, both) = both-true _ _ e in
-      let (id, scopes) = both-true _ _ both in
-      on-type left some k i (scopeCount ss) 0 (brand-fits id room)
-      (rw (typeFrom, le-ltb k 14 (omega arith), ne-eqb k 14 other, lt-ltb k 18 hi)
-      (reads-map (branded k i) (more (omega arith) scopes)))
+      let (some, more) = both-true _ _ e in
+      let (id, fit) = both-true _ _ more in
+      on-type left some k i (scopeCount ss) 0 (brand-fits id)
+      (rw (typeFrom, le-ltb k 14 (omega arith), ne-eqb k 14 other, lt-ltb k 18 hi) (reads-map (branded k i) (scopes fit)))
 
--- a type is no U line
-not-unbound :
-    {A : Type 0} (left : ℕ) (f other : Reader A) (rs rest : Rows) (t : Ty) → typeOf left rs ≡ got t rest
-    → onUnbound f other rs ≡ other rs
-unfolding typeOf
-not-unbound {A} left f other rs rest t e = by-line (lineAt rs) refl
+-- a binding that is a type is no U line
+type-binding :
+    (left : ℕ) (rs rest : Rows) (t : Ty) → typeOf left rs ≡ got t rest
+    → bindingOf (typeOf left) rs ≡ (typeOf left rs then λ t. got (λ bs. bound t bs))
+unfolding bindingOf typeOf
+type-binding left rs rest t e = by-line (lineAt rs) refl
   where
     refused : (left : ℕ) → lineAt rs ≡ Unbound → typeOf left rs ≡ no 2 rs
     refused zero h = rw h
     refused (suc l) h = rw h
 
-    by-line : (l : Line) → lineAt rs ≡ l → asUnbound {A = Reader A} l (λ rs. f (restOf rs)) other rs ≡ other rs
+    by-line :
+        (l : Line) → lineAt rs ≡ l
+        → asUnbound {A = Reader (Binds → Binds)} l (λ rs. got (λ bs. unbound bs) (restOf rs))
+        (mapR (λ t bs. bound t bs) (typeOf left)) rs
+        ≡ (typeOf left rs then λ t. got (λ bs. bound t bs))
     by-line Root h = refl
     by-line (Node i p s x g c o) h = refl
     by-line Parameter h = refl
@@ -174,10 +177,8 @@ module _ (left : ℕ) where
   read-bound :
       {t : Ty} {rs rest : Rows} → Reads rs (typeOf left rs) t rest
       → Reads rs (bindingOf (typeOf left) rs) (λ bs. bound t bs) rest
-  unfolding bindingOf
   read-bound {t} {rs} {rest} r =
-      rw (not-unbound {A = Binds → Binds} left (got (λ bs. unbound bs)) (mapR (λ t bs. bound t bs) (typeOf left)) rs rest t (r .gives))
-      (reads-map (λ t bs. bound t bs) r)
+      rw (type-binding left rs rest t (r .gives)) (reads-map (λ t bs. bound t bs) r)
 
 mutual
   unfolding typeRows typeFits scopeCount bindCount typeFrom times mostA mostB mostC
@@ -189,15 +190,17 @@ mutual
   read-type (plain k) left rs room e = let (some, low) = both-true _ _ e in read-plain left some k rs low
   read-type (list t) left rs room e =
       let (some, more) = both-true _ _ e in
-      let n = size-line 84 (14 ∷ 0 ∷ 0 ∷ 0 ∷ []) [] (typeRows t rs) in
       on-type left some 14 0 0 0 (omega arith, omega arith, omega arith, omega arith, refl)
-      (reads-map (λ t. list t) (read-type t (left - 1) rs (omega arith) more))
+      (reads-map (λ t. list t) (read-type t (left - 1) rs (room-rest room) more))
   read-type (enum i ss) left rs room e =
-      read-brand left 15 i (omega arith) (omega arith) ss _ rs e room (λ r f. read-scopes ss (left - 1) rs r f)
+      let less = room-rest room in
+      read-brand left 15 i (omega arith) (omega arith) ss _ rs less e (λ f. read-scopes ss (left - 1) rs less f)
   read-type (struct i ss) left rs room e =
-      read-brand left 16 i (omega arith) (omega arith) ss _ rs e room (λ r f. read-scopes ss (left - 1) rs r f)
+      let less = room-rest room in
+      read-brand left 16 i (omega arith) (omega arith) ss _ rs less e (λ f. read-scopes ss (left - 1) rs less f)
   read-type (interface i ss) left rs room e =
-      read-brand left 17 i (omega arith) (omega arith) ss _ rs e room (λ r f. read-scopes ss (left - 1) rs r f)
+      let less = room-rest room in
+      read-brand left 17 i (omega arith) (omega arith) ss _ rs less e (λ f. read-scopes ss (left - 1) rs less f)
   read-type anyPointer left rs room e =
       on-type left e 18 0 0 0 (omega arith, omega arith, omega arith, omega arith, refl) reads-none
   read-type (parameter i k) left rs room e =
@@ -205,37 +208,37 @@ mutual
       let (id, index) = both-true _ _ more in
       on-type left some 18 1 i k (omega arith, omega arith, fits-most 64 i id, fits-most 16 k index, refl) reads-none
 
+  -- so are the scopes of a brand
   read-scopes :
       (ss : Scopes) (left : ℕ) (rs : Rows) → Room (scopeRows ss rs) → scopesFit ss left ≡ true
       → Reads (scopeRows ss rs) (times (scopeOf (typeOf left)) end (scopeCount ss) (scopeRows ss rs)) ss rs
   read-scopes end left rs room e = reads-none
   read-scopes (inherit i ss) left rs room e =
       let (id, more) = both-true _ _ e in
-      let n = size-line 83 (i ∷ 0 ∷ 0 ∷ []) [] (scopeRows ss rs) in
       reads-times (scopeOf (typeOf left)) end (scopeCount ss) (read-inherit left i (scopeRows ss rs) id)
-      (read-scopes ss left rs (omega arith) more)
+      (read-scopes ss left rs (room-rest room) more)
   read-scopes (bind i bs ss) left rs room e =
       let (id, more) = both-true _ _ e in
       let (here, next) = both-true _ _ more in
-      let n = size-line 83 (i ∷ 1 ∷ bindCount bs ∷ []) [] (bindRows bs (scopeRows ss rs)) in
-      let m = size-binds bs (scopeRows ss rs) in
+      let us = scopeRows ss rs in
+      let less = room-rest room in
       reads-times (scopeOf (typeOf left)) end (scopeCount ss)
-      (read-bind left i (bindCount bs) id (omega arith) (read-binds bs left (scopeRows ss rs) (omega arith) here))
-      (read-scopes ss left rs (omega arith) next)
+      (read-bind left i (bindCount bs) id (room-count bs us less) (read-binds bs left us less here))
+      (read-scopes ss left rs (room-binds bs us less) next)
 
+  -- and the bindings under a scope
   read-binds :
       (bs : Binds) (left : ℕ) (rs : Rows) → Room (bindRows bs rs) → bindsFit bs left ≡ true
       → Reads (bindRows bs rs) (times (bindingOf (typeOf left)) stop (bindCount bs) (bindRows bs rs)) bs rs
   read-binds stop left rs room e = reads-none
   read-binds (unbound bs) left rs room e =
-      let n = size-line 85 [] [] (bindRows bs rs) in
       reads-times (bindingOf (typeOf left)) stop (bindCount bs) (read-unbound left (bindRows bs rs))
-      (read-binds bs left rs (omega arith) e)
+      (read-binds bs left rs (room-rest room) e)
   read-binds (bound t bs) left rs room e =
       let (here, next) = both-true _ _ e in
-      let n = size-type t (bindRows bs rs) in
-      reads-times (bindingOf (typeOf left)) stop (bindCount bs)
-      (read-bound left (read-type t left (bindRows bs rs) room here)) (read-binds bs left rs (omega arith) next)
+      let us = bindRows bs rs in
+      reads-times (bindingOf (typeOf left)) stop (bindCount bs) (read-bound left (read-type t left us room here))
+      (read-binds bs left rs (room-type t us room) next)
 
 -- ---- what is read is printed
 
@@ -249,18 +252,34 @@ ScopesAt left n rs ss rest = (rs ≡ scopeRows ss rest) × (scopesFit ss left �
 abbrev BindsAt : ℕ → ℕ → Rows → Binds → Rows → Type 0
 BindsAt left n rs bs rest = (rs ≡ bindRows bs rest) × (bindsFit bs left ≡ true) × (bindCount bs ≡ n)
 
--- a row with other numbers that are the same
-scope-row :
-    (i b n b′ n′ : ℕ) (rs rest : Rows) → b ≡ b′ → n ≡ n′ → rs ≡ printScope i b n ∷ rest → rs ≡ printScope i b′ n′ ∷ rest
-scope-row i b n b′ n′ rs rest p q e = rw (← p, ← q) e
-
+-- a T line with numbers that are the same
 type-row :
     (k a b c k′ a′ b′ c′ : ℕ) (rs rest : Rows) → k ≡ k′ → a ≡ a′ → b ≡ b′ → c ≡ c′ → rs ≡ printType k a b c ∷ rest
     → rs ≡ printType k′ a′ b′ c′ ∷ rest
 type-row k a b c k′ a′ b′ c′ rs rest p q r s e = rw (← p, ← q, ← r, ← s) e
 
+-- an S line: inherit has no bindings, bind so many
+inherit-row :
+    (rs : Rows) (i b n : ℕ) → Says rs (Scope i b n) → eqb b 0 ≡ true → rs ≡ printScope i 0 0 ∷ restOf rs
+unfolding mostCount
+inherit-row rs i b n w z =
+    let p = eqb-true b 0 z in
+    let m : n ≤ 0 = rw p at (w .fits .2) in
+    let q : n ≡ 0 = omega arith in
+    let row = w .row in
+    cc
+
+bind-row :
+    (rs : Rows) (i b n m : ℕ) → Says rs (Scope i b n) → eqb b 0 ≡ false → m ≡ n → rs ≡ printScope i 1 m ∷ restOf rs
+bind-row rs i b n m w z q =
+    let other = eqb-false b 0 z in
+    let p : b ≡ 1 = omega (arith, w .fits .1) in
+    let row = w .row in
+    cc
+
 -- scopes and bindings, where types are read with so many levels left
 module _ (left : ℕ) (tell : (rs : Rows) → Tells (TypeAt left rs) (typeOf left rs)) where
+  -- a binding in front of others
   tell-binding :
       (rs : Rows)
       → Tells (λ f mid. (n : ℕ) (bs : Binds) (rest : Rows) → BindsAt left n mid bs rest → BindsAt left (suc n) rs (f bs) rest)
@@ -277,28 +296,25 @@ module _ (left : ℕ) (tell : (rs : Rows) → Tells (TypeAt left rs) (typeOf lef
   unfolding typeRows typeFits bindCount
   tell-binds = tells-times (BindsAt left) (λ rs. (refl, refl, refl)) tell-binding
 
+  -- a scope in front of others
   tell-scope :
       (rs : Rows)
       → Tells (λ f mid. (n : ℕ) (ss : Scopes) (rest : Rows) → ScopesAt left n mid ss rest → ScopesAt left (suc n) rs (f ss) rest)
       (scopeOf (typeOf left) rs)
-  unfolding scopeOf typeRows typeFits scopeCount mostCount
+  unfolding scopeOf typeRows typeFits scopeCount
   tell-scope rs =
       tells-scope rs (no 2) nothing
       (λ i b n. cond (eqb b 0) (got (λ ss. inherit i ss)) (mapR (λ bs ss. bind i bs ss) (times (bindingOf (typeOf left)) stop n)))
       (λ i b n w.
       let id = most-fits 64 i (w .fits .0) in
-      tells-cond (eqb b 0) (got (λ ss. inherit i ss)) (mapR (λ bs ss. bind i bs ss) (times (bindingOf (typeOf left)) stop n)) _
-      (λ z.
-      let b0 = eqb-true b 0 z in
-      let m : n ≤ mostCount 0 = rw b0 at (w .fits .2) in
-      let n0 : n ≡ 0 = omega arith in
-      let e = scope-row i b n 0 0 rs _ b0 n0 (w .row) in
-      told (λ m ss rest q. (e ∙ ap (λ (rs : Rows). printScope i 0 0 ∷ rs) (q .0), id and q .1, ap suc (q .2))))
-      (λ z.
-      let b0 = eqb-false b 0 z in
-      let b1 : b ≡ 1 = omega (arith, w .fits .1) in
-      tells-map (λ bs ss. bind i bs ss) (tell-binds n _) (λ bs mid p m ss rest q. (
-        scope-row i b n 1 (bindCount bs) rs _ b1 (sym (p .2)) (w .row)
+      tells-cond (eqb b 0) _ _ _
+      (λ z. told (λ m ss rest q. (
+        inherit-row rs i b n w z ∙ ap (λ (rs : Rows). printScope i 0 0 ∷ rs) (q .0),
+        id and q .1,
+        ap suc (q .2),
+      )))
+      (λ z. tells-map (λ bs ss. bind i bs ss) (tell-binds n _) (λ bs mid p m ss rest q. (
+        bind-row rs i b n (bindCount bs) w z (p .2)
             ∙ ap (λ (rs : Rows). printScope i 1 (bindCount bs) ∷ rs) (p .0 ∙ ap (bindRows bs) (q .0)),
         id and p .1 and q .1,
         ap suc (q .2),
@@ -324,6 +340,7 @@ module _ (left : ℕ) (tell : (rs : Rows) → Tells (TypeAt left rs) (typeOf lef
       let z : c ≤ 0 = rw (mostC, q) at (w .fits .3) in
       type-row k a b c k 0 0 0 rs _ refl (omega arith) (omega arith) (omega arith) (w .row)
 
+  -- kinds 0 to 13, and kind 14
   tell-plain : (rs : Rows) (k a b c : ℕ) → Says rs (Typ k a b c) → ltb k 14 ≡ true → TypeAt (suc left) rs (plain k) (restOf rs)
   unfolding typeRows typeFits
   tell-plain rs k a b c w h = (low-row rs k a b c (omega (arith, ltb-true k 14 h)) w, deeper and h)
@@ -369,6 +386,7 @@ module _ (left : ℕ) (tell : (rs : Rows) → Tells (TypeAt left rs) (typeOf lef
       ∙ ap (λ (rs : Rows). printType k a (scopeCount ss) 0 ∷ rs) (p .0))
       (most-fits 64 a x and p .1)
 
+  -- kind 18
   tell-pointer :
       (rs : Rows) (a b c : ℕ) → Says rs (Typ 18 a b c) → TypeAt (suc left) rs (pointer a b c) (restOf rs)
   unfolding typeRows typeFits mostA mostB mostC
@@ -387,6 +405,7 @@ module _ (left : ℕ) (tell : (rs : Rows) → Tells (TypeAt left rs) (typeOf lef
           let z : c ≤ most 16 = rw h at (w .fits .3) in
           (type-row 18 a b c 18 1 b c rs _ refl h refl refl (w .row), deeper and most-fits 64 b y and most-fits 16 c z)
 
+  -- what belongs to a T line
   tell-from :
       (rs : Rows) (k a b c : ℕ) → Says rs (Typ k a b c)
       → Tells (TypeAt (suc left) rs) (typeFrom (typeOf left) k a b c (restOf rs))
