@@ -50,7 +50,7 @@ pub leaves-passed : {A : Type 0} {rs : Rows} {g : Reading A} → Leaves rs g →
 leaves-passed (left {ts = us} t) ts e = let z : ts ≡ us = cc in rw z t
 leaves-passed none ts e = let z : _≡_ {A = ℕ} 0 1 = cc in let y : ⊥ = omega arith in absurd y
 
-leaves-on : {A : Type 0} {us rs : Rows} {g : Reading A} → Tail us rs → Leaves us g → Leaves rs g
+pub leaves-on : {A : Type 0} {us rs : Rows} {g : Reading A} → Tail us rs → Leaves us g → Leaves rs g
 leaves-on t (left h) = left (tail-trans h t)
 leaves-on t none = none
 
