@@ -4,7 +4,7 @@ use mathlib.Core.List.{List, [], _∷_}
 use Prim.Native.Nat.{ℕ, _≤_, _<_}
 use native.Mathlib.Omega.{arith}
 use borrow.Author.Tests.{lt-ltb, le-ltb}
-use lib.ListN.{length, take, drop, length-drop}
+use lib.ListN.{length, drop, length-drop}
 use types.Run.{OneOf}
 use denote.Enum.Declared.{tagOf}
 use Rattle.text.specs.Bytes.{Str}
@@ -17,11 +17,11 @@ use Rattle.tree.specs.Tree.{Node, Sheet}
 use Rattle.tree.specs.Reader.{Rows, Reading, got, no, Reader, _then_}
 use Rattle.tree.specs.Read.{nodesOf, sheetOf, Admitted, numbered, admitted}
 use Rattle.tree.specs.Walked.{passed}
-use Rattle.tree.specs.Index.{On, Indexed}
+use Rattle.tree.specs.Index.{On}
 use Rattle.tree.specs.declared.Walk.{Walk}
 use Rattle.tree.specs.declared.Walk.the-variants.{Next, Refused}
 use Rattle.tree.proofs.OtherLines.{not-root}
-use Rattle.sheet.specs.Admission.{verdict, IndexOf, NodesRead}
+use Rattle.sheet.specs.Admission.{verdict, IndexFor, IndexOf, NodesRead}
 use Rattle.sheet.specs.declared.Answer.{Answer}
 use Rattle.sheet.specs.declared.Index.{Index}
 use Rattle.row.specs.declared.Line.the-variants as line
@@ -55,7 +55,7 @@ module _ (s : Str) (short : length s ≤ 65536) (l : Line) (here : l ≡ lineAt 
   no-root n o e = rw (fits, ← here, not-root {A = Reader _} l _ _ o, ← e) (refl, tt)
 
   module _ (is : l ≡ line.Root) (rest : Rows) (after : rest ≡ restOf (rows s)) (w : Walk)
-      (read : NodesRead s w (take (x .count) (x .ids)) (take (x .count) (x .ats)) (nodesOf 64 [] [] rest)) where
+      (read : NodesRead s w x (nodesOf 64 [] [] rest)) where
     made : List Node → Sheet
     made ns = record { root = textAt (rows s); nodes = ns }
 
@@ -68,7 +68,7 @@ module _ (s : Str) (short : length s ≤ 65536) (l : Line) (here : l ≡ lineAt 
     whole-sheet q e = rw nodes-read (go (nodesOf 64 [] [] rest) (rw e at (read .walk)) (read .index))
       where
         go : (g : Reading (List Node)) → got tt (rows (drop q s)) ≡ passed g
-            → On g (λ ns. Indexed s ns (take (x .count) (x .ids)) (take (x .count) (x .ats)))
+            → On g (λ ns. IndexFor s ns x)
             → Says s (numbered s (g then λ ns. got (made ns))) answer.Sheet x
         go (got ns us) h d = (refl, d)
         go (no k us) h d = never cc

@@ -14,6 +14,7 @@ use Rattle.tree.specs.Walked.{walked}
 use Rattle.tree.specs.declared.Walk.{Walk}
 use Rattle.tree.specs.declared.Walk.the-variants.{Next, Refused}
 use Rattle.sheet.specs.Admission.{told, leftAfter, nodeAfter, NodesRead}
+use Rattle.sheet.specs.declared.Index.{Index}
 use Rattle.sheet.proofs.FieldsLaws.{pushed}
 use Rattle.sheet.proofs.NodesLaws.{Standing, standing-first, standing-more, standing-done, standing-no, standing-full}
 use Rattle.sheet.proofs.NodesLaws.{nodes-no}
@@ -21,6 +22,9 @@ use Rattle.sheet.proofs.NodesLaws.{nodes-no}
 -- the reading of all nodes from a position on
 abbrev whole : Str → ℕ → Reading (List Node)
 whole s from = nodesOf 64 [] [] (rows (drop from s))
+
+abbrev index : List ℕ → List ℕ → ℕ → Index
+index ids ats count = record { ids = ids; ats = ats; count = count }
 
 -- at the head of the loop: `count` nodes are read, with n group ids, and the next stands at `at`
 pub record Held (s : Str) (from : ℕ) (ids ats groups : List ℕ) (n count at : ℕ) : Type 0 where
@@ -47,9 +51,9 @@ held-first s from ids ats groups a b c r = record {
 -- no node more
 pub held-full :
     (s : Str) (from : ℕ) (ids ats groups : List ℕ) (n count at : ℕ) → Held s from ids ats groups n count at → 64 ≤ count
-    → NodesRead s (Refused 2 at) (take count ids) (take count ats) (whole s from)
+    → NodesRead s (Refused 2 at) (index ids ats count) (whole s from)
 held-full s from ids ats groups n count at h l =
-    nodes-no s (whole s from) (Refused 2 at) 2 (rows (drop at s)) (take count ids) (take count ats) refl
+    nodes-no s (whole s from) (Refused 2 at) 2 (rows (drop at s)) (index ids ats count) refl
     (standing-full s (whole s from) (64 - count) (take count ids) (take count ats) (take n groups) (rows (drop at s))
     (h .standing) (omega arith))
 
@@ -58,9 +62,9 @@ module _ (s : Str) (from : ℕ) (ids ats groups : List ℕ) (n count at : ℕ) (
     (l : count < 64)
     (w : Walk) (i m : ℕ) (after : List ℕ)
     (read : told s w (i, take m after) ≡ nodeAfter (take count ids) (take n groups) (rows (drop at s))) where
-  pub held-no : (k q : ℕ) → w ≡ Refused k q → NodesRead s (Refused k q) (take count ids) (take count ats) (whole s from)
+  pub held-no : (k q : ℕ) → w ≡ Refused k q → NodesRead s (Refused k q) (index ids ats count) (whole s from)
   held-no k q e =
-      nodes-no s (whole s from) (Refused k q) k (rows (drop q s)) (take count ids) (take count ats) refl
+      nodes-no s (whole s from) (Refused k q) k (rows (drop q s)) (index ids ats count) refl
       (standing-no s (whole s from) (64 - count) (take count ids) (take count ats) (take n groups) (rows (drop at s))
       (h .standing)
       k (rows (drop q s)) (omega arith) (rw e at read))
@@ -77,12 +81,12 @@ module _ (s : Str) (from : ℕ) (ids ats groups : List ℕ) (n count at : ℕ) (
 
     pub held-done :
         length s ≤ q
-        → NodesRead s (Next q) (take (count + 1) (set ids count i)) (take (count + 1) (set ats count at)) (whole s from)
+        → NodesRead s (Next q) (index (set ids count i) (set ats count at) (count + 1)) (whole s from)
     held-done p =
         let d = standing-done s (whole s from) (64 - count) at i (take count ids) (take count ats) (take n groups)
         (take m after)
         (rows (drop q s)) (omega arith) (h .standing) came (rw (rows-out s q p) (omega arith)) in
-        rw (ids-after, ats-after) (record { walk = d .0; index = d .1 })
+        record { walk = d .0; index = rw (ids-after, ats-after) (d .1) }
 
     pub held-next :
         q < length s → length after ≡ length groups → 44 * m + leftAfter s w ≤ 65536
@@ -96,6 +100,7 @@ module _ (s : Str) (from : ℕ) (ids ats groups : List ℕ) (n count at : ℕ) (
           few = omega arith;
           room = rw e at r;
           standing = rw (ids-after, ats-after, ← z)
-              (standing-more s (whole s from) (64 - count) at i (take count ids) (take count ats) (take n groups) (take m after)
+              (standing-more s (whole s from) (64 - count) at i (take count ids) (take count ats) (take n groups)
+              (take m after)
               (rows (drop q s)) (omega arith) (h .standing) came (omega (arith, rows-shrink s q p)));
         }

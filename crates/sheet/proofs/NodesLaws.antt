@@ -25,7 +25,8 @@ use Rattle.tree.proofs.OtherLines.{not-node}
 use Rattle.tree.proofs.WalkLaws.{passed-map}
 use Rattle.tree.proofs.TailLaws.{here, later, Leaves, left, tail-rest, tail-size, leaves-passed, leaves-on, leaves-map}
 use Rattle.tree.proofs.NodeLaws.{Kept, kept-node}
-use Rattle.sheet.specs.Admission.{told, groupsAfter, seenAfter, nodeAfter, NodesRead}
+use Rattle.sheet.specs.Admission.{told, groupsAfter, seenAfter, nodeAfter, IndexFor, NodesRead}
+use Rattle.sheet.specs.declared.Index.{Index}
 use Rattle.row.specs.declared.Line.the-variants as line
 
 never : {A : Type 0} → _≡_ {A = ℕ} 0 1 → A
@@ -150,11 +151,11 @@ module _ (s : Str) (whole : Reading (List Node)) where
         → On (nodesOf more ids seen rs) (λ ns. Indexed s ns is qs) → On whole (λ ns. Indexed s ns (ids ++ is) (ats ++ qs))
 
   -- a reading that is refused has no index
-  pub nodes-no : (w : Walk) (k : ℕ) (q : Rows) (ids ats : List ℕ) → walked s w ≡ no k q → no k q ≡ passed whole
-      → NodesRead s w ids ats whole
-  nodes-no w k q ids ats e h = record { walk = e ∙ h; index = go whole h }
+  pub nodes-no :
+      (w : Walk) (k : ℕ) (q : Rows) (x : Index) → walked s w ≡ no k q → no k q ≡ passed whole → NodesRead s w x whole
+  nodes-no w k q x e h = record { walk = e ∙ h; index = go whole h }
     where
-      go : (g : Reading (List Node)) → no k q ≡ passed g → On g (λ ns. Indexed s ns ids ats)
+      go : (g : Reading (List Node)) → no k q ≡ passed g → On g (λ ns. IndexFor s ns x)
       go (got ns us) h = never cc
       go (no j us) h = tt
 

@@ -21,9 +21,13 @@ abbrev pub verdict : Admitted → Answer
 verdict (sheet sh) = answer.Sheet
 verdict (refused k l) = answer.Refused k l
 
+-- the index of some nodes: the first `count` of its ids and positions
+abbrev pub IndexFor : Str → List Node → Index → Type 0
+IndexFor s ns x = Indexed s ns (take (x .count) (x .ids)) (take (x .count) (x .ats))
+
 -- the index holds the nodes of the tree, if there is one
 abbrev pub IndexOf : Str → Admitted → Index → Type 0
-IndexOf s (sheet sh) x = Indexed s (sh .nodes) (take (x .count) (x .ids)) (take (x .count) (x .ats))
+IndexOf s (sheet sh) x = IndexFor s (sh .nodes) x
 IndexOf s (refused k l) x = Unit {0}
 
 -- a walk that also gives something
@@ -48,6 +52,6 @@ abbrev pub nodeAfter : List ℕ → List ℕ → Reader (ℕ × List ℕ)
 nodeAfter ids seen = mapR (seenAfter seen) (nodeOf ids seen)
 
 -- what a walk over nodes says of their reading: where it came to, and the index
-pub record NodesRead (s : Str) (w : Walk) (ids ats : List ℕ) (g : Reading (List Node)) : Type 0 where
+pub record NodesRead (s : Str) (w : Walk) (x : Index) (g : Reading (List Node)) : Type 0 where
   pub walk : walked s w ≡ passed g
-  pub index : On g (λ ns. Indexed s ns ids ats)
+  pub index : On g (λ ns. IndexFor s ns x)

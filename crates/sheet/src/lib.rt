@@ -84,7 +84,8 @@ pub fn params(s: &[u8], from: usize) -> usize
 // those of this node are put after them. A G row has 44 bytes or more, so there is room for all of a sheet.
 fn fields(s: &[u8], from: usize, groups: &mut [u64], count: usize) -> Run
     requires { ⌜ (length (now groups) ≡ 1489) × (44 * count + size (rows (drop from (now s))) ≤ 65536) ⌝ }
-    ensures read { λ r. ⌜ told (now (s .entry)) (r .walk) (take (r .count) (now (groups .exit))) ≡ groupsAfter (take count (now (groups .entry))) (rows (drop from (now (s .entry)))) ⌝ }
+    ensures read { λ r. ⌜ told (now (s .entry)) (r .walk) (take (r .count) (now (groups .exit)))
+        ≡ groupsAfter (take count (now (groups .entry))) (rows (drop from (now (s .entry)))) ⌝ }
     ensures room { λ r. ⌜ 44 * r .count + leftAfter (now (s .entry)) (r .walk) ≤ 65536 ⌝ }
 {
     let mut at = from;
@@ -138,8 +139,10 @@ fn fields(s: &[u8], from: usize, groups: &mut [u64], count: usize) -> Run
 
 // One node: an N row whose id is none of the first `known` of `ids`, its P rows, its F and G rows.
 fn node(s: &[u8], at: usize, ids: &[u64], known: usize, groups: &mut [u64], count: usize) -> NodeRun
-    requires { ⌜ (known ≤ length (now ids)) × (length (now groups) ≡ 1489) × (44 * count + size (rows (drop at (now s))) ≤ 65536) ⌝ }
-    ensures read { λ r. ⌜ told (now (s .entry)) (r .walk) (r .id, take (r .count) (now (groups .exit))) ≡ nodeAfter (take known (now (ids .entry))) (take count (now (groups .entry))) (rows (drop at (now (s .entry)))) ⌝ }
+    requires { ⌜ (known ≤ length (now ids)) × (length (now groups) ≡ 1489)
+        × (44 * count + size (rows (drop at (now s))) ≤ 65536) ⌝ }
+    ensures read { λ r. ⌜ told (now (s .entry)) (r .walk) (r .id, take (r .count) (now (groups .exit)))
+        ≡ nodeAfter (take known (now (ids .entry))) (take count (now (groups .entry))) (rows (drop at (now (s .entry)))) ⌝ }
     ensures room { λ r. ⌜ 44 * r .count + leftAfter (now (s .entry)) (r .walk) ≤ 65536 ⌝ }
 {
     let g = row::next(s, at);
@@ -180,7 +183,7 @@ fn node(s: &[u8], at: usize, ids: &[u64], known: usize, groups: &mut [u64], coun
 // Nodes up to the end of the sheet, 1 to 64 of them.
 fn nodes(s: &[u8], from: usize) -> IndexRun
     requires { ⌜ size (rows (drop from (now s))) ≤ 65536 ⌝ }
-    ensures { λ r. ⌜ NodesRead (now (s .entry)) (r .walk) (take (r .index .count) (r .index .ids)) (take (r .index .count) (r .index .ats)) (nodesOf 64 [] [] (rows (drop from (now (s .entry))))) ⌝ }
+    ensures { λ r. ⌜ NodesRead (now (s .entry)) (r .walk) (r .index) (nodesOf 64 [] [] (rows (drop from (now (s .entry))))) ⌝ }
 {
     let mut ids = [0u64; 64];
     let mut ats = [0usize; 64];
@@ -230,7 +233,8 @@ fn no_index() -> Index {
 
 // Whether a sheet is admitted, and its index: one R row, then the nodes.
 pub fn admit(s: &[u8]) -> Admission
-    ensures { λ r. ⌜ (r .answer ≡ verdict (admitted (now (s .entry)))) × IndexOf (now (s .entry)) (admitted (now (s .entry))) (r .index) ⌝ }
+    ensures answer { λ r. ⌜ r .answer ≡ verdict (admitted (now (s .entry))) ⌝ }
+    ensures index { λ r. ⌜ IndexOf (now (s .entry)) (admitted (now (s .entry))) (r .index) ⌝ }
 {
     if 65536 < s.len() {
         return Admission {
