@@ -1,7 +1,7 @@
 -- Laws for the loops over columns and texts: what a definition gives from one byte on, by that byte. Assumes nothing.
-use mathlib.Core.Path.{_≡_, refl, sym, _∙_}
+use mathlib.Core.Path.{_≡_, refl, _∙_}
 use mathlib.Core.Bool.{Bool, true, false}
-use mathlib.Core.List.{List, [], _∷_}
+use mathlib.Core.List.{[], _∷_}
 use Prim.Native.Nat.{ℕ, _+_, _-_, _*_, _^_, _≤_, _<_}
 use native.Mathlib.Omega.{arith}
 use native.Mathlib.Nat.{add-sub-cancel-left}
@@ -9,7 +9,7 @@ use native.Mathlib.Numerals.{add-one}
 use lib.ListN.{length, getD, take, drop, drop-of-length-le, length-drop, List·getD-eq-default}
 use lib.Seq.{drop-cons, take-all}
 use borrow.Author.Tests.{eq-eqb, ne-eqb, lt-ltb, le-ltb, le-leb, lt-leb}
-use Rattle.text.specs.Bytes.{Str, cond}
+use Rattle.text.specs.Bytes.{Str, cond, either}
 use Rattle.column.specs.Number.{trimmed, digits, unpadded, within, columnOf}
 use Rattle.column.specs.Texts.{between, isDigit, isWord, isGraphic, all, sized, isName, isGraphicText, endsIn}
 use Rattle.column.specs.declared.Number.{Number}
@@ -24,6 +24,10 @@ between-below lo hi b l = rw (lt-leb lo b l)
 
 pub between-above : (lo hi b : ℕ) → lo ≤ b → hi < b → between lo hi b ≡ false
 between-above lo hi b l h = rw (le-leb lo b l, lt-leb b hi h)
+
+pub either-none : (t : Bool) → either t false ≡ t
+either-none true = refl
+either-none false = refl
 
 module _ (t : Str) (i : ℕ) (h : i < length t) where
   pub all-more : (ok : ℕ → Bool) → ok (getD t i 0) ≡ true → all ok (drop i t) ≡ all ok (drop (i + 1) t)
