@@ -1,10 +1,10 @@
--- `replay::line_end` meets its contract. Assumes nothing.
+-- `programs::line_end` meets its contract. Assumes nothing.
 use borrow.Author.Needs.{needs}
 use Prim.Native.Nat.{_≤_, _-_}
 use native.Mathlib.Omega.{arith}
 use lib.ListN.{length}
-use Rattle.replay.proofs.line_end.Statement.{statement}
-use Rattle.replay.proofs.line_end.Tie as tie
+use Rattle.programs.proofs.line_end.Statement.{statement}
+use Rattle.programs.proofs.line_end.Tie as tie
 
 abbrev Inv-loop : tie.InvT-loop
 Inv-loop s from at₀ at = (from ≤ at) × (at ≤ length s)

@@ -1,11 +1,11 @@
--- `replay::filled` meets its contract: either way the count is at most the buffer's length. Assumes nothing.
+-- `programs::filled` meets its contract: either way the count is at most the buffer's length. Assumes nothing.
 use borrow.Author.Needs.{needs}
 use mathlib.Core.Path.{sym}
 use native.Mathlib.Omega.{arith}
 use lib.Seq.{length-take-le}
 use denote.Ref.{now}
-use Rattle.replay.proofs.filled.Statement.{statement}
-use Rattle.replay.proofs.filled.Tie as tie
+use Rattle.programs.proofs.filled.Statement.{statement}
+use Rattle.programs.proofs.filled.Tie as tie
 
 returns : tie.Need-returns
 returns c = (omega arith, sym (length-take-le _ (now (c .before .before .before .args .buf)) (omega arith)))
