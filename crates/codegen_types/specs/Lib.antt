@@ -1,0 +1,3 @@
+pub mod Out
+pub mod Leaf
+pub mod TypeString
