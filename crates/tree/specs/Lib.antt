@@ -1,1 +1,5 @@
 pub mod Tree
+pub mod Reader
+pub mod Read
+pub mod Print
+pub mod WellFormed
