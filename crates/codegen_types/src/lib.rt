@@ -1,4 +1,10 @@
-// The texts of types: codegen_types.rs of capnpc, without what serves remote calls.
+// `Leaf` of codegen_types.rs of capnpc and the texts that depend on it alone. The definitions of `type_string` and `do_branding`
+// stand in specs/; the code that meets them is in the crates type_refusal and type_string.
+use text::Text;
+ghost use mathlib.Core.List.{_++_};
+ghost use Rattle.text.specs.Bytes.{ascii};
+ghost use Rattle.text.specs.Text.{Wrote};
+ghost use Rattle.codegen_types.specs.Leaf.{bareName, display, lifetimeComma};
 
 // The lifetimes that are asked for: 'a and '_.
 pub enum Lifetime {
@@ -16,4 +22,50 @@ pub enum Leaf {
     ServerDispatch,
     Pipeline,
     GetType,
+}
+
+impl Leaf {
+    // Display for Leaf.
+    pub fn display(self, t: Text, buf: &mut [u8]) -> Text
+        ensures { λ r. ⌜ Wrote (now (buf .entry)) t (display self) (now (buf .exit)) r ⌝ }
+    {
+        match self {
+            Leaf::Reader(lifetime) => match lifetime {
+                Lifetime::A => t.bytes(buf, b"Reader<'a>"),
+                Lifetime::Anonymous => t.bytes(buf, b"Reader<'_>"),
+            },
+            Leaf::Builder(lifetime) => match lifetime {
+                Lifetime::A => t.bytes(buf, b"Builder<'a>"),
+                Lifetime::Anonymous => t.bytes(buf, b"Builder<'_>"),
+            },
+            Leaf::Owned => t.bytes(buf, b"Owned"),
+            Leaf::Client => t.bytes(buf, b"Client"),
+            Leaf::Server => t.bytes(buf, b"Server"),
+            Leaf::ServerDispatch => t.bytes(buf, b"ServerDispatch"),
+            Leaf::Pipeline => t.bytes(buf, b"Pipeline"),
+            Leaf::GetType => t.bytes(buf, b"get_type"),
+        }
+    }
+
+    // What a list writes of its leaf, up to its element: the bare name, `<` and the lifetime with its comma.
+    pub fn list_leaf(self, t: Text, buf: &mut [u8]) -> Text
+        ensures { λ r. ⌜ Wrote (now (buf .entry)) t (bareName self ++ ascii "<" ++ lifetimeComma self) (now (buf .exit)) r ⌝ }
+    {
+        match self {
+            Leaf::Reader(lifetime) => match lifetime {
+                Lifetime::A => t.bytes(buf, b"Reader<'a,"),
+                Lifetime::Anonymous => t.bytes(buf, b"Reader<'_,"),
+            },
+            Leaf::Builder(lifetime) => match lifetime {
+                Lifetime::A => t.bytes(buf, b"Builder<'a,"),
+                Lifetime::Anonymous => t.bytes(buf, b"Builder<'_,"),
+            },
+            Leaf::Owned => t.bytes(buf, b"Owned<"),
+            Leaf::Client => t.bytes(buf, b"Client<"),
+            Leaf::Server => t.bytes(buf, b"Server<"),
+            Leaf::ServerDispatch => t.bytes(buf, b"ServerDispatch<"),
+            Leaf::Pipeline => t.bytes(buf, b"Pipeline<"),
+            Leaf::GetType => t.bytes(buf, b"get_type<"),
+        }
+    }
 }
