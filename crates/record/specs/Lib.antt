@@ -1,0 +1,5 @@
+pub mod Bits
+pub mod Offsets
+pub mod Record
+pub mod Answers
+pub mod Calls
