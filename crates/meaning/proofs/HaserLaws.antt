@@ -5,10 +5,10 @@ use mathlib.Core.Option.{Option, none, some}
 use mathlib.Core.List.{List, [], _∷_, _++_}
 use Prim.Native.Nat.{ℕ}
 use lib.Dec.{eqb}
-use lib.ListN.{replicate}
 use Rattle.text.specs.Bytes.{Str, ascii, cond}
+use Rattle.text.specs.Lines.{spaces}
 use Rattle.record.specs.Calls.{notNull, tagTest}
-use Rattle.record.specs.Lines.{Tag, indented, functionText, haserLines, haserText}
+use Rattle.record.specs.Lines.{Tag, functionText, haserBody, haserText}
 use Rattle.record.specs.Record.{Record, mapO, get, null}
 use Rattle.record.specs.Types.{tagPlace}
 use Rattle.record.specs.declared.PointerOffset.{PointerOffset}
@@ -18,10 +18,14 @@ use Rattle.meaning.specs.Claims.{hasAnswer, HaserHolds, TagHolds}
 use Rattle.meaning.specs.Meaning as meaning
 use Rattle.meaning.specs.Meaning.{Test, nullTest, tests, whole, lines, trim, inner, testsOf, runTests, runHaser}
 use Rattle.meaning.proofs.CallLaws.{tests-null, tests-tag}
-use Rattle.meaning.proofs.LineLaws.{Wholes, whole-null, whole-tag}
+use Rattle.meaning.proofs.LineLaws.{Wholes, whole-null, whole-tag, indented}
 use Rattle.meaning.proofs.SetLaws.{function-inner}
 
--- the lines' tests
+-- the lines of a haser's body, and their tests
+abbrev haserLines : Bool → Option Tag → ℕ → List Str
+haserLines isReader none i = notNull isReader i ∷ []
+haserLines isReader (some t) i = tagTest isReader (t .0) (t .1) ∷ notNull isReader i ∷ []
+
 abbrev testsFor : Option Tag → ℕ → List Test
 testsFor none i = nullTest (record { 0 = i }) ∷ []
 testsFor (some t) i = meaning.tagTest (t .0) (t .1) ∷ nullTest (record { 0 = i }) ∷ []
@@ -38,7 +42,7 @@ tests-of-null true i = rw (tests-null true i)
 tests-of-null false i = rw (tests-null false i)
 
 tests-of-tag : (isReader : Bool) (o n : ℕ) (more : List Str) (ts : List Test) → testsOf more ≡ some ts
-    → testsOf ((replicate 4 32 ++ tagTest isReader o n) ∷ more) ≡ some (meaning.tagTest o n ∷ ts)
+    → testsOf ((spaces 4 ++ tagTest isReader o n) ∷ more) ≡ some (meaning.tagTest o n ∷ ts)
 unfolding testsOf tagTest
 tests-of-tag true o n more ts e = rw (tests-tag true o n, e)
 tests-of-tag false o n more ts e = rw (tests-tag false o n, e)

@@ -2,17 +2,18 @@
 use mathlib.Core.Path.{_≡_, refl, sym, ap, ap₂, _∙_, fun-ext}
 use mathlib.Core.Bool.{Bool, true, false}
 use mathlib.Core.Option.{Option, none, some}
-use mathlib.Core.List.{List, [], _∷_, _++_}
+use mathlib.Core.List.{List, [], _∷_, _++_, append-assoc}
 use Prim.Native.Nat.{ℕ, zero, suc, _+_, _-_, _/_, _%_, _^_, _≤_, _<_}
 use native.Mathlib.Omega.{arith}
 use lib.Dec.{eqb, ltb}
-use lib.ListN.{replicate}
 use borrow.Author.Tests.{ne-eqb, ltb-true, ltb-false}
-use Rattle.text.specs.Bytes.{Str, ascii, cond, both}
+use Rattle.text.specs.Bytes.{Str, ascii, unit, cond, both}
 use Rattle.text.specs.Decimal.{decimal, signed}
+use Rattle.text.specs.Lines.{FormattedText, toLines, stringify, spaces, ended}
+use Rattle.text.proofs.LinesLaws.{stringify-lines}
 use Rattle.text.proofs.DecimalLaws.{decimal-low, decimal-high, signed-low, signed-high}
 use Rattle.record.specs.Calls.{member, getBoolField, getDataField, setBoolField, setDataField, setTag, zeroTag, clearPointer, notNull, tagTest}
-use Rattle.record.specs.Lines.{Zero, ofSlot, ofTag, ofPointer, getLine, setLine, zeroLine, zeroText, unlines, indented}
+use Rattle.record.specs.Lines.{Zero, ofSlot, ofTag, ofPointer, getLine, setLine, zeroLine, zeroText}
 use Rattle.record.specs.Masks.{halfOf, getMaskText, setMaskText, maskBits}
 use Rattle.record.specs.Record.{Record, mapO}
 use Rattle.record.specs.Types.{Num, int, uint, float32, float64, nameOf, Kind, bool, num, enum, placeOf, tagPlace}
@@ -179,24 +180,38 @@ pub data Wholes : List Str → Type 0 where
   add : (l : Str) {ls : List Str} → whole l ≡ true → Wholes ls → Wholes (l ∷ ls)
 
 -- the lines of a text are those that it was made of
-pub lines-unlines : {ls : List Str} → Wholes ls → lines (unlines ls) ≡ ls
-lines-unlines nil = refl
-lines-unlines (add l {ls = ls} h w) = line-end l (unlines ls) h ∙ ap (λ (x : List Str). l ∷ x) (lines-unlines w)
+pub lines-ended : {ls : List Str} → Wholes ls → lines (ended ls) ≡ ls
+unfolding ended
+lines-ended nil = refl
+lines-ended (add l {ls = ls} h w) = line-end l (ended ls) h ∙ ap (λ (x : List Str). l ∷ x) (lines-ended w)
 
-trim-spaces : (n : ℕ) (l : Str) → trim (replicate n 32 ++ l) ≡ trim l
+pub lines-stringify : (ft : FormattedText) (l : Str) (ls : List Str) → toLines ft 0 ≡ l ∷ ls → Wholes (l ∷ ls) → lines (stringify ft) ≡ l ∷ ls
+lines-stringify ft l ls e w =
+    ap (λ (s : Str). lines s) (stringify-lines ft (λ n. let z : _≡_ {A = ℕ} 0 1 = cc in omega arith) ∙ ap ended e) ∙ lines-ended w
+
+-- a first line, then a text
+pub lines-first : (l s : Str) → whole l ≡ true → lines (l ++ unit 10 ++ s) ≡ l ∷ lines s
+lines-first l s h = ap (λ (t : Str). lines t) (append-assoc l (unit 10) s) ∙ line-end l s h
+
+-- lines moved in
+abbrev pub indented : ℕ → List Str → List Str
+indented n [] = []
+indented n (l ∷ ls) = (spaces n ++ l) ∷ indented n ls
+
+trim-spaces : (n : ℕ) (l : Str) → trim (spaces n ++ l) ≡ trim l
 trim-spaces zero l = refl
 trim-spaces (suc n) l = trim-spaces n l
 
-pub trim-indented : (n : ℕ) (l : Str) → trim l ≡ l → trim (replicate n 32 ++ l) ≡ l
+pub trim-indented : (n : ℕ) (l : Str) → trim l ≡ l → trim (spaces n ++ l) ≡ l
 trim-indented n l e = trim-spaces n l ∙ e
 
-pub whole-indented : (n : ℕ) (l : Str) → whole (replicate n 32 ++ l) ≡ whole l
+pub whole-indented : (n : ℕ) (l : Str) → whole (spaces n ++ l) ≡ whole l
 whole-indented zero l = refl
 whole-indented (suc n) l = whole-indented n l
 
 pub wholes-indented : (n : ℕ) {ls more : List Str} → Wholes ls → Wholes more → Wholes (indented n ls ++ more)
 wholes-indented n nil w = w
-wholes-indented n (add l h t) w = add (replicate n 32 ++ l) (whole-indented n l ∙ h) (wholes-indented n t w)
+wholes-indented n (add l h t) w = add (spaces n ++ l) (whole-indented n l ∙ h) (wholes-indented n t w)
 
 -- ---- what lines do
 

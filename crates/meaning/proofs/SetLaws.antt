@@ -10,7 +10,9 @@ use lib.Bits.{bitXor}
 use lib.ListN.{length}
 use lib.Pow.{pow-pos}
 use Rattle.text.specs.Bytes.{Str, ascii}
-use Rattle.record.specs.Lines.{Tag, getLine, setLine, tagLines, indented, unlines, functionText, setterText, voidSetterText, getterText}
+use Rattle.text.specs.Lines.{FormattedTexts, Indent, Branch, Line, none as noMore, _&_, toLines, flatMap, stringify, spaces}
+use Rattle.record.specs.Calls.{setTag}
+use Rattle.record.specs.Lines.{Tag, getLine, setLine, tagThen, functionText, setterText, voidSetterText, getterText}
 use Rattle.record.specs.Masks.{getMaskText, setMaskText, maskBits}
 use Rattle.record.specs.Offsets.{size}
 use Rattle.record.specs.Record.{Record, mapO, get, Has, Clear, Holds, Same}
@@ -20,24 +22,37 @@ use Rattle.meaning.specs.Reading.{bindO, value, constant}
 use Rattle.meaning.specs.Claims.{Fits, TagFits, TagHolds, TagHas, TagClear, TagIs, SetGet, SetGetHolds, VoidSetHolds}
 use Rattle.meaning.specs.Meaning.{Op, setOp, whole, lines, inner, getsIn, single, allGets, afterFirst, runOp, runLines, runSetter, runGetter}
 use Rattle.meaning.proofs.CallLaws.{gets-line}
-use Rattle.meaning.proofs.LineLaws.{Wholes, whole-get, lines-unlines, wholes-indented, Says, says-set, says-tag, Saying, wholes-saying, runOps, run-lines, inner-body}
+use Rattle.meaning.proofs.LineLaws.{Wholes, whole-get, lines-stringify, lines-first, indented, wholes-indented, Says, says-set, says-tag, Saying, wholes-saying, runOps, run-lines, inner-body}
 use Rattle.meaning.proofs.MaskLaws.{slot-size, mask-below}
 
 -- ---- a function's text
 
+-- lines as the trees of a body
+abbrev pub body : List Str → FormattedTexts
+body [] = noMore
+body (l ∷ ls) = Line l & body ls
+
+body-lines : (ls : List Str) → flatMap (body ls) 1 ≡ indented 4 ls
+unfolding toLines flatMap
+body-lines [] = refl
+body-lines (l ∷ ls) = ap (λ (x : List Str). (spaces 4 ++ l) ∷ x) (body-lines ls)
+
 -- the lines between the first two and the last
-pub function-inner : (opening : Str) (body : List Str) → whole opening ≡ true → Wholes body
-    → inner (lines (functionText opening body)) ≡ some (indented 4 body)
-unfolding functionText
-function-inner opening body h w =
+pub function-inner : (opening : Str) (ls : List Str) → whole opening ≡ true → Wholes ls
+    → inner (lines (functionText opening (body ls))) ≡ some (indented 4 ls)
+unfolding functionText toLines flatMap
+function-inner opening ls h w =
     ap inner
-    (lines-unlines
+    (lines-stringify
+    (Branch (Line (ascii "#[inline]") & Line opening & Indent (Branch (body ls)) & Line (ascii "}") & noMore))
+    (ascii "#[inline]") (opening ∷ (indented 4 ls ++ (ascii "}" ∷ [])))
+    (ap (λ (x : List Str). ascii "#[inline]" ∷ opening ∷ (x ++ (ascii "}" ∷ []))) (body-lines ls))
     (Wholes.add (ascii "#[inline]") refl (Wholes.add opening h (wholes-indented 4 w (Wholes.add (ascii "}") refl Wholes.nil)))))
-    ∙ inner-body (ascii "#[inline]") opening (ascii "}") (indented 4 body)
+    ∙ inner-body (ascii "#[inline]") opening (ascii "}") (indented 4 ls)
 
 -- a setter's text does what its lines say
 pub setter-runs : {ls : List Str} {os : List Op} (opening : Str) → whole opening ≡ true → Saying ls os → (v : ℕ) (r : Record)
-    → runSetter (functionText opening ls) v r ≡ runOps (some v) os r
+    → runSetter (functionText opening (body ls)) v r ≡ runOps (some v) os r
 unfolding runSetter
 setter-runs {ls} opening h s v r = rw (function-inner opening ls h (wholes-saying s)) (run-lines (some v) 4 s r)
 
@@ -47,7 +62,9 @@ pub getter-answers : (typ : Str) → whole typ ≡ true → (isReader : Bool) (k
 unfolding runGetter getterText
 getter-answers typ h isReader k o m f r =
     let l : Str = getLine isReader k o (mapO (getMaskText k) m) in
-    rw (lines-unlines (Wholes.add typ h (Wholes.add l (whole-get isReader k o m) Wholes.nil)), gets-line isReader k o m f)
+    let code : lines (stringify (Line l)) ≡ l ∷ [] =
+    lines-stringify (Line l) l [] (unfold toLines in refl) (Wholes.add l (whole-get isReader k o m) Wholes.nil) in
+    rw (lines-first typ (stringify (Line l)) h, code, gets-line isReader k o m f)
 
 -- ---- the tag
 
@@ -67,22 +84,37 @@ tag-is : (tag : Option Tag) (r : Record) → TagFits tag → TagHolds tag r → 
 tag-is none r f h = tt
 tag-is (some t) r f h = get-set (tagPlace (t .0)) (t .1) 0 r h f
 
+-- the lines of a setter's body
+abbrev tagLines : Option Tag → List Str → List Str
+tagLines none more = more
+tagLines (some t) more = setTag (t .0) (t .1) ∷ more
+
+body-tag : (tag : Option Tag) (more : List Str) → tagThen tag (body more) ≡ body (tagLines tag more)
+body-tag none more = refl
+body-tag (some t) more = refl
+
+saying-tag : (tag : Option Tag) → TagFits tag → {ls : List Str} {os : List Op} → Saying ls os → Saying (tagLines tag ls) (tagOps tag ++ os)
+saying-tag none f s = s
+saying-tag (some t) f s = Saying.add (says-tag (t .0) (t .1) f) s
+
+-- a setter's text: its tag, then what its other lines say
+pub tagged-runs : {ls : List Str} {os : List Op} (opening : Str) → whole opening ≡ true → (tag : Option Tag) → TagFits tag → Saying ls os
+    → (v : ℕ) (r : Record) → runSetter (functionText opening (tagThen tag (body ls))) v r ≡ runOps (some v) (tagOps tag ++ os) r
+tagged-runs {ls} opening h tag f s v r =
+    ap (λ (b : FormattedTexts). runSetter (functionText opening b) v r) (body-tag tag ls) ∙ setter-runs opening h (saying-tag tag f s) v r
+
 -- ---- the Void setter
 
-saying-tag : (tag : Option Tag) → TagFits tag → Saying (tagLines tag) (tagOps tag)
-saying-tag none f = Saying.nil
-saying-tag (some t) f = Saying.add (says-tag (t .0) (t .1) f) Saying.nil
-
-run-tag : (v : Option ℕ) (tag : Option Tag) (r : Record) → TagHolds tag r → runOps v (tagOps tag) r ≡ some (tagged tag r)
+run-tag : (v : Option ℕ) (tag : Option Tag) (os : List Op) (r : Record) → TagHolds tag r → runOps v (tagOps tag ++ os) r ≡ runOps v os (tagged tag r)
 unfolding runOps runOp
-run-tag v none r h = refl
-run-tag v (some t) r h = rw (put-inside (tagPlace (t .0)) (t .1) 0 r h)
+run-tag v none os r h = refl
+run-tag v (some t) os r h = rw (put-inside (tagPlace (t .0)) (t .1) 0 r h)
 
 pub void-set-holds : VoidSetHolds
 void-set-holds opening tag v r h f t =
     record {
       left = tagged tag r;
-      runs = setter-runs opening h (saying-tag tag f) v r ∙ run-tag (some v) tag r t;
+      runs = tagged-runs opening h tag f Saying.nil v r ∙ run-tag (some v) tag [] r t ∙ (unfold runOps in refl);
       same = tag-same tag r t;
       tagged = tag-is tag r f t;
     }
@@ -90,31 +122,13 @@ void-set-holds opening tag v r h f t =
 -- ---- set and get
 
 module _ (tag : Option Tag) (k : Kind) (o : ℕ) (ms : Option ℕ) where
-  setOps : List Op
-  setOps = tagOps tag ++ (setOp (placeOf k o) value (maskBits ms) ∷ [])
+  saying-set : Fits k ms → Saying (setLine k o (mapO (setMaskText k) ms) ∷ []) (setOp (placeOf k o) value (maskBits ms) ∷ [])
+  saying-set h = Saying.add (says-set k o ms h) Saying.nil
 
-  saying-set : TagFits tag → Fits k ms → Saying (tagLines tag ++ (setLine k o (mapO (setMaskText k) ms) ∷ [])) setOps
-  unfolding setOps
-  saying-set f h = go tag f
-    where
-      go : (tag : Option Tag) → TagFits tag
-          → Saying (tagLines tag ++ (setLine k o (mapO (setMaskText k) ms) ∷ [])) (tagOps tag ++ (setOp (placeOf k o) value (maskBits ms) ∷ []))
-      go none f = Saying.add (says-set k o ms h) Saying.nil
-      go (some t) f = Saying.add (says-tag (t .0) (t .1) f) (Saying.add (says-set k o ms h) Saying.nil)
-
-  run-set : (v : ℕ) (r : Record) → TagHolds tag r → Holds (placeOf k o) r
-      → runOps (some v) setOps r ≡ some (after (placeOf k o) v (maskBits ms) (tagged tag r))
-  unfolding setOps runOps runOp
-  run-set v r t h = go tag t
-    where
-      go : (tag : Option Tag) → TagHolds tag r
-          → runOps (some v) (tagOps tag ++ (setOp (placeOf k o) value (maskBits ms) ∷ [])) r ≡ some (after (placeOf k o) v (maskBits ms) (tagged tag r))
-      go none t = rw (put-inside (placeOf k o) v (maskBits ms) r h)
-      go (some x) t =
-          rw (
-            put-inside (tagPlace (x .0)) (x .1) 0 r t,
-            put-inside (placeOf k o) v (maskBits ms) (after (tagPlace (x .0)) (x .1) 0 r) (rw (after-length (tagPlace (x .0)) (x .1) 0 r t) h),
-          )
+  run-set : (v : ℕ) (r : Record) → Holds (placeOf k o) r
+      → runOps (some v) (setOp (placeOf k o) value (maskBits ms) ∷ []) r ≡ some (after (placeOf k o) v (maskBits ms) r)
+  unfolding runOps runOp
+  run-set v r h = rw (put-inside (placeOf k o) v (maskBits ms) r h)
 
   -- the tag stands after the set, where the two have no bit in common
   tag-stays : (v : ℕ) (r : Record) → TagFits tag → TagHolds tag r → Holds (placeOf k o) (tagged tag r) → TagClear tag (placeOf k o)
@@ -137,7 +151,10 @@ set-get-holds opening tag k o ms mg v r h f fs fg hv hp t =
     let n = slot-size k o in
     record {
       left = after p v (maskBits ms) (tagged tag r);
-      runs = setter-runs opening h (saying-set tag k o ms f fs) v r ∙ run-set tag k o ms v r t hp;
+      runs =
+          tagged-runs opening h tag f (saying-set tag k o ms fs) v r
+          ∙ run-tag (some v) tag (setOp p value (maskBits ms) ∷ []) r t
+          ∙ run-set tag k o ms v (tagged tag r) h′;
       answers = λ typ w isReader.
           getter-answers typ w isReader k o mg fg (after p v (maskBits ms) (tagged tag r))
           ∙ get-after p v (maskBits ms) (tagged tag r) h′ (maskBits mg) (rw n hv) (rw n (mask-below k ms fs)) (rw n (mask-below k mg fg));

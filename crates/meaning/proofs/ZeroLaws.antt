@@ -12,9 +12,11 @@ use lib.Bits.{bitXor, xor-zero-l}
 use lib.ListN.{length, getD, replicate}
 use lib.Pow.{pow-pos}
 use Rattle.text.specs.Bytes.{Str}
+use Rattle.text.specs.Lines.{FormattedText, toLines, stringify}
+use Rattle.text.proofs.LinesLaws.{stringify-none}
 use Rattle.record.specs.Bits.{toBits}
 use Rattle.record.specs.Calls.{clearPointer}
-use Rattle.record.specs.Lines.{Zero, ofSlot, ofTag, ofPointer, zeroLine, zeroText, zeroTexts, unlines, indented, stringify}
+use Rattle.record.specs.Lines.{Zero, ofSlot, ofTag, ofPointer, zeroLine, zeroText, zeroTexts}
 use Rattle.record.specs.Masks.{maskBits}
 use Rattle.record.specs.Offsets.{Place, from, size}
 use Rattle.record.specs.Record.{Record, coded, get, null, Has, Holds, HoldsPointer}
@@ -27,7 +29,7 @@ use Rattle.meaning.specs.Claims.{Fits, In, HoldsZero, ZeroHas, ZeroClear
 use Rattle.meaning.specs.Meaning.{Op, setOp, clearOp, writes, lines, runOp, runLine, runLines, runZeroing}
 use Rattle.meaning.specs.Reading.{bindO, Arg, constant}
 use Rattle.meaning.proofs.HaserLaws.{haser-null}
-use Rattle.meaning.proofs.LineLaws.{Says, says-zero, zeroOp, Saying, wholes-saying, lines-unlines, runOps, run-lines}
+use Rattle.meaning.proofs.LineLaws.{Says, says-zero, zeroOp, Saying, wholes-saying, lines-stringify, indented, runOps, run-lines}
 use Rattle.meaning.proofs.MaskLaws.{slot-size, mask-below}
 use Rattle.meaning.proofs.SetLaws.{getter-answers}
 
@@ -183,12 +185,12 @@ indented-none : (ls : List Str) → indented 0 ls ≡ ls
 indented-none [] = refl
 indented-none (l ∷ ls) = ap (λ (x : List Str). l ∷ x) (indented-none ls)
 
-zeroing-runs : (zs : List Zero) (r : Record) → runZeroing (stringify (zeroTexts zs)) r ≡ runOps none (ops zs) r
+zeroing-runs : (zs : List Zero) (ft : FormattedText) (r : Record) → toLines ft 0 ≡ zeroTexts zs → runZeroing (stringify ft) r ≡ runOps none (ops zs) r
 unfolding runZeroing runLines runLine runOps
-zeroing-runs [] r = refl
-zeroing-runs (z ∷ zs) r =
+zeroing-runs [] ft r e = rw (stringify-none ft e)
+zeroing-runs (z ∷ zs) ft r e =
     ap (λ (x : List Str). runLines none x r)
-    (lines-unlines (wholes-saying (saying-zeros (z ∷ zs))) ∙ sym (indented-none (zeroTexts (z ∷ zs))))
+    (lines-stringify ft (zeroText z) (zeroTexts zs) e (wholes-saying (saying-zeros (z ∷ zs))) ∙ sym (indented-none (zeroTexts (z ∷ zs))))
     ∙ run-lines none 0 (saying-zeros (z ∷ zs)) r
 
 -- a line that is among the lines is one of their zeros', with the same operation
@@ -268,11 +270,11 @@ module _ (zs : List Zero) (r : Record) (h : Holding zs r) where
       let s : Null left i = steps-make (λ x. Null x i) (y .0) (λ z x g. step-null z x g i) (λ x g. step-clears (y .0) x g i m) zs r h (y .1) in
       null-flag (record { 0 = i }) left (rw (lengths .1) (subst (λ (x : Op). OpHolds x r) (y .2) g)) ∙ rw s
 
-  pub zeroed : Zeroed zs r
+  pub zeroed : (ft : FormattedText) → toLines ft 0 ≡ zeroTexts zs → Zeroed zs ft r
   unfolding left
-  zeroed = record {
+  zeroed ft e = record {
     left = left;
-    runs = zeroing-runs zs r ∙ steps-run zs r h;
+    runs = zeroing-runs zs ft r e ∙ steps-run zs r h;
     defaults = λ k o i mg f typ w isReader.
         getter-answers typ w isReader k o mg f left
         ∙ get-off (placeOf k o) (maskBits mg) left (slot-holds k o i) (rw (slot-size k o) (mask-below k mg f)) (slot-off k o i);
@@ -284,4 +286,4 @@ module _ (zs : List Zero) (r : Record) (h : Holding zs r) where
   }
 
 pub zeroing-holds : ZeroingHolds
-zeroing-holds zs r h = zeroed zs r h
+zeroing-holds zs ft r e h = zeroed zs r h ft e

@@ -10,8 +10,9 @@ use lib.Bits.{bitXor}
 use lib.Dec.{eqb}
 use lib.ListN.{length, getD}
 use Rattle.text.specs.Bytes.{Str, cond}
+use Rattle.text.specs.Lines.{FormattedText, toLines, stringify}
 use Rattle.record.specs.Calls.{clearPointer}
-use Rattle.record.specs.Lines.{Tag, getLine, setterText, voidSetterText, getterText, haserText, Zero, ofSlot, ofTag, ofPointer, zeroLine, zeroTexts, stringify}
+use Rattle.record.specs.Lines.{Tag, getLine, setterText, voidSetterText, getterText, haserText, Zero, ofSlot, ofTag, ofPointer, zeroLine, zeroTexts}
 use Rattle.record.specs.Masks.{getMask, setMask, getMaskText, setMaskText, maskBits}
 use Rattle.record.specs.Offsets.{Place}
 use Rattle.record.specs.Record.{Record, mapO, get, null, Has, Clear, Holds, HoldsPointer, Same}
@@ -131,9 +132,9 @@ ZeroClears (ofPointer i) j = j ≡ i
 
 -- The zeroing's text runs. A slot with bits whose line is among its lines then reads as its default, the getter's mask; a pointer slot
 -- tests absent, and each of its hasers says false if its tag can be read. What no line touches stays.
-pub record Zeroed (zs : List Zero) (r : Record) : Type 0 where
+pub record Zeroed (zs : List Zero) (ft : FormattedText) (r : Record) : Type 0 where
   pub left : Record
-  pub runs : runZeroing (stringify (zeroTexts zs)) r ≡ some left
+  pub runs : runZeroing (stringify ft) r ≡ some left
   pub defaults : (k : Kind) (o : ℕ) → In (zeroLine k o) (zeroTexts zs) → (mg : Option ℕ) → Fits k mg
       → (typ : Str) → whole typ ≡ true → (isReader : Bool)
       → runGetter (getterText typ (getLine isReader k o (mapO (getMaskText k) mg))) left ≡ some (maskBits mg)
@@ -144,5 +145,7 @@ pub record Zeroed (zs : List Zero) (r : Record) : Type 0 where
   pub bits-same : (b : ℕ) → ((z : Zero) → In z zs → ZeroHas z b → ⊥) → getD (left .bits) b false ≡ getD (r .bits) b false
   pub pointers-same : (j : ℕ) → ((z : Zero) → In z zs → ZeroClears z j → ⊥) → getD (left .pointers) j false ≡ getD (r .pointers) j false
 
+-- for every tree of code whose lines are those of zeros, and every record that is long enough
 abbrev pub ZeroingHolds : Type 0
-ZeroingHolds = (zs : List Zero) (r : Record) → ((z : Zero) → In z zs → HoldsZero z r) → Zeroed zs r
+ZeroingHolds =
+    (zs : List Zero) (ft : FormattedText) (r : Record) → toLines ft 0 ≡ zeroTexts zs → ((z : Zero) → In z zs → HoldsZero z r) → Zeroed zs ft r

@@ -10,9 +10,10 @@ use lib.Dec.{eqb}
 use lib.ListN.{replicate}
 use Rattle.text.specs.Bytes.{Str, ascii, both, same}
 use Rattle.text.specs.Decimal.{decimal, signed}
+use Rattle.text.specs.Lines.{FormattedTexts, Branch, Line, none as noMore, _&_, toLines, flatMap, join, stringify}
 use Rattle.record.specs.Bits.{sectionBits}
 use Rattle.record.specs.Calls.{getBoolField, getDataField, setBoolField, setDataField, clearPointer, notNull, tagTest}
-use Rattle.record.specs.Lines.{getLine, setLine, functionText, setterText, getterText, haserText, Zero, ofSlot, ofTag, ofPointer, zeroTexts, stringify}
+use Rattle.record.specs.Lines.{getLine, setLine, functionText, setterText, getterText, haserText, Zero, ofSlot, ofTag, ofPointer, zeroText}
 use Rattle.record.specs.Masks.{getMask, setMask, getMaskText, setMaskText}
 use Rattle.record.specs.Record.{Record, mapO, found, stored, getBits, putBits, nullFlag, clearFlag}
 use Rattle.record.specs.Types.{Num, int, uint, float32, Kind, bool, num, enum}
@@ -77,7 +78,7 @@ right x =
     let get : Str = getLine true (x .kind) (x .offset) (mapO (getMaskText (x .kind)) (getMask (x .kind) (x .default) (x .explicit))) in
     both (same set (ascii (x .setter)))
     (both (same get (ascii (x .getter)))
-    (is (bindO (runSetter (functionText (ascii "pub fn set_x(&mut self, value: T)  {") (set ∷ [])) (x .writes) some16) (runGetter (getterText (ascii "T") get)))
+    (is (bindO (runSetter (functionText (ascii "pub fn set_x(&mut self, value: T)  {") (Line set & noMore)) (x .writes) some16) (runGetter (getterText (ascii "T") get)))
     (x .reads)))
 
 abbrev pub all : {A : Type 0} → (A → Bool) → List A → Bool
@@ -85,7 +86,7 @@ all f [] = true
 all f (x ∷ l) = both (f x) (all f l)
 
 pub rows-right : all right rows ≡ true
-unfolding same decimal signed getBoolField getDataField setBoolField setDataField functionText getterText getMaskText setMaskText found stored getBits putBits
+unfolding toLines flatMap join stringify same decimal signed getBoolField getDataField setBoolField setDataField functionText getterText getMaskText setMaskText found stored getBits putBits
     typeName truth getMaskOf setMaskOf dataArg boolArg writes gets getsIn runOp runLine runLines runSetter runGetter
 rows-right = refl
 
@@ -93,7 +94,7 @@ rows-right = refl
 
 -- a setter with this line, run on the sixteen bytes
 abbrev pub setWith : String → Option Record
-setWith l = runSetter (functionText (ascii "pub fn set_x(&mut self, value: T)  {") (ascii l ∷ [])) 1 some16
+setWith l = runSetter (functionText (ascii "pub fn set_x(&mut self, value: T)  {") (Line (ascii l) & noMore)) 1 some16
 
 abbrev pub noSet : String → Bool
 noSet l = fails (setWith l)
@@ -125,7 +126,7 @@ noSets =
     ∷ []
 
 pub no-sets : all noSet noSets ≡ true
-unfolding functionText found stored getBits putBits clearFlag typeName truth getMaskOf setMaskOf dataArg boolArg writes runOp runLine runLines runSetter
+unfolding toLines flatMap join stringify functionText found stored getBits putBits clearFlag typeName truth getMaskOf setMaskOf dataArg boolArg writes runOp runLine runLines runSetter
 no-sets = refl
 
 -- a getter with two gets has no meaning, nor has one with none
@@ -140,17 +141,21 @@ no-get = refl
 -- ---- a haser of the second pointer in a union, whose tag is 42405 = 165 * 257; a zeroing
 
 pub has-second : runHaser (haserText (ascii "pub fn has_x(&self) -> bool {") true (some (3, 42405)) 1) some16 ≡ some true
-unfolding decimal notNull tagTest functionText found getBits nullFlag typeName tests testsOf runTests runHaser
+unfolding toLines flatMap join stringify decimal notNull tagTest functionText found getBits nullFlag typeName tests testsOf runTests runHaser
 has-second = refl
 
 pub has-other-tag : runHaser (haserText (ascii "pub fn has_x(&self) -> bool {") false (some (3, 7)) 1) some16 ≡ some false
-unfolding decimal notNull tagTest functionText found getBits nullFlag typeName tests testsOf runTests runHaser
+unfolding toLines flatMap join stringify decimal notNull tagTest functionText found getBits nullFlag typeName tests testsOf runTests runHaser
 has-other-tag = refl
+
+abbrev pub zeros : List Zero → FormattedTexts
+zeros [] = noMore
+zeros (z ∷ zs) = Line (zeroText z) & zeros zs
 
 -- an element of two bytes zeroed as a number, as an enum and as a tag; a Bool; the second pointer
 pub zeroed :
     mapO (λ r. r .pointers)
-    (runZeroing (stringify (zeroTexts (ofTag 4 ∷ ofSlot (num (uint Two)) 4 ∷ ofSlot enum 4 ∷ ofSlot bool 0 ∷ ofPointer 1 ∷ []))) some16)
+    (runZeroing (stringify (Branch (zeros (ofTag 4 ∷ ofSlot (num (uint Two)) 4 ∷ ofSlot enum 4 ∷ ofSlot bool 0 ∷ ofPointer 1 ∷ [])))) some16)
     ≡ some (false ∷ false ∷ [])
-unfolding decimal setBoolField setDataField clearPointer found stored putBits clearFlag typeName truth dataArg boolArg writes runOp runLine runLines runZeroing
+unfolding toLines flatMap join stringify decimal setBoolField setDataField clearPointer found stored putBits clearFlag typeName truth dataArg boolArg writes runOp runLine runLines runZeroing
 zeroed = refl

@@ -4,8 +4,8 @@ use mathlib.Core.Bool.{Bool, true, false}
 use mathlib.Core.List.{List, [], _∷_, _++_}
 use mathlib.Core.Option.{Option, none, some}
 use Prim.Native.Nat.{ℕ}
-use lib.ListN.{replicate}
 use Rattle.text.specs.Bytes.{Str, ascii, unit}
+use Rattle.text.specs.Lines.{FormattedTexts, Indent, Branch, Line, none as noMore, _&_, stringify}
 use Rattle.record.specs.Types.{Num, nameOf, Kind, bool, num, enum}
 use Rattle.record.specs.Calls.{getBoolField, getDataField, getEnumField, setBoolField, setDataField, setTag, zeroBool, zeroData, zeroTag, clearPointer, notNull, tagTest}
 
@@ -37,50 +37,40 @@ zeroText (ofSlot k o) = zeroLine k o
 zeroText (ofTag o) = zeroTag o
 zeroText (ofPointer i) = clearPointer i
 
--- ---- texts: `stringify` of lines, each ended by byte 10; of no lines it is one byte 10
-
-abbrev pub unlines : List Str → Str
-unlines [] = []
-unlines (l ∷ ls) = l ++ 10 ∷ unlines ls
-
-abbrev pub stringify : List Str → Str
-stringify [] = unit 10
-stringify (l ∷ ls) = unlines (l ∷ ls)
-
-abbrev pub indented : ℕ → List Str → List Str
-indented n [] = []
-indented n (l ∷ ls) = (replicate n 32 ++ l) ∷ indented n ls
+-- ---- texts, as `stringify` makes them
 
 -- a union's tag: its offset, and the member's discriminant value
 abbrev pub Tag : Type 0
 Tag = ℕ × ℕ
 
-abbrev pub tagLines : Option Tag → List Str
-tagLines none = []
-tagLines (some t) = setTag (t .0) (t .1) ∷ []
+-- A function of an accessor: `#[inline]`, the opening line, the body moved in, a brace.
+unfoldable pub functionText : Str → FormattedTexts → Str
+functionText opening body = stringify (Branch (Line (ascii "#[inline]") & Line opening & Indent (Branch body) & Line (ascii "}") & noMore))
 
--- A setter: `#[inline]`, the opening line, the tag's line, the set, a brace. A Void slot has no set.
-unfoldable pub functionText : Str → List Str → Str
-functionText opening body = unlines (ascii "#[inline]" ∷ opening ∷ (indented 4 body ++ (ascii "}" ∷ [])))
+-- a setter's body: the tag's line where the slot is a union's member, then the set; a Void slot has no set
+abbrev pub tagThen : Option Tag → FormattedTexts → FormattedTexts
+tagThen none more = more
+tagThen (some t) more = Line (setTag (t .0) (t .1)) & more
 
 abbrev pub setterText : Str → Option Tag → Kind → ℕ → Option Str → Str
-setterText opening tag k o mask = functionText opening (tagLines tag ++ (setLine k o mask ∷ []))
+setterText opening tag k o mask = functionText opening (tagThen tag (Line (setLine k o mask) & noMore))
 
 abbrev pub voidSetterText : Str → Option Tag → Str
-voidSetterText opening tag = functionText opening (tagLines tag)
+voidSetterText opening tag = functionText opening (tagThen tag noMore)
 
--- A getter: the result type, then the line of its get.
+-- A getter: the result type, a newline, then `stringify` of the line of its get.
 unfoldable pub getterText : Str → Str → Str
-getterText typ line = unlines (typ ∷ line ∷ [])
+getterText typ line = typ ++ unit 10 ++ stringify (Line line)
 
--- A haser of a pointer slot: the test of its tag, if it has one, then that its pointer is not null.
-abbrev pub haserLines : Bool → Option Tag → ℕ → List Str
-haserLines isReader none i = notNull isReader i ∷ []
-haserLines isReader (some t) i = tagTest isReader (t .0) (t .1) ∷ notNull isReader i ∷ []
+-- a haser's body: the test of the tag where there is one, then that the pointer is not null
+abbrev pub haserBody : Bool → Option Tag → ℕ → FormattedTexts
+haserBody isReader none i = Line (notNull isReader i) & noMore
+haserBody isReader (some t) i = Line (tagTest isReader (t .0) (t .1)) & Line (notNull isReader i) & noMore
 
 abbrev pub haserText : Str → Bool → Option Tag → ℕ → Str
-haserText opening isReader tag i = functionText opening (haserLines isReader tag i)
+haserText opening isReader tag i = functionText opening (haserBody isReader tag i)
 
+-- the lines of a zeroing
 abbrev pub zeroTexts : List Zero → List Str
 zeroTexts [] = []
 zeroTexts (z ∷ zs) = zeroText z ∷ zeroTexts zs
