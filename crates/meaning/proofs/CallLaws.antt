@@ -1,5 +1,5 @@
--- A rendered line, read again, is its operation: for every offset, type, mask and value form. The parts of a line go by their own laws,
--- and closed text computes. Assumes nothing.
+-- A rendered line, read again, is its operation: for every offset, type, mask and value form. The parts of a line go by their own
+-- laws, and closed text computes. Assumes nothing.
 use mathlib.Core.Path.{_≡_, refl, sym, ap, _∙_}
 use mathlib.Core.Bool.{Bool, true, false}
 use mathlib.Core.Option.{Option, none, some}
@@ -12,7 +12,8 @@ use borrow.Author.Tests.{ne-eqb, ltb-true, ltb-false}
 use Rattle.text.specs.Bytes.{Str, ascii, cond}
 use Rattle.text.specs.Decimal.{decimal, signed}
 use Rattle.text.proofs.DecimalLaws.{decimal-low, decimal-high, signed-low, signed-high}
-use Rattle.record.specs.Calls.{member, getBoolField, getDataField, getEnumField, setBoolField, setDataField, setTag, zeroBool, zeroData, zeroTag, clearPointer, notNull, tagTest}
+use Rattle.record.specs.Calls.{member, getBoolField, getDataField, getEnumField, setBoolField, setDataField, setTag, zeroBool}
+use Rattle.record.specs.Calls.{zeroData, zeroTag, clearPointer, notNull, tagTest}
 use Rattle.record.specs.Lines.{setLine, getLine, zeroLine}
 use Rattle.record.specs.Masks.{halfOf, getMaskText, setMaskText, maskBits}
 use Rattle.record.specs.Record.{mapO}
@@ -23,27 +24,32 @@ use Rattle.meaning.specs.Reading.{Arg, value, constant}
 use Rattle.meaning.specs.Claims.{Fits}
 use Rattle.meaning.specs.Meaning as meaning
 use Rattle.meaning.specs.Meaning.{Op, setOp, clearOp, writes, gets, getsIn, Test, nullTest, tests}
-use Rattle.meaning.proofs.ReadingLaws.{number-decimal, type-name, type-u16, truth-mask, get-truth, get-mask, get-mask-enum, set-mask, set-mask-enum, arg-value, arg-value-mask, arg-enum, arg-tag, arg-zero, arg-zero-u16, arg-zero-tag, bool-value, bool-false}
+use Rattle.meaning.proofs.ReadingLaws.{by-type, number-decimal, type-name, type-u16, truth-mask, get-truth, get-mask, get-mask-enum}
+use Rattle.meaning.proofs.ReadingLaws.{set-mask, set-mask-enum, arg-value, arg-value-mask, arg-enum, arg-tag, arg-zero}
+use Rattle.meaning.proofs.ReadingLaws.{arg-zero-u16, arg-zero-tag, bool-value, bool-false}
 
 -- one law for each part of a line
-pub ruleset parts = (number-decimal, type-name, type-u16, arg-value, arg-value-mask, arg-enum, arg-zero, arg-zero-u16, arg-zero-tag, bool-value, bool-false)
+pub ruleset parts =
+    (number-decimal, type-name, type-u16, arg-value, arg-value-mask, arg-enum, arg-zero, arg-zero-u16, arg-zero-tag, bool-value, bool-false)
 
 -- ---- calls, grouped to the right, as they are read
 
 infixr 64 _⧺_
-abbrev _⧺_ : Str → Str → Str
+abbrev pub _⧺_ : Str → Str → Str
 a ⧺ b = a ++ b
 
-set-bool : (o : ℕ) (v : Str) → setBoolField o v none ≡ ascii "self.builder.set_bool_field(" ⧺ decimal o ⧺ ascii ", " ⧺ v ⧺ ascii ");"
+pub set-bool : (o : ℕ) (v : Str)
+    → setBoolField o v none ≡ ascii "self.builder.set_bool_field(" ⧺ decimal o ⧺ ascii ", " ⧺ v ⧺ ascii ");"
 unfolding setBoolField
 set-bool o v = simp append-assoc
 
 set-bool-mask : (o : ℕ) (v m : Str)
-    → setBoolField o v (some m) ≡ ascii "self.builder.set_bool_field_mask(" ⧺ decimal o ⧺ ascii ", " ⧺ v ⧺ ascii ", " ⧺ m ⧺ ascii ");"
+    → setBoolField o v (some m)
+    ≡ ascii "self.builder.set_bool_field_mask(" ⧺ decimal o ⧺ ascii ", " ⧺ v ⧺ ascii ", " ⧺ m ⧺ ascii ");"
 unfolding setBoolField
 set-bool-mask o v m = simp append-assoc
 
-set-data : (t : Str) (o : ℕ) (v : Str)
+pub set-data : (t : Str) (o : ℕ) (v : Str)
     → setDataField t o v none ≡ ascii "self.builder.set_data_field::<" ⧺ t ⧺ ascii ">(" ⧺ decimal o ⧺ ascii ", " ⧺ v ⧺ ascii ");"
 unfolding setDataField
 set-data t o v = simp append-assoc
@@ -56,7 +62,8 @@ set-data-mask t o v m = simp append-assoc
 
 tag-test : (isReader : Bool) (o n : ℕ)
     → tagTest isReader o n
-    ≡ ascii "if self." ⧺ member isReader ⧺ ascii ".get_data_field::<u16>(" ⧺ decimal o ⧺ ascii ") != " ⧺ decimal n ⧺ ascii " { return false; }"
+    ≡ ascii "if self." ⧺ member isReader ⧺ ascii ".get_data_field::<u16>(" ⧺ decimal o ⧺ ascii ") != " ⧺ decimal n
+    ⧺ ascii " { return false; }"
 unfolding tagTest
 tag-test true o n = simp append-assoc
 tag-test false o n = simp append-assoc
@@ -90,7 +97,8 @@ get-data-mask false t o m = simp append-assoc
 
 get-enum : (isReader : Bool) (o : ℕ)
     → getEnumField isReader o none
-    ≡ ascii "::core::convert::TryFrom::try_from(self." ⧺ member isReader ⧺ ascii ".get_data_field::<u16>(" ⧺ decimal o ⧺ ascii "))"
+    ≡ ascii "::core::convert::TryFrom::try_from(self." ⧺ member isReader ⧺ ascii ".get_data_field::<u16>(" ⧺ decimal o
+    ⧺ ascii "))"
 unfolding getDataField
 get-enum true o = simp append-assoc
 get-enum false o = simp append-assoc
@@ -163,7 +171,8 @@ in-decimal n s = go n n (omega arith) s
     go zero n h s = rw (decimal-low n (omega arith)) (in-digit n s (omega arith))
     go (suc f) n h s = pick (ltb n 10) refl (λ k. go f (n / 10) k ((48 + n % 10) ∷ s))
       where
-        pick : (b : Bool) → ltb n 10 ≡ b → (n / 10 ≤ f → getsIn (decimal (n / 10) ++ (48 + n % 10) ∷ s) ≡ getsIn ((48 + n % 10) ∷ s))
+        pick : (b : Bool) → ltb n 10 ≡ b
+            → (n / 10 ≤ f → getsIn (decimal (n / 10) ++ (48 + n % 10) ∷ s) ≡ getsIn ((48 + n % 10) ∷ s))
             → getsIn (decimal n ++ s) ≡ getsIn s
         pick true e ih = rw (decimal-low n (ltb-true n 10 e)) (in-digit n s (ltb-true n 10 e))
         pick false e ih =
@@ -171,16 +180,7 @@ in-decimal n s = go n n (omega arith) s
 
 pub in-name : (t : Num) (s : Str) → getsIn (nameOf t ++ s) ≡ getsIn s
 unfolding getsIn gets
-in-name (int One) s = refl
-in-name (int Two) s = refl
-in-name (int Four) s = refl
-in-name (int Eight) s = refl
-in-name (uint One) s = refl
-in-name (uint Two) s = refl
-in-name (uint Four) s = refl
-in-name (uint Eight) s = refl
-in-name float32 s = refl
-in-name float64 s = refl
+in-name t s = by-type (λ t. getsIn (nameOf t ++ s) ≡ getsIn s) refl refl refl refl refl refl refl refl refl refl t
 
 in-minus : (s : Str) → getsIn (45 ∷ s) ≡ getsIn s
 unfolding getsIn gets
@@ -196,7 +196,8 @@ in-signed half m s = go (ltb m half) refl
   where
     go : (b : Bool) → ltb m half ≡ b → getsIn (signed half m ++ s) ≡ getsIn s
     go true e = rw (signed-low half m (ltb-true m half e)) (in-decimal m s)
-    go false e = rw (signed-high half m (ltb-false m half e)) (in-minus (decimal (half + half - m) ++ s) ∙ in-decimal (half + half - m) s)
+    go false e =
+        rw (signed-high half m (ltb-false m half e)) (in-minus (decimal (half + half - m) ++ s) ∙ in-decimal (half + half - m) s)
 
 pub in-mask : (k : Kind) (m : ℕ) (s : Str) → getsIn (getMaskText k m ++ 41 ∷ s) ≡ getsIn (41 ∷ s)
 unfolding getMaskText
@@ -223,4 +224,5 @@ gets-line false bool o (some m) h = rw get-bool-mask (simp (parts, around, get-t
 gets-line false (num t) o none h = rw get-data (simp (parts, around))
 gets-line false (num t) o (some m) h = rw get-data-mask (simp (parts, around, get-mask t m h))
 gets-line false enum o none h = ap getsIn (get-enum false o) ∙ simp (parts, around)
-gets-line false enum o (some m) h = ap getsIn (get-enum-mask false o (getMaskText enum m)) ∙ simp (parts, around, get-mask-enum m h)
+gets-line false enum o (some m) h =
+    ap getsIn (get-enum-mask false o (getMaskText enum m)) ∙ simp (parts, around, get-mask-enum m h)

@@ -36,7 +36,8 @@ wholes-haser isReader (some t) i =
     Wholes.add (tagTest isReader (t .0) (t .1)) (whole-tag isReader (t .0) (t .1))
     (Wholes.add (notNull isReader i) (whole-null isReader i) Wholes.nil)
 
-tests-of-null : (isReader : Bool) (i : ℕ) → testsOf (indented 4 (notNull isReader i ∷ [])) ≡ some (nullTest (record { 0 = i }) ∷ [])
+tests-of-null : (isReader : Bool) (i : ℕ)
+    → testsOf (indented 4 (notNull isReader i ∷ [])) ≡ some (nullTest (record { 0 = i }) ∷ [])
 unfolding testsOf notNull
 tests-of-null true i = rw (tests-null true i)
 tests-of-null false i = rw (tests-null false i)
@@ -49,11 +50,13 @@ tests-of-tag false o n more ts e = rw (tests-tag false o n, e)
 
 tests-of : (isReader : Bool) (tag : Option Tag) (i : ℕ) → testsOf (indented 4 (haserLines isReader tag i)) ≡ some (testsFor tag i)
 tests-of isReader none i = tests-of-null isReader i
-tests-of isReader (some t) i = tests-of-tag isReader (t .0) (t .1) (indented 4 (notNull isReader i ∷ [])) (testsFor none i) (tests-of-null isReader i)
+tests-of isReader (some t) i =
+    tests-of-tag isReader (t .0) (t .1) (indented 4 (notNull isReader i ∷ [])) (testsFor none i) (tests-of-null isReader i)
 
 pub haser-holds : HaserHolds
 unfolding runHaser runTests
-haser-holds opening isReader none i r h = rw (function-inner opening (haserLines isReader none i) h (wholes-haser isReader none i), tests-of isReader none i)
+haser-holds opening isReader none i r h =
+    rw (function-inner opening (haserLines isReader none i) h (wholes-haser isReader none i), tests-of isReader none i)
 haser-holds opening isReader (some t) i r h =
     rw (function-inner opening (haserLines isReader (some t) i) h (wholes-haser isReader (some t) i), tests-of isReader (some t) i)
 
@@ -70,4 +73,5 @@ pub haser-null : (opening : Str) → whole opening ≡ true → (isReader : Bool
     → TagHolds tag r → null (record { 0 = i }) r ≡ some true → runHaser (haserText opening isReader tag i) r ≡ some false
 haser-null opening h isReader none i r t e = haser-holds opening isReader none i r h ∙ rw e
 haser-null opening h isReader (some x) i r t e =
-    haser-holds opening isReader (some x) i r h ∙ rw e (either-false (get (tagPlace (x .0)) 0 r) (x .1) _ (get-inside (tagPlace (x .0)) 0 r t))
+    haser-holds opening isReader (some x) i r h
+    ∙ rw e (either-false (get (tagPlace (x .0)) 0 r) (x .1) _ (get-inside (tagPlace (x .0)) 0 r t))

@@ -12,15 +12,17 @@ use Rattle.text.specs.Decimal.{decimal, signed}
 use Rattle.text.specs.Lines.{FormattedText, toLines, stringify, spaces, ended}
 use Rattle.text.proofs.LinesLaws.{stringify-lines}
 use Rattle.text.proofs.DecimalLaws.{decimal-low, decimal-high, signed-low, signed-high}
-use Rattle.record.specs.Calls.{member, getBoolField, getDataField, setBoolField, setDataField, setTag, zeroTag, clearPointer, notNull, tagTest}
+use Rattle.record.specs.Calls.{member, getBoolField, getDataField, setBoolField, setDataField, setTag, zeroTag, clearPointer}
+use Rattle.record.specs.Calls.{notNull, tagTest}
 use Rattle.record.specs.Lines.{Zero, ofSlot, ofTag, ofPointer, getLine, setLine, zeroLine, zeroText}
 use Rattle.record.specs.Masks.{halfOf, getMaskText, setMaskText, maskBits}
 use Rattle.record.specs.Record.{Record, mapO}
 use Rattle.record.specs.Types.{Num, int, uint, float32, float64, nameOf, Kind, bool, num, enum, placeOf, tagPlace}
-use Rattle.record.specs.declared.Width.the-variants.{One, Two, Four, Eight}
 use Rattle.meaning.specs.Reading.{bindO, Arg, value, constant}
 use Rattle.meaning.specs.Claims.{Fits}
-use Rattle.meaning.specs.Meaning.{Op, setOp, clearOp, writes, whole, lines, push, trim, inner, front, runOp, runLine, runLines}
+use Rattle.meaning.specs.Meaning.{Op, setOp, clearOp, writes, whole, lines, push, trim, inner, front, runOp, runLine}
+use Rattle.meaning.specs.Meaning.{runLines}
+use Rattle.meaning.proofs.ReadingLaws.{by-type}
 use Rattle.meaning.proofs.CallLaws.{writes-set, writes-tag, writes-zero, writes-zero-tag, writes-clear}
 
 -- ---- no byte 10
@@ -29,7 +31,8 @@ pub whole-append : (a b : Str) → whole (a ++ b) ≡ both (whole a) (whole b)
 whole-append [] b = refl
 whole-append (c ∷ a) b = go (eqb c 10) (whole-append a b)
   where
-    go : (t : Bool) → whole (a ++ b) ≡ both (whole a) (whole b) → cond t false (whole (a ++ b)) ≡ both (cond t false (whole a)) (whole b)
+    go : (t : Bool) → whole (a ++ b) ≡ both (whole a) (whole b)
+        → cond t false (whole (a ++ b)) ≡ both (cond t false (whole a)) (whole b)
     go true e = refl
     go false e = e
 
@@ -57,16 +60,7 @@ whole-signed half m = go (ltb m half) refl
     go false e = rw (signed-high half m (ltb-false m half e)) (whole-decimal (half + half - m))
 
 pub whole-name : (t : Num) → whole (nameOf t) ≡ true
-whole-name (int One) = refl
-whole-name (int Two) = refl
-whole-name (int Four) = refl
-whole-name (int Eight) = refl
-whole-name (uint One) = refl
-whole-name (uint Two) = refl
-whole-name (uint Four) = refl
-whole-name (uint Eight) = refl
-whole-name float32 = refl
-whole-name float64 = refl
+whole-name t = by-type (λ t. whole (nameOf t) ≡ true) refl refl refl refl refl refl refl refl refl refl t
 
 whole-truth : (b : Bool) → whole (cond b (ascii "false") (ascii "true")) ≡ true
 whole-truth true = refl
@@ -99,7 +93,8 @@ pub record Says (l : Str) (o : Op) : Type 0 where
   pub tight : trim l ≡ l
   pub one : whole l ≡ true
 
-pub says-set : (k : Kind) (o : ℕ) (m : Option ℕ) → Fits k m → Says (setLine k o (mapO (setMaskText k) m)) (setOp (placeOf k o) value (maskBits m))
+pub says-set : (k : Kind) (o : ℕ) (m : Option ℕ) → Fits k m
+    → Says (setLine k o (mapO (setMaskText k) m)) (setOp (placeOf k o) value (maskBits m))
 says-set k o m h = record { reads = writes-set k o m h; tight = tight k m; one = one k m }
   where
     tight : (k : Kind) (m : Option ℕ) → trim (setLine k o (mapO (setMaskText k) m)) ≡ setLine k o (mapO (setMaskText k) m)
@@ -185,7 +180,8 @@ unfolding ended
 lines-ended nil = refl
 lines-ended (add l {ls = ls} h w) = line-end l (ended ls) h ∙ ap (λ (x : List Str). l ∷ x) (lines-ended w)
 
-pub lines-stringify : (ft : FormattedText) (l : Str) (ls : List Str) → toLines ft 0 ≡ l ∷ ls → Wholes (l ∷ ls) → lines (stringify ft) ≡ l ∷ ls
+pub lines-stringify : (ft : FormattedText) (l : Str) (ls : List Str) → toLines ft 0 ≡ l ∷ ls → Wholes (l ∷ ls)
+    → lines (stringify ft) ≡ l ∷ ls
 lines-stringify ft l ls e w =
     ap (λ (s : Str). lines s) (stringify-lines ft (λ n. let z : _≡_ {A = ℕ} 0 1 = cc in omega arith) ∙ ap ended e) ∙ lines-ended w
 
@@ -233,7 +229,8 @@ unfolding runLine writes
 run-says v [] o r e = cc
 run-says v (c ∷ l) o r e = rw e
 
-pub run-lines : (v : Option ℕ) (n : ℕ) {ls : List Str} {os : List Op} → Saying ls os → (r : Record) → runLines v (indented n ls) r ≡ runOps v os r
+pub run-lines : (v : Option ℕ) (n : ℕ) {ls : List Str} {os : List Op} → Saying ls os → (r : Record)
+    → runLines v (indented n ls) r ≡ runOps v os r
 unfolding runLines runOps
 run-lines v n nil r = refl
 run-lines v n (add {l = l} {o = o} s w) r =

@@ -1,5 +1,5 @@
--- The two masks of a slot: the same, or the setter has none; so what a value reads as is what document 01 says. By cases on the rules.
--- Assumes nothing.
+-- The two masks of a slot: the same, or the setter has none; so what a value reads as is what document 01 says. By cases on the
+-- rules. Assumes nothing.
 use mathlib.Core.Path.{_≡_, refl, sym, ap, _∙_}
 use mathlib.Core.Bool.{Bool, true, false}
 use mathlib.Core.Option.{Option, none, some}

@@ -1,5 +1,5 @@
--- What is written in a call, read again, is what was meant: one law for each part of a line, whatever stands behind it. A decimal number
--- goes by its last digit; closed text computes. Assumes nothing.
+-- What is written in a call, read again, is what was meant: one law for each part of a line, whatever stands behind it. A decimal
+-- number goes by its last digit; closed text computes. Assumes nothing.
 use mathlib.Core.Path.{_≡_, refl, sym, ap, _∙_}
 use mathlib.Core.Bool.{Bool, true, false}
 use mathlib.Core.Option.{Option, none, some}
@@ -17,7 +17,8 @@ use Rattle.record.specs.Offsets.{bytesOf}
 use Rattle.record.specs.Types.{Num, int, uint, float32, float64, bitsOf, nameOf, Kind, bool, num, enum}
 use Rattle.record.specs.declared.Width.{Width}
 use Rattle.record.specs.declared.Width.the-variants.{One, Two, Four, Eight}
-use Rattle.meaning.specs.Reading.{bindO, digit, digits, number, below, negative, signedNumber, typeName, truth, getMaskOf, setMaskOf, Arg, value, constant, limit, ending, enumValue, dataArg, boolArg}
+use Rattle.meaning.specs.Reading.{bindO, digit, digits, number, below, negative, signedNumber, typeName, truth, getMaskOf}
+use Rattle.meaning.specs.Reading.{setMaskOf, Arg, value, constant, limit, ending, enumValue, dataArg, boolArg}
 
 -- ---- numbers
 
@@ -54,18 +55,25 @@ number-decimal n s = go n n (omega arith) s
 
 -- ---- types
 
+-- what holds of each type by its name holds of all
+pub by-type : (P : Num → Type 0)
+    → P (int One) → P (int Two) → P (int Four) → P (int Eight)
+    → P (uint One) → P (uint Two) → P (uint Four) → P (uint Eight)
+    → P float32 → P float64 → (t : Num) → P t
+by-type P a b c d e f g h i j (int One) = a
+by-type P a b c d e f g h i j (int Two) = b
+by-type P a b c d e f g h i j (int Four) = c
+by-type P a b c d e f g h i j (int Eight) = d
+by-type P a b c d e f g h i j (uint One) = e
+by-type P a b c d e f g h i j (uint Two) = f
+by-type P a b c d e f g h i j (uint Four) = g
+by-type P a b c d e f g h i j (uint Eight) = h
+by-type P a b c d e f g h i j float32 = i
+by-type P a b c d e f g h i j float64 = j
+
 pub type-name : (t : Num) (s : Str) → typeName (nameOf t ++ s) ≡ some (t, s)
 unfolding typeName
-type-name (int One) s = refl
-type-name (int Two) s = refl
-type-name (int Four) s = refl
-type-name (int Eight) s = refl
-type-name (uint One) s = refl
-type-name (uint Two) s = refl
-type-name (uint Four) s = refl
-type-name (uint Eight) s = refl
-type-name float32 s = refl
-type-name float64 s = refl
+type-name t s = by-type (λ t. typeName (nameOf t ++ s) ≡ some (t, s)) refl refl refl refl refl refl refl refl refl refl t
 
 pub type-u16 : (s : Str) → typeName (ascii "u16" ++ s) ≡ some (uint Two, s)
 type-u16 s = type-name (uint Two) s
@@ -133,23 +141,13 @@ set-mask-enum m h s = set-mask (uint Two) m h s
 
 pub arg-value : (t : Num) (s : Str) → dataArg t (ascii "value" ++ 41 ∷ s) ≡ some (value, 41 ∷ s)
 unfolding dataArg
-arg-value (int w) s = refl
-arg-value (uint One) s = refl
-arg-value (uint Two) s = refl
-arg-value (uint Four) s = refl
-arg-value (uint Eight) s = refl
-arg-value float32 s = refl
-arg-value float64 s = refl
+arg-value t s =
+    by-type (λ t. dataArg t (ascii "value" ++ 41 ∷ s) ≡ some (value, 41 ∷ s)) refl refl refl refl refl refl refl refl refl refl t
 
 pub arg-value-mask : (t : Num) (s : Str) → dataArg t (ascii "value" ++ 44 ∷ s) ≡ some (value, 44 ∷ s)
 unfolding dataArg
-arg-value-mask (int w) s = refl
-arg-value-mask (uint One) s = refl
-arg-value-mask (uint Two) s = refl
-arg-value-mask (uint Four) s = refl
-arg-value-mask (uint Eight) s = refl
-arg-value-mask float32 s = refl
-arg-value-mask float64 s = refl
+arg-value-mask t s =
+    by-type (λ t. dataArg t (ascii "value" ++ 44 ∷ s) ≡ some (value, 44 ∷ s)) refl refl refl refl refl refl refl refl refl refl t
 
 pub arg-enum : (s : Str) → dataArg (uint Two) (ascii "value as u16" ++ s) ≡ some (value, s)
 unfolding dataArg
@@ -163,16 +161,8 @@ arg-tag n h s = rw (below-decimal (2 ^ 16) n h s)
 -- zero, with the type's name behind it
 pub arg-zero : (t : Num) (s : Str) → dataArg t (48 ∷ (nameOf t ++ s)) ≡ some (constant 0, s)
 unfolding dataArg
-arg-zero (int One) s = refl
-arg-zero (int Two) s = refl
-arg-zero (int Four) s = refl
-arg-zero (int Eight) s = refl
-arg-zero (uint One) s = refl
-arg-zero (uint Two) s = refl
-arg-zero (uint Four) s = refl
-arg-zero (uint Eight) s = refl
-arg-zero float32 s = refl
-arg-zero float64 s = refl
+arg-zero t s =
+    by-type (λ t. dataArg t (48 ∷ (nameOf t ++ s)) ≡ some (constant 0, s)) refl refl refl refl refl refl refl refl refl refl t
 
 pub arg-zero-u16 : (s : Str) → dataArg (uint Two) (ascii "0u16" ++ s) ≡ some (constant 0, s)
 arg-zero-u16 s = arg-zero (uint Two) s

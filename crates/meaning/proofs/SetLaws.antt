@@ -1,5 +1,5 @@
--- From a setter's text to the record that it leaves, and from a getter's text to its answer. The text's lines say operations, and the laws of
--- records say what those do. Assumes nothing.
+-- From a setter's text to the record that it leaves, and from a getter's text to its answer. The text's lines say operations, and
+-- the laws of records say what those do. Assumes nothing.
 use mathlib.Core.Path.{_≡_, refl, sym, ap, _∙_}
 use mathlib.Core.Bool.{Bool, true, false}
 use mathlib.Core.Logic.{_⊎_, inl, inr}
@@ -20,9 +20,11 @@ use Rattle.record.specs.Types.{Kind, slotBits, placeOf, tagPlace}
 use Rattle.record.proofs.RecordLaws.{after, put-inside, after-length, after-same, get-after, get-set, get-other}
 use Rattle.meaning.specs.Reading.{bindO, value, constant}
 use Rattle.meaning.specs.Claims.{Fits, TagFits, TagHolds, TagHas, TagClear, TagIs, SetGet, SetGetHolds, VoidSetHolds}
-use Rattle.meaning.specs.Meaning.{Op, setOp, whole, lines, inner, getsIn, single, allGets, afterFirst, runOp, runLines, runSetter, runGetter}
+use Rattle.meaning.specs.Meaning.{Op, setOp, whole, lines, inner, getsIn, single, allGets, afterFirst, runOp, runLines}
+use Rattle.meaning.specs.Meaning.{runSetter, runGetter}
 use Rattle.meaning.proofs.CallLaws.{gets-line}
-use Rattle.meaning.proofs.LineLaws.{Wholes, whole-get, lines-stringify, lines-first, indented, wholes-indented, Says, says-set, says-tag, Saying, wholes-saying, runOps, run-lines, inner-body}
+use Rattle.meaning.proofs.LineLaws.{Wholes, whole-get, lines-stringify, lines-first, indented, wholes-indented, Says}
+use Rattle.meaning.proofs.LineLaws.{says-set, says-tag, Saying, wholes-saying, runOps, run-lines, inner-body}
 use Rattle.meaning.proofs.MaskLaws.{slot-size, mask-below}
 
 -- ---- a function's text
@@ -57,7 +59,8 @@ unfolding runSetter
 setter-runs {ls} opening h s v r = rw (function-inner opening ls h (wholes-saying s)) (run-lines (some v) 4 s r)
 
 -- a getter's text is its one get
-pub getter-answers : (typ : Str) → whole typ ≡ true → (isReader : Bool) (k : Kind) (o : ℕ) (m : Option ℕ) → Fits k m → (r : Record)
+pub getter-answers : (typ : Str) → whole typ ≡ true → (isReader : Bool) (k : Kind) (o : ℕ) (m : Option ℕ) → Fits k m
+    → (r : Record)
     → runGetter (getterText typ (getLine isReader k o (mapO (getMaskText k) m))) r ≡ get (placeOf k o) (maskBits m) r
 unfolding runGetter getterText
 getter-answers typ h isReader k o m f r =
@@ -93,19 +96,23 @@ body-tag : (tag : Option Tag) (more : List Str) → tagThen tag (body more) ≡ 
 body-tag none more = refl
 body-tag (some t) more = refl
 
-saying-tag : (tag : Option Tag) → TagFits tag → {ls : List Str} {os : List Op} → Saying ls os → Saying (tagLines tag ls) (tagOps tag ++ os)
+saying-tag : (tag : Option Tag) → TagFits tag → {ls : List Str} {os : List Op} → Saying ls os
+    → Saying (tagLines tag ls) (tagOps tag ++ os)
 saying-tag none f s = s
 saying-tag (some t) f s = Saying.add (says-tag (t .0) (t .1) f) s
 
 -- a setter's text: its tag, then what its other lines say
-pub tagged-runs : {ls : List Str} {os : List Op} (opening : Str) → whole opening ≡ true → (tag : Option Tag) → TagFits tag → Saying ls os
+pub tagged-runs : {ls : List Str} {os : List Op} (opening : Str) → whole opening ≡ true → (tag : Option Tag) → TagFits tag
+    → Saying ls os
     → (v : ℕ) (r : Record) → runSetter (functionText opening (tagThen tag (body ls))) v r ≡ runOps (some v) (tagOps tag ++ os) r
 tagged-runs {ls} opening h tag f s v r =
-    ap (λ (b : FormattedTexts). runSetter (functionText opening b) v r) (body-tag tag ls) ∙ setter-runs opening h (saying-tag tag f s) v r
+    ap (λ (b : FormattedTexts). runSetter (functionText opening b) v r) (body-tag tag ls)
+    ∙ setter-runs opening h (saying-tag tag f s) v r
 
 -- ---- the Void setter
 
-run-tag : (v : Option ℕ) (tag : Option Tag) (os : List Op) (r : Record) → TagHolds tag r → runOps v (tagOps tag ++ os) r ≡ runOps v os (tagged tag r)
+run-tag : (v : Option ℕ) (tag : Option Tag) (os : List Op) (r : Record) → TagHolds tag r
+    → runOps v (tagOps tag ++ os) r ≡ runOps v os (tagged tag r)
 unfolding runOps runOp
 run-tag v none os r h = refl
 run-tag v (some t) os r h = rw (put-inside (tagPlace (t .0)) (t .1) 0 r h)
@@ -131,7 +138,8 @@ module _ (tag : Option Tag) (k : Kind) (o : ℕ) (ms : Option ℕ) where
   run-set v r h = rw (put-inside (placeOf k o) v (maskBits ms) r h)
 
   -- the tag stands after the set, where the two have no bit in common
-  tag-stays : (v : ℕ) (r : Record) → TagFits tag → TagHolds tag r → Holds (placeOf k o) (tagged tag r) → TagClear tag (placeOf k o)
+  tag-stays : (v : ℕ) (r : Record) → TagFits tag → TagHolds tag r → Holds (placeOf k o) (tagged tag r)
+      → TagClear tag (placeOf k o)
       → TagIs tag (after (placeOf k o) v (maskBits ms) (tagged tag r))
   tag-stays v r f t h c = go tag f t h c
     where
@@ -139,7 +147,8 @@ module _ (tag : Option Tag) (k : Kind) (o : ℕ) (ms : Option ℕ) where
           → TagIs tag (after (placeOf k o) v (maskBits ms) (tagged tag r))
       go none f t h c = tt
       go (some x) f t h c =
-          get-other (placeOf k o) v (maskBits ms) (after (tagPlace (x .0)) (x .1) 0 r) h (tagPlace (x .0)) 0 c ∙ tag-is (some x) r f t
+          get-other (placeOf k o) v (maskBits ms) (after (tagPlace (x .0)) (x .1) 0 r) h (tagPlace (x .0)) 0 c
+          ∙ tag-is (some x) r f t
 
 -- SET AND GET, from the bytes of both texts
 pub set-get-holds : SetGetHolds

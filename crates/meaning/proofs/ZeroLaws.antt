@@ -1,5 +1,5 @@
--- Zeroing: whatever the order and the repeats of its lines, all that they touch is zero afterwards, and nothing else has changed. A bit that is
--- zero stays zero under a zeroing operation, and so does a null pointer. Assumes nothing.
+-- Zeroing: whatever the order and the repeats of its lines, all that they touch is zero afterwards, and nothing else has changed.
+-- A bit that is zero stays zero under a zeroing operation, and so does a null pointer. Assumes nothing.
 use mathlib.Core.Path.{_≡_, refl, sym, ap, _∙_, subst}
 use mathlib.Core.Bool.{Bool, true, false, not}
 use mathlib.Core.Logic.{_⊎_, inl, inr, _≢_}
@@ -19,17 +19,21 @@ use Rattle.record.specs.Calls.{clearPointer}
 use Rattle.record.specs.Lines.{Zero, ofSlot, ofTag, ofPointer, zeroLine, zeroText, zeroTexts}
 use Rattle.record.specs.Masks.{maskBits}
 use Rattle.record.specs.Offsets.{Place, from, size}
-use Rattle.record.specs.Record.{Record, coded, get, null, Has, Holds, HoldsPointer}
-use Rattle.record.specs.Types.{Kind, slotBits, placeOf, tagPlace}
+use Rattle.record.specs.Record.{Record, mapO, coded, get, null, Has, Holds, HoldsPointer}
+use Rattle.record.specs.Types.{Num, uint, Kind, bool, num, enum, slotBits, placeOf, tagPlace}
+use Rattle.record.specs.declared.Width.the-variants.{Two}
 use Rattle.record.specs.declared.PointerOffset.{PointerOffset}
 use Rattle.record.proofs.BitLaws.{xors-xor, toBits-zero}
-use Rattle.record.proofs.RecordLaws.{after, cleared, put-inside, after-length, after-at, after-out, get-ext, get-after, clear-inside, cleared-bits, cleared-length, cleared-at, cleared-other, null-flag}
+use Rattle.record.proofs.RecordLaws.{after, cleared, put-inside, after-length, after-at, after-out, get-ext, get-after}
+use Rattle.record.proofs.RecordLaws.{clear-inside, cleared-bits, cleared-length, cleared-at, cleared-other, null-flag}
 use Rattle.record.proofs.SectionLaws.{where?}
 use Rattle.meaning.specs.Claims.{Fits, In, HoldsZero, ZeroHas, ZeroClears, Zeroed, ZeroingHolds}
 use Rattle.meaning.specs.Meaning.{Op, setOp, clearOp, writes, lines, runOp, runLine, runLines, runZeroing}
-use Rattle.meaning.specs.Reading.{bindO, Arg, constant}
+use Rattle.meaning.specs.Reading.{Arg, constant, bindO, _>>=_, _>>_, _or_, pure, lit, number, typeName}
+use Rattle.meaning.proofs.CallLaws.{parts, set-bool, set-data}
 use Rattle.meaning.proofs.HaserLaws.{haser-null}
-use Rattle.meaning.proofs.LineLaws.{Says, says-zero, zeroOp, Saying, wholes-saying, lines-stringify, indented, runOps, run-lines}
+use Rattle.meaning.proofs.LineLaws.{Says, says-zero, zeroOp, Saying, wholes-saying, lines-stringify, indented, runOps}
+use Rattle.meaning.proofs.LineLaws.{run-lines}
 use Rattle.meaning.proofs.MaskLaws.{slot-size, mask-below}
 use Rattle.meaning.proofs.SetLaws.{getter-answers}
 
@@ -100,7 +104,8 @@ step-keeps (ofSlot k o) r h b e = put-keeps (placeOf k o) r h b e
 step-keeps (ofTag o) r h b e = put-keeps (tagPlace o) r h b e
 step-keeps (ofPointer i) r h b e = ap (λ (l : List Bool). getD l b false) (cleared-bits (record { 0 = i }) r h) ∙ e
 
-step-other : (z : Zero) (r : Record) → HoldsZero z r → (b : ℕ) → (ZeroHas z b → ⊥) → getD (step z r .bits) b false ≡ getD (r .bits) b false
+step-other : (z : Zero) (r : Record) → HoldsZero z r → (b : ℕ) → (ZeroHas z b → ⊥)
+    → getD (step z r .bits) b false ≡ getD (r .bits) b false
 step-other (ofSlot k o) r h b x = after-out (placeOf k o) 0 0 r h b x
 step-other (ofTag o) r h b x = after-out (tagPlace o) 0 0 r h b x
 step-other (ofPointer i) r h b x = ap (λ (l : List Bool). getD l b false) (cleared-bits (record { 0 = i }) r h)
@@ -168,7 +173,8 @@ steps-make P y f g (z ∷ zs) r h (inl e) =
 steps-make P y f g (z ∷ zs) r h (inr i) = steps-make P y f g zs (step z r) (rest z zs r h) i
 
 -- what none of them changes is the same at the end
-steps-same : {A : Type 0} (F : Record → A) (Q : Zero → Type 0) → ((z : Zero) (r : Record) → HoldsZero z r → Q z → F (step z r) ≡ F r)
+steps-same : {A : Type 0} (F : Record → A) (Q : Zero → Type 0)
+    → ((z : Zero) (r : Record) → HoldsZero z r → Q z → F (step z r) ≡ F r)
     → (zs : List Zero) (r : Record) → Holding zs r → ((z : Zero) → In z zs → Q z) → F (steps zs r) ≡ F r
 unfolding steps
 steps-same F Q f [] r h q = refl
@@ -185,7 +191,8 @@ indented-none : (ls : List Str) → indented 0 ls ≡ ls
 indented-none [] = refl
 indented-none (l ∷ ls) = ap (λ (x : List Str). l ∷ x) (indented-none ls)
 
-zeroing-runs : (zs : List Zero) (ft : FormattedText) (r : Record) → toLines ft 0 ≡ zeroTexts zs → runZeroing (stringify ft) r ≡ runOps none (ops zs) r
+zeroing-runs : (zs : List Zero) (ft : FormattedText) (r : Record) → toLines ft 0 ≡ zeroTexts zs
+    → runZeroing (stringify ft) r ≡ runOps none (ops zs) r
 unfolding runZeroing runLines runLine runOps
 zeroing-runs [] ft r e = rw (stringify-none ft e)
 zeroing-runs (z ∷ zs) ft r e =
@@ -282,8 +289,49 @@ module _ (zs : List Zero) (r : Record) (h : Holding zs r) where
     hasers = λ i n opening w isReader tag t. haser-null opening w isReader tag i left t (pointer-null i n);
     lengths = lengths;
     bits-same = λ b f. steps-same (λ x. getD (x .bits) b false) (λ z. ZeroHas z b → ⊥) (λ z x g q. step-other z x g b q) zs r h f;
-    pointers-same = λ j f. steps-same (λ x. getD (x .pointers) j false) (λ z. ZeroClears z j → ⊥) (λ z x g q. step-flag z x g j q) zs r h f;
+    pointers-same =
+        λ j f. steps-same (λ x. getD (x .pointers) j false) (λ z. ZeroClears z j → ⊥) (λ z x g q. step-flag z x g j q) zs r h f;
   }
 
 pub zeroing-holds : ZeroingHolds
 zeroing-holds zs ft r e h = zeroed zs r h ft e
+
+-- ---- equal lines
+
+-- the type that a slot's zeroing line names: none for a Bool, u16 for an enum
+abbrev pub named : Kind → Option Num
+named bool = none
+named (num t) = some t
+named enum = some (uint Two)
+
+-- the type and the offset, read from a zeroing line
+readZero : Str → Option (Option Num × ℕ)
+readZero = λ s. mapO (λ x. x .0) (
+    ((do lit "self.builder.set_bool_field("; o ← number; pure (none, o))
+    or (do lit "self.builder.set_data_field::<"; t ← typeName; lit ">("; o ← number; pure (some t, o))) s)
+
+read-zero : (k : Kind) (o : ℕ) → readZero (zeroLine k o) ≡ some (named k, o)
+unfolding readZero
+read-zero bool o = rw set-bool (simp parts)
+read-zero (num t) o = rw set-data (simp parts)
+read-zero enum o = rw set-data (simp parts)
+
+-- lines are equal exactly where type and offset are: what a comparison of those in place of the Rust's `contains` needs
+pub zero-line-injective : (k j : Kind) (o p : ℕ) → zeroLine k o ≡ zeroLine j p
+    → _≡_ {A = Option Num × ℕ} (named k, o) (named j, p)
+zero-line-injective k j o p e =
+    let f : _≡_ {A = Option (Option Num × ℕ)} (some (named k, o)) (some (named j, p)) =
+    sym (read-zero k o) ∙ ap (λ (l : Str). readZero l) e ∙ read-zero j p in
+    cc
+
+pub zero-line-same : (k j : Kind) (o : ℕ) → named k ≡ named j → zeroLine k o ≡ zeroLine j o
+zero-line-same k j o e = by-name k ∙ ap (λ (n : Option Num). lineOf n) e ∙ sym (by-name j)
+  where
+    lineOf : Option Num → Str
+    lineOf none = zeroLine bool o
+    lineOf (some t) = zeroLine (num t) o
+
+    by-name : (k : Kind) → zeroLine k o ≡ lineOf (named k)
+    by-name bool = refl
+    by-name (num t) = refl
+    by-name enum = refl

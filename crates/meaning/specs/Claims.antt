@@ -1,5 +1,5 @@
--- What is claimed of accessor texts, from their bytes: set and then get, the Void setter, hasers, zeroing. The masks of setter and getter
--- are parameters; `expected` says what document 01's rules for masks make of them. Assumes nothing.
+-- What is claimed of accessor texts, from their bytes: set and then get, the Void setter, hasers, zeroing. The masks of setter
+-- and getter are parameters; `expected` says what document 01's rules for masks make of them. Assumes nothing.
 use Prim.Native.Nat.{ℕ, _+_, _^_, _<_, _≤_}
 use mathlib.Core.Path.{_≡_}
 use mathlib.Core.Bool.{Bool, true, false, not}
@@ -12,7 +12,8 @@ use lib.ListN.{length, getD}
 use Rattle.text.specs.Bytes.{Str, cond}
 use Rattle.text.specs.Lines.{FormattedText, toLines, stringify}
 use Rattle.record.specs.Calls.{clearPointer}
-use Rattle.record.specs.Lines.{Tag, getLine, setterText, voidSetterText, getterText, haserText, Zero, ofSlot, ofTag, ofPointer, zeroLine, zeroTexts}
+use Rattle.record.specs.Lines.{Tag, getLine, setterText, voidSetterText, getterText, haserText, Zero, ofSlot, ofTag, ofPointer}
+use Rattle.record.specs.Lines.{zeroLine, zeroTexts}
 use Rattle.record.specs.Masks.{getMask, setMask, getMaskText, setMaskText, maskBits}
 use Rattle.record.specs.Offsets.{Place}
 use Rattle.record.specs.Record.{Record, mapO, get, null, Has, Clear, Holds, HoldsPointer, Same}
@@ -53,12 +54,14 @@ TagIs (some t) r = get (tagPlace (t .0)) 0 r ≡ some (t .1)
 
 -- ---- set and get
 
--- The setter's text runs; each getter's text then answers the value, exclusive or both masks; only the slot's bits and the tag's change.
+-- The setter's text runs; each getter's text then answers the value, exclusive or both masks; only the slot's bits and the tag's
+-- change.
 pub record SetGet (opening : Str) (tag : Option Tag) (k : Kind) (o : ℕ) (ms mg : Option ℕ) (v : ℕ) (r : Record) : Type 0 where
   pub left : Record
   pub runs : runSetter (setterText opening tag k o (mapO (setMaskText k) ms)) v r ≡ some left
   pub answers : (typ : Str) → whole typ ≡ true → (isReader : Bool)
-      → runGetter (getterText typ (getLine isReader k o (mapO (getMaskText k) mg))) left ≡ some (bitXor (bitXor v (maskBits ms)) (maskBits mg))
+      → runGetter (getterText typ (getLine isReader k o (mapO (getMaskText k) mg))) left
+      ≡ some (bitXor (bitXor v (maskBits ms)) (maskBits mg))
   pub same : Same (λ b. Has (placeOf k o) b ⊎ TagHas tag b) r left
   pub tagged : TagClear tag (placeOf k o) → TagIs tag left
 
@@ -69,8 +72,8 @@ SetGetHolds =
     → whole opening ≡ true → TagFits tag → Fits k ms → Fits k mg → v < 2 ^ slotBits k → Holds (placeOf k o) r → TagHolds tag r
     → SetGet opening tag k o ms mg v r
 
--- What a value v reads as under document 01's rules for masks, of a default d with or without its flag: v, except that a float default
--- of -0.0 flips its sign, and an enum default without its flag is combined with it by exclusive or.
+-- What a value v reads as under document 01's rules for masks, of a default d with or without its flag: v, except that a float
+-- default of -0.0 flips its sign, and an enum default without its flag is combined with it by exclusive or.
 abbrev pub expected : Kind → ℕ → Bool → ℕ → ℕ
 expected bool d explicit v = v
 expected (num (int w)) d explicit v = v
@@ -93,7 +96,9 @@ pub record VoidSet (opening : Str) (tag : Option Tag) (v : ℕ) (r : Record) : T
   pub tagged : TagIs tag left
 
 abbrev pub VoidSetHolds : Type 0
-VoidSetHolds = (opening : Str) (tag : Option Tag) (v : ℕ) (r : Record) → whole opening ≡ true → TagFits tag → TagHolds tag r → VoidSet opening tag v r
+VoidSetHolds =
+    (opening : Str) (tag : Option Tag) (v : ℕ) (r : Record) → whole opening ≡ true → TagFits tag → TagHolds tag r
+    → VoidSet opening tag v r
 
 -- ---- hasers
 
@@ -130,8 +135,8 @@ ZeroClears (ofSlot k o) j = ⊥
 ZeroClears (ofTag o) j = ⊥
 ZeroClears (ofPointer i) j = j ≡ i
 
--- The zeroing's text runs. A slot with bits whose line is among its lines then reads as its default, the getter's mask; a pointer slot
--- tests absent, and each of its hasers says false if its tag can be read. What no line touches stays.
+-- The zeroing's text runs. A slot with bits whose line is among its lines then reads as its default, the getter's mask; a pointer
+-- slot tests absent, and each of its hasers says false if its tag can be read. What no line touches stays.
 pub record Zeroed (zs : List Zero) (ft : FormattedText) (r : Record) : Type 0 where
   pub left : Record
   pub runs : runZeroing (stringify ft) r ≡ some left
@@ -139,13 +144,16 @@ pub record Zeroed (zs : List Zero) (ft : FormattedText) (r : Record) : Type 0 wh
       → (typ : Str) → whole typ ≡ true → (isReader : Bool)
       → runGetter (getterText typ (getLine isReader k o (mapO (getMaskText k) mg))) left ≡ some (maskBits mg)
   pub absent : (i : ℕ) → In (clearPointer i) (zeroTexts zs) → null (record { 0 = i }) left ≡ some true
-  pub hasers : (i : ℕ) → In (clearPointer i) (zeroTexts zs) → (opening : Str) → whole opening ≡ true → (isReader : Bool) (tag : Option Tag)
+  pub hasers : (i : ℕ) → In (clearPointer i) (zeroTexts zs) → (opening : Str) → whole opening ≡ true
+      → (isReader : Bool) (tag : Option Tag)
       → TagHolds tag left → runHaser (haserText opening isReader tag i) left ≡ some false
   pub lengths : (length (left .bits) ≡ length (r .bits)) × (length (left .pointers) ≡ length (r .pointers))
   pub bits-same : (b : ℕ) → ((z : Zero) → In z zs → ZeroHas z b → ⊥) → getD (left .bits) b false ≡ getD (r .bits) b false
-  pub pointers-same : (j : ℕ) → ((z : Zero) → In z zs → ZeroClears z j → ⊥) → getD (left .pointers) j false ≡ getD (r .pointers) j false
+  pub pointers-same : (j : ℕ) → ((z : Zero) → In z zs → ZeroClears z j → ⊥)
+      → getD (left .pointers) j false ≡ getD (r .pointers) j false
 
 -- for every tree of code whose lines are those of zeros, and every record that is long enough
 abbrev pub ZeroingHolds : Type 0
 ZeroingHolds =
-    (zs : List Zero) (ft : FormattedText) (r : Record) → toLines ft 0 ≡ zeroTexts zs → ((z : Zero) → In z zs → HoldsZero z r) → Zeroed zs ft r
+    (zs : List Zero) (ft : FormattedText) (r : Record) → toLines ft 0 ≡ zeroTexts zs → ((z : Zero) → In z zs → HoldsZero z r)
+    → Zeroed zs ft r

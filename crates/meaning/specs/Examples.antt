@@ -1,5 +1,5 @@
--- Worked examples, computed: document 01's cases as one table of lines, values written and values read; texts that have no meaning; a haser
--- and a zeroing. Assumes nothing.
+-- Worked examples, computed: document 01's cases as one table of lines, values written and values read; texts that have no
+-- meaning; a haser and a zeroing. Assumes nothing.
 use Prim.Native.Nat.{ℕ}
 use Prim.Native.String.{String}
 use mathlib.Core.Path.{_≡_, refl}
@@ -13,13 +13,15 @@ use Rattle.text.specs.Decimal.{decimal, signed}
 use Rattle.text.specs.Lines.{FormattedTexts, Branch, Line, none as noMore, _&_, toLines, flatMap, join, stringify}
 use Rattle.record.specs.Bits.{sectionBits}
 use Rattle.record.specs.Calls.{getBoolField, getDataField, setBoolField, setDataField, clearPointer, notNull, tagTest}
-use Rattle.record.specs.Lines.{getLine, setLine, functionText, setterText, getterText, haserText, Zero, ofSlot, ofTag, ofPointer, zeroText}
+use Rattle.record.specs.Lines.{getLine, setLine, functionText, setterText, getterText, haserText, Zero, ofSlot, ofTag, ofPointer}
+use Rattle.record.specs.Lines.{zeroText}
 use Rattle.record.specs.Masks.{getMask, setMask, getMaskText, setMaskText}
 use Rattle.record.specs.Record.{Record, mapO, found, stored, getBits, putBits, nullFlag, clearFlag}
 use Rattle.record.specs.Types.{Num, int, uint, float32, Kind, bool, num, enum}
 use Rattle.record.specs.declared.Width.the-variants.{One, Two, Four, Eight}
 use Rattle.meaning.specs.Reading.{bindO, typeName, truth, getMaskOf, setMaskOf, dataArg, boolArg}
-use Rattle.meaning.specs.Meaning.{writes, gets, getsIn, tests, runOp, runLine, runLines, runSetter, runGetter, runZeroing, testsOf, runTests, runHaser}
+use Rattle.meaning.specs.Meaning.{writes, gets, getsIn, tests, runOp, runLine, runLines, runSetter, runGetter, runZeroing}
+use Rattle.meaning.specs.Meaning.{testsOf, runTests, runHaser}
 
 -- a slot with its default, the lines of its accessors, a value written and the value read
 pub record Row : Type 0 where

@@ -1,5 +1,5 @@
--- What a text does to a record, from its bytes alone (document 01, "What a line does to a record"): a text that is none of these has no
--- meaning. Assumes nothing.
+-- What a text does to a record, from its bytes alone (document 01, "What a line does to a record"): a text that is none of these
+-- has no meaning. Assumes nothing.
 use Prim.Native.Nat.{ℕ, zero, suc}
 use mathlib.Core.Bool.{Bool, true, false, not}
 use mathlib.Core.List.{List, [], _∷_, _++_}
@@ -10,7 +10,8 @@ use Rattle.record.specs.Offsets.{Place, boolAt, dataAt}
 use Rattle.record.specs.Record.{Record, mapO, get, put, null, clear}
 use Rattle.record.specs.Types.{Num, uint, widthOf, tagPlace}
 use Rattle.record.specs.declared.PointerOffset.{PointerOffset}
-use Rattle.meaning.specs.Reading.{Reads, bindO, _>>=_, _>>_, pure, _or_, lit, end, number, below, typeName, truth, getMaskOf, setMaskOf, Arg, value, constant, dataArg, boolArg}
+use Rattle.meaning.specs.Reading.{Reads, bindO, _>>=_, _>>_, pure, _or_, lit, end, number, below, typeName, truth}
+use Rattle.meaning.specs.Reading.{getMaskOf, setMaskOf, Arg, value, constant, dataArg, boolArg}
 
 -- ---- a line that writes
 
@@ -217,7 +218,8 @@ runTests [] r = none
 runTests (nullTest i ∷ []) r = mapO not (null i r)
 runTests (nullTest i ∷ (t ∷ ts)) r = none
 runTests (tagTest o n ∷ []) r = none
-runTests (tagTest o n ∷ (nullTest i ∷ [])) r = bindO (get (tagPlace o) 0 r) (λ x. cond (eqb x n) (mapO not (null i r)) (some false))
+runTests (tagTest o n ∷ (nullTest i ∷ [])) r =
+    bindO (get (tagPlace o) 0 r) (λ x. cond (eqb x n) (mapO not (null i r)) (some false))
 runTests (tagTest o n ∷ (nullTest i ∷ (t ∷ ts))) r = none
 runTests (tagTest o n ∷ (tagTest p m ∷ ts)) r = none
 

@@ -121,7 +121,8 @@ pub data Arg : Type 0 where
   value : Arg
   constant : ℕ → Arg
 
--- The constants of a type, of which zeroing and tags write some: a float's only constant is 0, since any other would not be its bits.
+-- The constants of a type, of which zeroing and tags write some: a float's only constant is 0, since any other would not be its
+-- bits.
 abbrev pub limit : Num → ℕ
 limit (int w) = halfOf w
 limit (uint w) = 2 ^ bitsOf (uint w)

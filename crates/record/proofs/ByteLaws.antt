@@ -1,5 +1,5 @@
--- The section as bits is the section as bytes, in document 01's own words: which bit of which byte a Bool is, which bytes a number is,
--- and which bytes a set changes. By induction on the bytes. Assumes nothing.
+-- The section as bits is the section as bytes, in document 01's own words: which bit of which byte a Bool is, which bytes a
+-- number is, and which bytes a set changes. By induction on the bytes. Assumes nothing.
 use mathlib.Core.Path.{_≡_, refl, sym, ap, ap₂, _∙_, subst}
 use mathlib.Core.Bool.{Bool, true, false, not}
 use mathlib.Core.Option.{Option, none, some}
@@ -86,7 +86,8 @@ section-injective (x ∷ a) (y ∷ b) ha hb e =
 -- ---- which bit a Bool is
 
 -- bit j of byte k
-pub bit-of-byte : (bs : List ℕ) (k j : ℕ) → k < length bs → j < 8 → getD (sectionBits bs) (k * 8 + j) false ≡ eqb (getD bs k 0 / 2 ^ j % 2) 1
+pub bit-of-byte : (bs : List ℕ) (k j : ℕ) → k < length bs → j < 8
+    → getD (sectionBits bs) (k * 8 + j) false ≡ eqb (getD bs k 0 / 2 ^ j % 2) 1
 bit-of-byte bs k j h l =
     sym (getD-drop (k * 8) (sectionBits bs) j false)
     ∙ rw (drop-section k bs, drop-cons bs k 0 h)
@@ -113,7 +114,8 @@ of-section (b ∷ bs) h = of-append (toBits 8 b) (sectionBits bs) ∙ rw (of-to 
 
 -- a type of w bytes at o: w bytes, little-endian, the first of them at o times w
 pub number-at : (bs : List ℕ) (w : Width) (o : ElementOffset) → Bytes bs
-    → ofBits (read (from (dataAt w o)) (size (dataAt w o)) (sectionBits bs)) ≡ little (take (bytesOf w) (drop (o .0 * bytesOf w) bs))
+    → ofBits (read (from (dataAt w o)) (size (dataAt w o)) (sectionBits bs))
+    ≡ little (take (bytesOf w) (drop (o .0 * bytesOf w) bs))
 number-at bs w o h =
     let n : ℕ = bytesOf w in
     rw (read-section (o .0 * n) n bs)

@@ -1,5 +1,5 @@
--- What the code does to bytes is what the definitions do to bits: a law for each operation, inside the section and past it, and one for
--- each turn of a loop. Assumes nothing.
+-- What the code does to bytes is what the definitions do to bits: a law for each operation, inside the section and past it, and
+-- one for each turn of a loop. Assumes nothing.
 use mathlib.Core.Path.{_≡_, refl, sym, ap, ap₂, _∙_, subst}
 use mathlib.Core.Bool.{Bool, true, false, not}
 use mathlib.Core.Option.{Option, none, some}
@@ -25,9 +25,11 @@ use Rattle.record.specs.declared.PointerOffset.{PointerOffset}
 use Rattle.record.specs.declared.Set.the-variants.{Done, NoMeaning}
 use Rattle.record.specs.declared.Width.{Width}
 use Rattle.record.specs.declared.Width.the-variants.{One, Two, Four, Eight}
-use Rattle.record.proofs.BitLaws.{length-toBits, length-xors, bit-two, half-below, toBits-append, toBits-mod, mask-bits, xors-xor}
+use Rattle.record.proofs.BitLaws.{length-toBits, length-xors, bit-two, half-below, toBits-append, toBits-mod, mask-bits}
+use Rattle.record.proofs.BitLaws.{xors-xor}
 use Rattle.record.proofs.SectionLaws.{write-part, length-read, found-inside, found-past, stored-inside, stored-past}
-use Rattle.record.proofs.ByteLaws.{Bytes, bytes-rest, length-section, read-section, write-section, bool-at, number-at, toBits-bytes, length-littleBytes, length-flags, flag-at}
+use Rattle.record.proofs.ByteLaws.{Bytes, bytes-rest, length-section, read-section, write-section, bool-at, number-at}
+use Rattle.record.proofs.ByteLaws.{toBits-bytes, length-littleBytes, length-flags, flag-at}
 
 -- ---- one bit of a byte
 
@@ -99,7 +101,8 @@ module _ (l : List ℕ) (o : BitOffset) (h : o .0 / 8 < length l) where
   bool-inside : from (boolAt o) + 1 ≤ length (sectionBits l)
   bool-inside = rw (length-section l) (omega (arith, mod-lt (o .0) (zero-lt-suc 7)))
 
-  pub get-bool : (m : ℕ) → m < 2 → getBits (boolAt o) m (sectionBits l) ≡ some (bitXor (getD l (o .0 / 8) 0 / 2 ^ (o .0 % 8) % 2) m)
+  pub get-bool : (m : ℕ) → m < 2
+      → getBits (boolAt o) m (sectionBits l) ≡ some (bitXor (getD l (o .0 / 8) 0 / 2 ^ (o .0 % 8) % 2) m)
   unfolding getBits
   get-bool m hm =
       let s : List Bool = sectionBits l in
@@ -117,7 +120,8 @@ module _ (l : List ℕ) (o : BitOffset) (h : o .0 / 8 < length l) where
   byte-bits = read-section (o .0 / 8) 1 l ∙ rw (drop-cons l (o .0 / 8) 0 h) (append-nil (toBits 8 (getD l (o .0 / 8) 0)))
 
   pub put-bool : (v m : ℕ) → v < 2 → m < 2
-      → putBits (boolAt o) v m (sectionBits l) ≡ some (sectionBits (set l (o .0 / 8) (withBit (getD l (o .0 / 8) 0) (o .0 % 8) (bitXor v m))))
+      → putBits (boolAt o) v m (sectionBits l)
+      ≡ some (sectionBits (set l (o .0 / 8) (withBit (getD l (o .0 / 8) 0) (o .0 % 8) (bitXor v m))))
   unfolding putBits
   put-bool v m hv hm =
       let s : List Bool = sectionBits l in
@@ -154,7 +158,8 @@ module _ (l : List ℕ) (w : Width) (o : ElementOffset) (h : o .0 * bytesOf w + 
       rw (found-inside a n s data-inside, mask-bits n m (read a n s) (length-read a n s data-inside), number-at l w o bytes)
 
   pub put-data : (v m : ℕ)
-      → putBits (dataAt w o) v m (sectionBits l) ≡ some (sectionBits (sets l (o .0 * bytesOf w) (littleBytes (bytesOf w) (bitXor v m))))
+      → putBits (dataAt w o) v m (sectionBits l)
+      ≡ some (sectionBits (sets l (o .0 * bytesOf w) (littleBytes (bytesOf w) (bitXor v m))))
   unfolding putBits
   put-data v m =
       let n : ℕ = bytesOf w in
@@ -170,7 +175,8 @@ module _ (l : List ℕ) (w : Width) (o : ElementOffset) (h : o .0 * bytesOf w + 
       )
 
 -- what a get of a tag answers decides its test
-pub tag-value : (l : List Bool) (o : ElementOffset) (n v : ℕ) → Value v ≡ getAnswer (getBits (dataAt Two o) 0 l) → tagIs o n l ≡ some (eqb v n)
+pub tag-value : (l : List Bool) (o : ElementOffset) (n v : ℕ) → Value v ≡ getAnswer (getBits (dataAt Two o) 0 l)
+    → tagIs o n l ≡ some (eqb v n)
 tag-value l o n v e = go (getBits (dataAt Two o) 0 l) e
   where
     go : (g : Option ℕ) → Value v ≡ getAnswer g → mapO (λ x. eqb x n) g ≡ some (eqb v n)
@@ -211,7 +217,8 @@ pub put-data-done : {l : List ℕ} {w : Width} {o : ElementOffset} (v m : ℕ) �
 put-data-done {l} {w} {o} v m h = record { answer = rw (put-data l w o h v m); left = rw (put-data l w o h v m) }
 
 -- an element that doesn't lie inside the bytes doesn't lie inside their bits
-pub data-past : (w : Width) (o : ElementOffset) (n : ℕ) → n < o .0 * bytesOf w + bytesOf w → n * 8 < from (dataAt w o) + size (dataAt w o)
+pub data-past : (w : Width) (o : ElementOffset) (n : ℕ) → n < o .0 * bytesOf w + bytesOf w
+    → n * 8 < from (dataAt w o) + size (dataAt w o)
 data-past w o n h = omega arith
 
 -- a length test by a difference
@@ -264,7 +271,8 @@ module _ (l : List ℕ) (i : PointerOffset) where
 -- ---- loops
 
 -- one byte more in front
-pub little-turn : (l : List ℕ) (a k : ℕ) → a < length l → little (take (suc k) (drop a l)) ≡ getD l a 0 + 256 * little (take k (drop (suc a) l))
+pub little-turn : (l : List ℕ) (a k : ℕ) → a < length l
+    → little (take (suc k) (drop a l)) ≡ getD l a 0 + 256 * little (take k (drop (suc a) l))
 little-turn l a k h = rw (drop-cons l a 0 h)
 
 -- at most n bytes are a number below 256 to the n

@@ -1,5 +1,5 @@
--- Records: a set and then a get, what a set leaves alone, sets in either order, clears. Every law is over a place, whatever its width.
--- A bit of the section lies in a place or not, and the laws of writes settle both. Assumes nothing.
+-- Records: a set and then a get, what a set leaves alone, sets in either order, clears. Every law is over a place, whatever its
+-- width. A bit of the section lies in a place or not, and the laws of writes settle both. Assumes nothing.
 use mathlib.Core.Path.{_≡_, refl, sym, ap, _∙_, subst}
 use mathlib.Core.Bool.{Bool, true, false, not}
 use mathlib.Core.Option.{Option, none, some}
@@ -13,10 +13,12 @@ use lib.ListN.{length, getD}
 use lib.Seq.{drop-cons, ext-getD}
 use Rattle.record.specs.Bits.{toBits, ofBits, xors, bit}
 use Rattle.record.specs.Offsets.{Place, from, size, pointerAddress}
-use Rattle.record.specs.Record.{Record, read, write, masked, coded, mapO, getBits, putBits, nullFlag, clearFlag, get, put, null, clear, Has, Clear, Holds, HoldsPointer, Same}
+use Rattle.record.specs.Record.{Record, read, write, masked, coded, mapO, getBits, putBits, nullFlag, clearFlag, get, put}
+use Rattle.record.specs.Record.{null, clear, Has, Clear, Holds, HoldsPointer, Same}
 use Rattle.record.specs.declared.PointerOffset.{PointerOffset}
 use Rattle.record.proofs.BitLaws.{length-xors, of-to, xors-twice, xors-xor}
-use Rattle.record.proofs.SectionLaws.{length-write, read-write, write-at, write-out, where?, found-ext, found-inside, stored-inside}
+use Rattle.record.proofs.SectionLaws.{length-write, read-write, write-at, write-out, where?, found-ext, found-inside}
+use Rattle.record.proofs.SectionLaws.{stored-inside}
 
 -- the record with the value v, under mask m, put at p
 unfoldable pub after : Place → ℕ → ℕ → Record → Record
@@ -68,7 +70,8 @@ module _ (p : Place) (v m : ℕ) (r : Record) (h : Holds p r) where
   get-coded k = get-inside p k (after p v m r) (rw after-length h) ∙ ap (λ (bs : List Bool). some (masked p k bs)) after-read
 
   -- A SET AND THEN A GET: the value, exclusive or both masks
-  pub get-after : (k : ℕ) → v < 2 ^ size p → m < 2 ^ size p → k < 2 ^ size p → get p k (after p v m r) ≡ some (bitXor (bitXor v m) k)
+  pub get-after : (k : ℕ) → v < 2 ^ size p → m < 2 ^ size p → k < 2 ^ size p
+      → get p k (after p v m r) ≡ some (bitXor (bitXor v m) k)
   get-after k hv hm hk =
       let n : ℕ = size p in
       get-coded k
@@ -86,7 +89,8 @@ unfolding getBits
 get-ext p k r s e f = rw (found-ext (from p) (size p) (r .bits) (s .bits) e f)
 
 -- a set does not disturb the get of a place with no bit in common
-pub get-other : (p : Place) (v m : ℕ) (r : Record) → Holds p r → (q : Place) (k : ℕ) → Clear p q → get q k (after p v m r) ≡ get q k r
+pub get-other : (p : Place) (v m : ℕ) (r : Record) → Holds p r → (q : Place) (k : ℕ) → Clear p q
+    → get q k (after p v m r) ≡ get q k r
 get-other p v m r h q k c = get-ext q k r (after p v m r) (after-length p v m r h) (λ b x. after-out p v m r h b (λ y. c b y x))
 
 -- ---- two sets
@@ -122,7 +126,8 @@ module _ (p q : Place) (v m w k : ℕ) (r : Record) (c : Clear p q) (hp : Holds 
       go : (b : ℕ) → Has p b ⊎ ((b < from p) ⊎ (from p + size p ≤ b)) → Has q b ⊎ ((b < from q) ⊎ (from q + size q ≤ b))
           → getD (after q w k (after p v m r) .bits) b false ≡ getD (after p v m (after q w k r) .bits) b false
       go b (inl x) _ =
-          after-out q w k (after p v m r) hq′ b (λ y. c b x y) ∙ after-at p v m r hp b x ∙ sym (after-at p v m (after q w k r) hp′ b x)
+          after-out q w k (after p v m r) hq′ b (λ y. c b x y) ∙ after-at p v m r hp b x
+          ∙ sym (after-at p v m (after q w k r) hp′ b x)
       go b (inr x) (inl y) =
           after-at q w k (after p v m r) hq′ b y ∙ sym (after-at q w k r hq b y)
           ∙ sym (after-out p v m (after q w k r) hp′ b (out p b x))
@@ -166,7 +171,8 @@ module _ (i : PointerOffset) (r : Record) (h : HoldsPointer i r) where
   cleared-other j n = write-out (pointerAddress i) (false ∷ []) (r .pointers) one-inside j (λ x. n (omega arith))
 
 -- a null test says whether the flag is down
-pub null-flag : (i : PointerOffset) (r : Record) → HoldsPointer i r → null i r ≡ some (not (getD (r .pointers) (pointerAddress i) false))
+pub null-flag : (i : PointerOffset) (r : Record) → HoldsPointer i r
+    → null i r ≡ some (not (getD (r .pointers) (pointerAddress i) false))
 unfolding nullFlag
 null-flag i r h =
     rw (found-inside (pointerAddress i) 1 (r .pointers) (omega arith), drop-cons (r .pointers) (pointerAddress i) false h)

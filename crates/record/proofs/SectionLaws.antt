@@ -26,7 +26,8 @@ module _ (a : ℕ) (vs l : List Bool) (h : a + length vs ≤ length l) where
   length-write = simp (length-append, length-take, length-drop) (omega arith)
 
   pub read-write : read a (length vs) (write a vs l) ≡ vs
-  read-write = rw (drop-at (take a l) (vs ++ drop (a + length vs) l) a head-length) (take-at vs (drop (a + length vs) l) (length vs) refl)
+  read-write =
+      rw (drop-at (take a l) (vs ++ drop (a + length vs) l) a head-length) (take-at vs (drop (a + length vs) l) (length vs) refl)
 
   pub write-below : (p : ℕ) → p < a → getD (write a vs l) p false ≡ getD l p false
   write-below p k =
@@ -119,8 +120,10 @@ module _ (a j n : ℕ) (vs l : List Bool) (fits : j + length vs ≤ n) (holds : 
           write-at j vs (read a n l) part-fits i (x .0) (x .1)
           ∙ ap (λ (y : ℕ). getD vs y false) e
           ∙ sym (write-at (a + j) vs l sum-fits (a + i) (omega arith) (omega arith))
-      go (inr (inl x)) = write-below j vs (read a n l) part-fits i x ∙ old ∙ sym (write-below (a + j) vs l sum-fits (a + i) (omega arith))
-      go (inr (inr x)) = write-above j vs (read a n l) part-fits i x ∙ old ∙ sym (write-above (a + j) vs l sum-fits (a + i) (omega arith))
+      go (inr (inl x)) =
+          write-below j vs (read a n l) part-fits i x ∙ old ∙ sym (write-below (a + j) vs l sum-fits (a + i) (omega arith))
+      go (inr (inr x)) =
+          write-above j vs (read a n l) part-fits i x ∙ old ∙ sym (write-above (a + j) vs l sum-fits (a + i) (omega arith))
 
   pub write-part : write a (write j vs (read a n l)) l ≡ write (a + j) vs l
   unfolding part

@@ -1,5 +1,5 @@
--- The lines and texts of a slot's accessors, from the calls in them: those of Void, Bool, numeric and enum slots, the hasers of pointer
--- slots, and zeroing lines. What stands in a function's opening line or in a result type is left open. Assumes nothing.
+-- The lines and texts of a slot's accessors, from the calls in them: those of Void, Bool, numeric and enum slots, the hasers of
+-- pointer slots, and zeroing lines. What stands in a function's opening line or in a result type is left open. Assumes nothing.
 use mathlib.Core.Bool.{Bool, true, false}
 use mathlib.Core.List.{List, [], _∷_, _++_}
 use mathlib.Core.Option.{Option, none, some}
@@ -7,7 +7,8 @@ use Prim.Native.Nat.{ℕ}
 use Rattle.text.specs.Bytes.{Str, ascii, unit}
 use Rattle.text.specs.Lines.{FormattedTexts, Indent, Branch, Line, none as noMore, _&_, stringify}
 use Rattle.record.specs.Types.{Num, nameOf, Kind, bool, num, enum}
-use Rattle.record.specs.Calls.{getBoolField, getDataField, getEnumField, setBoolField, setDataField, setTag, zeroBool, zeroData, zeroTag, clearPointer, notNull, tagTest}
+use Rattle.record.specs.Calls.{getBoolField, getDataField, getEnumField, setBoolField, setDataField, setTag, zeroBool}
+use Rattle.record.specs.Calls.{zeroData, zeroTag, clearPointer, notNull, tagTest}
 
 -- ---- lines of a slot, from its kind, its offset and the mask as it is written
 
@@ -45,7 +46,8 @@ Tag = ℕ × ℕ
 
 -- A function of an accessor: `#[inline]`, the opening line, the body moved in, a brace.
 unfoldable pub functionText : Str → FormattedTexts → Str
-functionText opening body = stringify (Branch (Line (ascii "#[inline]") & Line opening & Indent (Branch body) & Line (ascii "}") & noMore))
+functionText opening body =
+    stringify (Branch (Line (ascii "#[inline]") & Line opening & Indent (Branch body) & Line (ascii "}") & noMore))
 
 -- a setter's body: the tag's line where the slot is a union's member, then the set; a Void slot has no set
 abbrev pub tagThen : Option Tag → FormattedTexts → FormattedTexts

@@ -1,5 +1,5 @@
--- The masks of a slot's getter and setter, from its kind, its default's bits and its explicit flag: as bits, and as they are written.
--- Assumes nothing.
+-- The masks of a slot's getter and setter, from its kind, its default's bits and its explicit flag: as bits, and as they are
+-- written. Assumes nothing.
 use mathlib.Core.Bool.{Bool, true, false}
 use mathlib.Core.List.{List, _++_}
 use mathlib.Core.Option.{Option, none, some}

@@ -1,5 +1,5 @@
-// A record lent by its caller: a data section of bytes, and a byte for each pointer. The operations that document 01, "What a line
-// does to a record", gives a meaning: plain and masked gets and sets, tests of a tag, null tests and clears.
+// A record lent by its caller: a data section of bytes, and a byte for each pointer. The operations that document 01, "What a
+// line does to a record", gives a meaning: plain and masked gets and sets, tests of a tag, null tests and clears.
 ghost use mathlib.Core.Path.{_≡_};
 ghost use Prim.Native.Nat.{_+_, _*_, _/_, _%_, _^_, _≤_, _<_};
 ghost use lib.Dec.{leb};

@@ -43,14 +43,16 @@ pub of-width : (n : ℕ) (w : Width) (o : ElementOffset) (m : ℕ) (l : List Boo
     → getOf (widthOf n) o m l ≡ getBits (dataAt w o) m l
 of-width n w o m l e f = ap (λ (x : Bytes). getOf x o m l) (sym e ∙ f)
 
-pub of-none : (n : ℕ) (o : ElementOffset) (m : ℕ) (l : List Bool) {b : Bytes} → b ≡ widthOf n → b ≡ No → getOf (widthOf n) o m l ≡ none
+pub of-none : (n : ℕ) (o : ElementOffset) (m : ℕ) (l : List Bool) {b : Bytes} → b ≡ widthOf n → b ≡ No
+    → getOf (widthOf n) o m l ≡ none
 of-none n o m l e f = ap (λ (x : Bytes). getOf x o m l) (sym e ∙ f)
 
 pub put-width : (n : ℕ) (w : Width) (o : ElementOffset) (v m : ℕ) (l : List Bool) {b : Bytes} → b ≡ widthOf n → b ≡ Are w
     → putOf (widthOf n) o v m l ≡ putBits (dataAt w o) v m l
 put-width n w o v m l e f = ap (λ (x : Bytes). putOf x o v m l) (sym e ∙ f)
 
-pub put-no-width : (n : ℕ) (o : ElementOffset) (v m : ℕ) (l : List Bool) {b : Bytes} → b ≡ widthOf n → b ≡ No → putOf (widthOf n) o v m l ≡ none
+pub put-no-width : (n : ℕ) (o : ElementOffset) (v m : ℕ) (l : List Bool) {b : Bytes} → b ≡ widthOf n → b ≡ No
+    → putOf (widthOf n) o v m l ≡ none
 put-no-width n o v m l e f = ap (λ (x : Bytes). putOf x o v m l) (sym e ∙ f)
 
 -- ---- sets and clears

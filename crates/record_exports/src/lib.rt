@@ -12,8 +12,8 @@
 //     uint8_t kitlubas_is_pointer_null(const uint8_t *pointers, size_t len, uint32_t offset);
 //     bool kitlubas_clear(uint8_t *pointers, size_t len, uint32_t offset);
 //
-// A get says whether it found a value, and puts it into `value`. A set or a clear says whether it has a meaning. A width is 1, 2, 4 or 8
-// bytes; of any other nothing is found or set. A test answers 0 for false, 1 for true, 2 past the section.
+// A get says whether it found a value, and puts it into `value`. A set or a clear says whether it has a meaning. A width is 1, 2,
+// 4 or 8 bytes; of any other nothing is found or set. A test answers 0 for false, 1 for true, 2 past the section.
 use record::BitOffset;
 use record::ElementOffset;
 use record::Get;
@@ -25,7 +25,8 @@ ghost use mathlib.Core.Path.{_≡_};
 ghost use Rattle.record.specs.Bits.{bit, sectionBits, flags};
 ghost use Rattle.record.specs.Offsets.{boolAt};
 ghost use Rattle.record.specs.Record.{getBits, putBits, tagIs, nullFlag, clearFlag};
-ghost use Rattle.record_exports.specs.Boundary.{bits, elements, pointerAt, widthOf, isDone, numberOf, Gave, Left, getOf, putOf, testNumber};
+ghost use Rattle.record_exports.specs.Boundary.{bits, elements, pointerAt, widthOf, isDone, numberOf, Gave, Left, getOf};
+ghost use Rattle.record_exports.specs.Boundary.{putOf, testNumber};
 
 // What a number of bytes is as a width.
 enum Bytes {

@@ -1,4 +1,5 @@
--- `record::clear` meets its contract: inside the pointers by the law of a cleared flag, past them nothing changes. Assumes nothing.
+-- `record::clear` meets its contract: inside the pointers by the law of a cleared flag, past them nothing changes. Assumes
+-- nothing.
 use borrow.Author.Needs.{needs}
 use mathlib.Core.Path.{_≡_, refl, sym}
 use lib.Seq.{set-out}

@@ -9,7 +9,8 @@ use Rattle.record.proofs.get_bool_field_mask.Statement.{statement}
 use Rattle.record.proofs.get_bool_field_mask.Tie as tie
 
 bit-of-requires : tie.Need-bit-of-requires
-bit-of-requires c κs = rw (c .before .before .bit-address .ensures) (mod-lt (c .before .before .before .before .args .o .0) (zero-lt-suc 7))
+bit-of-requires c κs =
+    rw (c .before .before .bit-address .ensures) (mod-lt (c .before .before .before .before .args .o .0) (zero-lt-suc 7))
 
 returns : tie.Need-returns
 returns c =

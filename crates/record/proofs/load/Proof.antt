@@ -1,5 +1,5 @@
--- `record::load` meets its contract. The loop's invariant: the number is that of the bytes from i on; it takes one byte more in front
--- with each turn. Assumes nothing.
+-- `record::load` meets its contract. The loop's invariant: the number is that of the bytes from i on; it takes one byte more in
+-- front with each turn. Assumes nothing.
 use mathlib.Core.Path.{_≡_, refl, sym, ap, _∙_}
 use mathlib.Core.List.{List}
 use Prim.Native.Nat.{ℕ, suc, _+_, _-_, _*_, _≤_, _<_, _^_}
@@ -14,7 +14,8 @@ use Rattle.record.proofs.load.Statement.{statement}
 use Rattle.record.proofs.load.Tie as tie
 
 abbrev Inv-loop : tie.InvT-loop
-Inv-loop section at n word₀ i₀ word i = (i ≤ n) × (at + n ≤ length section) × (n ≤ 8) × (word ≡ little (take (n - i) (drop (at + i) section)))
+Inv-loop section at n word₀ i₀ word i =
+    (i ≤ n) × (at + n ≤ length section) × (n ≤ 8) × (word ≡ little (take (n - i) (drop (at + i) section)))
 
 abbrev μ-loop : tie.MeasureT-loop
 μ-loop section at n word₀ i₀ word i = i

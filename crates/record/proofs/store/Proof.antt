@@ -1,5 +1,5 @@
--- `record::store` meets its contract. The loop's invariant: putting the bytes that are left from here makes what putting all of them
--- from the start makes. Assumes nothing.
+-- `record::store` meets its contract. The loop's invariant: putting the bytes that are left from here makes what putting all of
+-- them from the start makes. Assumes nothing.
 use mathlib.Core.Path.{_≡_, refl, sym, ap, ap₂, _∙_}
 use mathlib.Core.List.{List, []}
 use Prim.Native.Nat.{ℕ, suc, _+_, _-_, _*_, _/_, _%_, _≤_, _<_}

@@ -33,7 +33,8 @@ add-result-2 c =
     record { fits = rw (shifted (c .args .bit) (c .pre .1)) (omega arith) }
 
 cast-result : tie.Need-cast-result
-cast-result c = record { fits = rw (shifted (c .args .bit) (c .pre .1)) (with-bit-below _ _ _ (c .pre .0) (c .pre .1) (c .pre .2)) }
+cast-result c =
+    record { fits = rw (shifted (c .args .bit) (c .pre .1)) (with-bit-below _ _ _ (c .pre .0) (c .pre .1) (c .pre .2)) }
 
 returns : tie.Need-returns
 returns c = rw (shifted (c .args .bit) (c .pre .1))

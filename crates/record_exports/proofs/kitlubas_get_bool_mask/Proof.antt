@@ -11,4 +11,5 @@ returns-2 : tie.Need-returns-2
 returns-2 c = gave-none (c .enum-told .given .1) (c .before .before .get-bool-field-mask .ensures)
 
 pub kitlubas-get-bool-mask-spec : {M : Type 1} → statement M
-kitlubas-get-bool-mask-spec = tie.close (tie.spec (λ c κs. search needs) (λ c. search needs) (λ c. search needs) returns returns-2)
+kitlubas-get-bool-mask-spec =
+    tie.close (tie.spec (λ c κs. search needs) (λ c. search needs) (λ c. search needs) returns returns-2)
