@@ -24,13 +24,25 @@ use Rattle.meaning.specs.Reading.{Arg, value, constant}
 use Rattle.meaning.specs.Claims.{Fits}
 use Rattle.meaning.specs.Meaning as meaning
 use Rattle.meaning.specs.Meaning.{Op, setOp, clearOp, writes, gets, getsIn, Test, nullTest, tests}
-use Rattle.meaning.proofs.ReadingLaws.{by-type, number-decimal, type-name, type-u16, truth-mask, get-truth, get-mask, get-mask-enum}
+use Rattle.meaning.proofs.ReadingLaws.{by-type, number-decimal, type-name, type-u16, truth-mask, get-truth, get-mask}
+use Rattle.meaning.proofs.ReadingLaws.{get-mask-enum}
 use Rattle.meaning.proofs.ReadingLaws.{set-mask, set-mask-enum, arg-value, arg-value-mask, arg-enum, arg-tag, arg-zero}
 use Rattle.meaning.proofs.ReadingLaws.{arg-zero-u16, arg-zero-tag, bool-value, bool-false}
 
 -- one law for each part of a line
-pub ruleset parts =
-    (number-decimal, type-name, type-u16, arg-value, arg-value-mask, arg-enum, arg-zero, arg-zero-u16, arg-zero-tag, bool-value, bool-false)
+pub ruleset parts = (
+  number-decimal,
+  type-name,
+  type-u16,
+  arg-value,
+  arg-value-mask,
+  arg-enum,
+  arg-zero,
+  arg-zero-u16,
+  arg-zero-tag,
+  bool-value,
+  bool-false,
+)
 
 -- ---- calls, grouped to the right, as they are read
 
@@ -176,7 +188,8 @@ in-decimal n s = go n n (omega arith) s
             → getsIn (decimal n ++ s) ≡ getsIn s
         pick true e ih = rw (decimal-low n (ltb-true n 10 e)) (in-digit n s (ltb-true n 10 e))
         pick false e ih =
-            rw (decimal-high n (ltb-false n 10 e), append-assoc) (ih (omega arith) ∙ in-digit (n % 10) s (mod-lt n (zero-lt-suc 9)))
+            let big = ltb-false n 10 e in
+            rw (decimal-high n big, append-assoc) (ih (omega arith) ∙ in-digit (n % 10) s (mod-lt n (zero-lt-suc 9)))
 
 pub in-name : (t : Num) (s : Str) → getsIn (nameOf t ++ s) ≡ getsIn s
 unfolding getsIn gets

@@ -58,7 +58,8 @@ unfolding runHaser runTests
 haser-holds opening isReader none i r h =
     rw (function-inner opening (haserLines isReader none i) h (wholes-haser isReader none i), tests-of isReader none i)
 haser-holds opening isReader (some t) i r h =
-    rw (function-inner opening (haserLines isReader (some t) i) h (wholes-haser isReader (some t) i), tests-of isReader (some t) i)
+    let w = wholes-haser isReader (some t) i in
+    rw (function-inner opening (haserLines isReader (some t) i) h w, tests-of isReader (some t) i)
 
 -- where both answers are false, the test does not matter
 either-false : (o : Option ℕ) (n v : ℕ) → o ≡ some v → bindO o (λ x. cond (eqb x n) (some false) (some false)) ≡ some false

@@ -33,7 +33,8 @@ mask-below k (some m) h = h
 pub xor-twice : (n v m : ℕ) → v < 2 ^ n → m < 2 ^ n → bitXor (bitXor v m) m ≡ v
 xor-twice n v m hv hm =
     sym (of-to n (bitXor (bitXor v m) m) (xor-lt n (bitXor v m) m (xor-lt n v m hv hm) hm))
-    ∙ ap ofBits (sym (xors-xor n (bitXor v m) m) ∙ ap (λ (l : List Bool). xors l (toBits n m)) (sym (xors-xor n v m)) ∙ xors-twice n v m)
+    ∙ ap ofBits
+    (sym (xors-xor n (bitXor v m) m) ∙ ap (λ (l : List Bool). xors l (toBits n m)) (sym (xors-xor n v m)) ∙ xors-twice n v m)
     ∙ of-to n v hv
 
 -- the getter's mask is the default

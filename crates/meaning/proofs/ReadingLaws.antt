@@ -51,7 +51,8 @@ number-decimal n s = go n n (omega arith) s
             let big = ltb-false n 10 e in
             rw (decimal-high n big, append-assoc)
             (ih (omega arith)
-            ∙ ap some (digits-one (n / 10) (n % 10) s (mod-lt n (zero-lt-suc 9)) ∙ ap (λ (y : ℕ). digits y s) (div-add-mod' n 10)))
+            ∙ ap some
+            (digits-one (n / 10) (n % 10) s (mod-lt n (zero-lt-suc 9)) ∙ ap (λ (y : ℕ). digits y s) (div-add-mod' n 10)))
 
 -- ---- types
 

@@ -166,7 +166,8 @@ set-get-holds opening tag k o ms mg v r h f fs fg hv hp t =
           ∙ run-set tag k o ms v (tagged tag r) h′;
       answers = λ typ w isReader.
           getter-answers typ w isReader k o mg fg (after p v (maskBits ms) (tagged tag r))
-          ∙ get-after p v (maskBits ms) (tagged tag r) h′ (maskBits mg) (rw n hv) (rw n (mask-below k ms fs)) (rw n (mask-below k mg fg));
+          ∙ get-after p v (maskBits ms) (tagged tag r) h′ (maskBits mg)
+          (rw n hv) (rw n (mask-below k ms fs)) (rw n (mask-below k mg fg));
       same = record {
         length-same = a .length-same ∙ s .length-same;
         bits-same = λ b g. a .bits-same b (λ x. g (inl x)) ∙ s .bits-same b (λ x. g (inr x));

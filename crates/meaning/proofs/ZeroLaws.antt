@@ -197,7 +197,8 @@ unfolding runZeroing runLines runLine runOps
 zeroing-runs [] ft r e = rw (stringify-none ft e)
 zeroing-runs (z ∷ zs) ft r e =
     ap (λ (x : List Str). runLines none x r)
-    (lines-stringify ft (zeroText z) (zeroTexts zs) e (wholes-saying (saying-zeros (z ∷ zs))) ∙ sym (indented-none (zeroTexts (z ∷ zs))))
+    (lines-stringify ft (zeroText z) (zeroTexts zs) e (wholes-saying (saying-zeros (z ∷ zs)))
+    ∙ sym (indented-none (zeroTexts (z ∷ zs))))
     ∙ run-lines none 0 (saying-zeros (z ∷ zs)) r
 
 -- a line that is among the lines is one of their zeros', with the same operation
@@ -274,7 +275,8 @@ module _ (zs : List Zero) (r : Record) (h : Holding zs r) where
       let y = line-of (clearPointer i) (zeroOp (ofPointer i)) (says-zero (ofPointer i)) zs n in
       let m : ZeroClears (y .0) i = clears-op (y .0) i (subst (λ (x : Op). OpClears x i) (sym (y .2)) refl) in
       let g : OpHolds (zeroOp (y .0)) r = holds-op (y .0) r (h (y .0) (y .1)) in
-      let s : Null left i = steps-make (λ x. Null x i) (y .0) (λ z x g. step-null z x g i) (λ x g. step-clears (y .0) x g i m) zs r h (y .1) in
+      let s : Null left i =
+      steps-make (λ x. Null x i) (y .0) (λ z x g. step-null z x g i) (λ x g. step-clears (y .0) x g i m) zs r h (y .1) in
       null-flag (record { 0 = i }) left (rw (lengths .1) (subst (λ (x : Op). OpHolds x r) (y .2) g)) ∙ rw s
 
   pub zeroed : (ft : FormattedText) → toLines ft 0 ≡ zeroTexts zs → Zeroed zs ft r

@@ -43,10 +43,12 @@ rows =
     row bool 3 1 true "self.builder.set_bool_field_mask(3, value, true);" "self.reader.get_bool_field_mask(3, true)" 1 1
     ∷ row bool 3 1 true "self.builder.set_bool_field_mask(3, value, true);" "self.reader.get_bool_field_mask(3, true)" 0 0
     -- Int8 with default -5
-    ∷ row (num (int One)) 2 251 true "self.builder.set_data_field_mask::<i8>(2, value, -5);" "self.reader.get_data_field_mask::<i8>(2, -5)" 7 7
+    ∷ row (num (int One)) 2 251 true
+    "self.builder.set_data_field_mask::<i8>(2, value, -5);" "self.reader.get_data_field_mask::<i8>(2, -5)" 7 7
     -- Float32 with default 1.5
     ∷ row (num float32) 0 1069547520 true
-    "self.builder.set_data_field_mask::<f32>(0, value, 1069547520u32);" "self.reader.get_data_field_mask::<f32>(0, 1069547520)" 1065353216 1065353216
+    "self.builder.set_data_field_mask::<f32>(0, value, 1069547520u32);"
+    "self.reader.get_data_field_mask::<f32>(0, 1069547520)" 1065353216 1065353216
     -- Float32 with default -0.0: the setter is plain, the getter masks
     ∷ row (num float32) 1 2147483648 true
     "self.builder.set_data_field::<f32>(1, value);" "self.reader.get_data_field_mask::<f32>(1, 2147483648)" 1065353216 3212836864
@@ -62,7 +64,9 @@ rows =
     ∷ row enum 1 0 true
     "self.builder.set_data_field_mask::<u16>(1, value as u16, 0);"
     "::core::convert::TryFrom::try_from(self.reader.get_data_field::<u16>(1))" 5 5
-    ∷ row (num (uint Eight)) 1 0 false "self.builder.set_data_field::<u64>(1, value);" "self.reader.get_data_field::<u64>(1)" 18446744073709551615 18446744073709551615
+    ∷ row (num (uint Eight)) 1 0 false
+    "self.builder.set_data_field::<u64>(1, value);" "self.reader.get_data_field::<u64>(1)"
+    18446744073709551615 18446744073709551615
     ∷ []
 
 -- sixteen bytes that are not zero, and two pointers of which the first is null
@@ -73,33 +77,38 @@ abbrev pub is : Option ℕ → ℕ → Bool
 is none x = false
 is (some v) x = eqb v x
 
+-- a row's lines by the rules for masks
+abbrev pub setOf : Row → Str
+setOf x = setLine (x .kind) (x .offset) (mapO (setMaskText (x .kind)) (setMask (x .kind) (x .default) (x .explicit)))
+
+abbrev pub getOf : Row → Str
+getOf x = getLine true (x .kind) (x .offset) (mapO (getMaskText (x .kind)) (getMask (x .kind) (x .default) (x .explicit)))
+
+-- a setter with this line, on the sixteen bytes with this value
+abbrev pub setWith : Str → ℕ → Option Record
+setWith l v = runSetter (functionText (ascii "pub fn set_x(&mut self, value: T)  {") (Line l & noMore)) v some16
+
 -- the lines are those of the table, and the texts made of them write and read its values
 abbrev pub right : Row → Bool
 right x =
-    let set : Str = setLine (x .kind) (x .offset) (mapO (setMaskText (x .kind)) (setMask (x .kind) (x .default) (x .explicit))) in
-    let get : Str = getLine true (x .kind) (x .offset) (mapO (getMaskText (x .kind)) (getMask (x .kind) (x .default) (x .explicit))) in
-    both (same set (ascii (x .setter)))
-    (both (same get (ascii (x .getter)))
-    (is (bindO (runSetter (functionText (ascii "pub fn set_x(&mut self, value: T)  {") (Line set & noMore)) (x .writes) some16) (runGetter (getterText (ascii "T") get)))
-    (x .reads)))
+    both (same (setOf x) (ascii (x .setter)))
+    (both (same (getOf x) (ascii (x .getter)))
+    (is (bindO (setWith (setOf x) (x .writes)) (runGetter (getterText (ascii "T") (getOf x)))) (x .reads)))
 
 abbrev pub all : {A : Type 0} → (A → Bool) → List A → Bool
 all f [] = true
 all f (x ∷ l) = both (f x) (all f l)
 
 pub rows-right : all right rows ≡ true
-unfolding toLines flatMap join stringify same decimal signed getBoolField getDataField setBoolField setDataField functionText getterText getMaskText setMaskText found stored getBits putBits
-    typeName truth getMaskOf setMaskOf dataArg boolArg writes gets getsIn runOp runLine runLines runSetter runGetter
+unfolding toLines flatMap join stringify same decimal signed getBoolField getDataField setBoolField setDataField functionText
+    getterText getMaskText setMaskText found stored getBits putBits typeName truth getMaskOf setMaskOf dataArg boolArg writes
+    gets getsIn runOp runLine runLines runSetter runGetter
 rows-right = refl
 
 -- ---- texts without a meaning
 
--- a setter with this line, run on the sixteen bytes
-abbrev pub setWith : String → Option Record
-setWith l = runSetter (functionText (ascii "pub fn set_x(&mut self, value: T)  {") (Line (ascii l) & noMore)) 1 some16
-
 abbrev pub noSet : String → Bool
-noSet l = fails (setWith l)
+noSet l = fails (setWith (ascii l) 1)
   where
     fails : Option Record → Bool
     fails none = true
@@ -128,7 +137,8 @@ noSets =
     ∷ []
 
 pub no-sets : all noSet noSets ≡ true
-unfolding toLines flatMap join stringify functionText found stored getBits putBits clearFlag typeName truth getMaskOf setMaskOf dataArg boolArg writes runOp runLine runLines runSetter
+unfolding toLines flatMap join stringify functionText found stored getBits putBits clearFlag typeName truth getMaskOf setMaskOf
+    dataArg boolArg writes runOp runLine runLines runSetter
 no-sets = refl
 
 -- a getter with two gets has no meaning, nor has one with none
@@ -143,11 +153,13 @@ no-get = refl
 -- ---- a haser of the second pointer in a union, whose tag is 42405 = 165 * 257; a zeroing
 
 pub has-second : runHaser (haserText (ascii "pub fn has_x(&self) -> bool {") true (some (3, 42405)) 1) some16 ≡ some true
-unfolding toLines flatMap join stringify decimal notNull tagTest functionText found getBits nullFlag typeName tests testsOf runTests runHaser
+unfolding toLines flatMap join stringify decimal notNull tagTest functionText found getBits nullFlag typeName tests testsOf
+    runTests runHaser
 has-second = refl
 
 pub has-other-tag : runHaser (haserText (ascii "pub fn has_x(&self) -> bool {") false (some (3, 7)) 1) some16 ≡ some false
-unfolding toLines flatMap join stringify decimal notNull tagTest functionText found getBits nullFlag typeName tests testsOf runTests runHaser
+unfolding toLines flatMap join stringify decimal notNull tagTest functionText found getBits nullFlag typeName tests testsOf
+    runTests runHaser
 has-other-tag = refl
 
 abbrev pub zeros : List Zero → FormattedTexts
@@ -157,7 +169,10 @@ zeros (z ∷ zs) = Line (zeroText z) & zeros zs
 -- an element of two bytes zeroed as a number, as an enum and as a tag; a Bool; the second pointer
 pub zeroed :
     mapO (λ r. r .pointers)
-    (runZeroing (stringify (Branch (zeros (ofTag 4 ∷ ofSlot (num (uint Two)) 4 ∷ ofSlot enum 4 ∷ ofSlot bool 0 ∷ ofPointer 1 ∷ [])))) some16)
+    (runZeroing
+    (stringify (Branch (zeros (ofTag 4 ∷ ofSlot (num (uint Two)) 4 ∷ ofSlot enum 4 ∷ ofSlot bool 0 ∷ ofPointer 1 ∷ []))))
+    some16)
     ≡ some (false ∷ false ∷ [])
-unfolding toLines flatMap join stringify decimal setBoolField setDataField clearPointer found stored putBits clearFlag typeName truth dataArg boolArg writes runOp runLine runLines runZeroing
+unfolding toLines flatMap join stringify decimal setBoolField setDataField clearPointer found stored putBits clearFlag typeName
+    truth dataArg boolArg writes runOp runLine runLines runZeroing
 zeroed = refl

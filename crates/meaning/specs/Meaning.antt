@@ -120,11 +120,26 @@ pub data Test : Type 0 where
   tagTest : ℕ → ℕ → Test
   nullTest : PointerOffset → Test
 
+abbrev pub readTag : Reads Test
+readTag = do
+  lit "if self."
+  member
+  lit "get_data_field::<u16>("
+  o ← number
+  lit ") != "
+  n ← number
+  lit " { return false; }"
+  end
+  pure (tagTest o n)
+
+abbrev pub readNull : Reads Test
+readNull = do lit "!self.reader.get_pointer_field("; i ← number; lit ").is_null()"; end; pure (nullTest (record { 0 = i }))
+
+abbrev pub readNullField : Reads Test
+readNullField = do lit "!self.builder.is_pointer_field_null("; i ← number; lit ")"; end; pure (nullTest (record { 0 = i }))
+
 unfoldable pub tests : Reads Test
-tests =
-    (do lit "if self."; member; lit "get_data_field::<u16>("; o ← number; lit ") != "; n ← number; lit " { return false; }"; end; pure (tagTest o n))
-    or (do lit "!self.reader.get_pointer_field("; i ← number; lit ").is_null()"; end; pure (nullTest (record { 0 = i })))
-    or (do lit "!self.builder.is_pointer_field_null("; i ← number; lit ")"; end; pure (nullTest (record { 0 = i })))
+tests = readTag or readNull or readNullField
 
 -- ---- lines
 

@@ -69,7 +69,14 @@ pub write-section : (k : ℕ) (new bs : List ℕ) → k + length new ≤ length 
     → write (k * 8) (sectionBits new) (sectionBits bs) ≡ sectionBits (sets bs k new)
 write-section k new bs h =
     let e : k * 8 + length new * 8 ≡ (k + length new) * 8 = omega arith in
-    rw (length-section new, e, take-section k bs, drop-section (k + length new) bs, sets-eq new bs k h, append-assoc (take k bs) new (drop (k + length new) bs))
+    rw (
+      length-section new,
+      e,
+      take-section k bs,
+      drop-section (k + length new) bs,
+      sets-eq new bs k h,
+      append-assoc (take k bs) new (drop (k + length new) bs),
+    )
     (sym (section-append (take k bs) (new ++ drop (k + length new) bs)
     ∙ ap (λ (l : List Bool). sectionBits (take k bs) ++ l) (section-append new (drop (k + length new) bs))))
 

@@ -251,7 +251,12 @@ module _ (l : List ℕ) (i : PointerOffset) where
   unfolding nullFlag
   null-inside h =
       let g : i .0 < length (flags l) = rw (length-flags l) h in
-      rw (found-inside (i .0) 1 (flags l) (omega arith), read-one (i .0) (flags l) g, flag-at l (i .0) h, not-bit (eqb (getD l (i .0) 0) 0))
+      rw (
+        found-inside (i .0) 1 (flags l) (omega arith),
+        read-one (i .0) (flags l) g,
+        flag-at l (i .0) h,
+        not-bit (eqb (getD l (i .0) 0) 0),
+      )
 
   pub null-past : length l ≤ i .0 → nullFlag i (flags l) ≡ none
   unfolding nullFlag

@@ -6,7 +6,8 @@ use mathlib.Core.Option.{Option, none, some}
 use Prim.Native.Nat.{ℕ}
 use lib.Dec.{eqb}
 use Rattle.text.specs.Bytes.{cond}
-use Rattle.record.specs.Offsets.{dataAt}
+use Rattle.record.specs.Bits.{sectionBits}
+use Rattle.record.specs.Offsets.{boolAt, dataAt}
 use Rattle.record.specs.Record.{getBits, putBits}
 use Rattle.record.specs.Answers.{leaves}
 use Rattle.record.specs.declared.BitOffset.{BitOffset}
@@ -34,6 +35,13 @@ pointerAt n = record { 0 = n }
 -- a number of bytes as a width
 abbrev pub widthOf : ℕ → Bytes
 widthOf n = cond (eqb n 1) (Are One) (cond (eqb n 2) (Are Two) (cond (eqb n 4) (Are Four) (cond (eqb n 8) (Are Eight) No)))
+
+-- a get and a set of a Bool
+abbrev pub getBool : ℕ → ℕ → List ℕ → Option ℕ
+getBool o m l = getBits (boolAt (bits o)) m (sectionBits l)
+
+abbrev pub putBool : ℕ → ℕ → ℕ → List ℕ → Option (List Bool)
+putBool o v m l = putBits (boolAt (bits o)) v m (sectionBits l)
 
 -- a get and a set of a number: of no width nothing is found or set
 abbrev pub getOf : Bytes → ElementOffset → ℕ → List Bool → Option ℕ

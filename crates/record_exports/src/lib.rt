@@ -5,7 +5,8 @@
 //     bool kitlubas_set_bool(uint8_t *section, size_t len, uint32_t offset, bool value);
 //     bool kitlubas_set_bool_mask(uint8_t *section, size_t len, uint32_t offset, bool value, bool mask);
 //     bool kitlubas_get_data(const uint8_t *section, size_t len, uint32_t width, uint32_t offset, uint64_t *value);
-//     bool kitlubas_get_data_mask(const uint8_t *section, size_t len, uint32_t width, uint32_t offset, uint64_t mask, uint64_t *value);
+//     bool kitlubas_get_data_mask(const uint8_t *section, size_t len, uint32_t width, uint32_t offset, uint64_t mask,
+//                                 uint64_t *value);
 //     bool kitlubas_set_data(uint8_t *section, size_t len, uint32_t width, uint32_t offset, uint64_t value);
 //     bool kitlubas_set_data_mask(uint8_t *section, size_t len, uint32_t width, uint32_t offset, uint64_t value, uint64_t mask);
 //     uint8_t kitlubas_tag_is(const uint8_t *section, size_t len, uint32_t offset, uint16_t member);
@@ -23,9 +24,9 @@ use record::Test;
 use record::Width;
 ghost use mathlib.Core.Path.{_≡_};
 ghost use Rattle.record.specs.Bits.{bit, sectionBits, flags};
-ghost use Rattle.record.specs.Offsets.{boolAt};
-ghost use Rattle.record.specs.Record.{getBits, putBits, tagIs, nullFlag, clearFlag};
-ghost use Rattle.record_exports.specs.Boundary.{bits, elements, pointerAt, widthOf, isDone, numberOf, Gave, Left, getOf};
+ghost use Rattle.record.specs.Record.{tagIs, nullFlag, clearFlag};
+ghost use Rattle.record_exports.specs.Boundary.{getBool, putBool, elements, pointerAt, widthOf, getOf};
+ghost use Rattle.record_exports.specs.Boundary.{isDone, numberOf, Gave, Left};
 ghost use Rattle.record_exports.specs.Boundary.{putOf, testNumber};
 
 // What a number of bytes is as a width.
@@ -73,7 +74,7 @@ pub extern "C" fn kitlubas_get_bool_mask(
     mask: bool,
     value: &mut u64,
 ) -> bool
-    ensures { λ r. ⌜ Gave (getBits (boolAt (bits offset)) (bit mask) (sectionBits (now (section .entry)))) (now (value .entry)) (now (value .exit)) r ⌝ }
+    ensures { λ r. ⌜ Gave (getBool offset (bit mask) (now (section .entry))) (now (value .entry)) (now (value .exit)) r ⌝ }
 {
     match record::get_bool_field_mask(section, BitOffset(offset), mask) {
         Get::Value(v) => {
@@ -86,7 +87,7 @@ pub extern "C" fn kitlubas_get_bool_mask(
 
 #[no_mangle]
 pub extern "C" fn kitlubas_get_bool(section: &[u8], offset: u32, value: &mut u64) -> bool
-    ensures { λ r. ⌜ Gave (getBits (boolAt (bits offset)) 0 (sectionBits (now (section .entry)))) (now (value .entry)) (now (value .exit)) r ⌝ }
+    ensures { λ r. ⌜ Gave (getBool offset 0 (now (section .entry))) (now (value .entry)) (now (value .exit)) r ⌝ }
 {
     match record::get_bool_field(section, BitOffset(offset)) {
         Get::Value(v) => {
@@ -104,7 +105,7 @@ pub extern "C" fn kitlubas_set_bool_mask(
     value: bool,
     mask: bool,
 ) -> bool
-    ensures { λ r. ⌜ Left (putBits (boolAt (bits offset)) (bit value) (bit mask) (sectionBits (now (section .entry))))
+    ensures { λ r. ⌜ Left (putBool offset (bit value) (bit mask) (now (section .entry)))
         (sectionBits (now (section .entry))) (sectionBits (now (section .exit))) r ⌝ }
 {
     done(record::set_bool_field_mask(section, BitOffset(offset), value, mask))
@@ -112,7 +113,7 @@ pub extern "C" fn kitlubas_set_bool_mask(
 
 #[no_mangle]
 pub extern "C" fn kitlubas_set_bool(section: &mut [u8], offset: u32, value: bool) -> bool
-    ensures { λ r. ⌜ Left (putBits (boolAt (bits offset)) (bit value) 0 (sectionBits (now (section .entry))))
+    ensures { λ r. ⌜ Left (putBool offset (bit value) 0 (now (section .entry)))
         (sectionBits (now (section .entry))) (sectionBits (now (section .exit))) r ⌝ }
 {
     done(record::set_bool_field(section, BitOffset(offset), value))

@@ -8,8 +8,10 @@ use Rattle.record.proofs.get_data_field_mask.Statement.{statement}
 use Rattle.record.proofs.get_data_field_mask.Tie as tie
 
 load-requires : tie.Need-load-requires
-load-requires c κs =
-    (leb-true _ _ (rw (c .before .inside .ensures) at (c .if1 .taken)), rw (c .before .before .bytes .ensures) (bytes-small (c .before .before .before .before .before .args .width)))
+load-requires c κs = (
+  leb-true _ _ (rw (c .before .inside .ensures) at (c .if1 .taken)),
+  rw (c .before .before .bytes .ensures) (bytes-small (c .before .before .before .before .before .args .width)),
+)
 
 returns : tie.Need-returns
 returns c =
@@ -34,7 +36,9 @@ returns-2 c =
     let start = b .before .before .before in
     let e = b .before .element-address .ensures in
     let h = leb-false _ _ (rw (c .before .inside .ensures, e, b .bytes .ensures) at (c .if1 .left)) in
-    rw (get-past (dataAt (start .args .width) (start .args .o)) (now (start .args .section)) (data-past (start .args .width) (start .args .o) _ h))
+    let w = start .args .width in
+    let o = start .args .o in
+    rw (get-past (dataAt w o) (now (start .args .section)) (data-past w o _ h))
 
 pub get-data-field-mask-spec : {M : Type 1} → statement M
 get-data-field-mask-spec =

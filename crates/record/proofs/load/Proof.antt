@@ -31,11 +31,16 @@ below c =
     let k = c .before .before in
     let l = now (k .before .args .section) in
     let a = k .before .args .at + k .loop .i in
-    rw (k .loop .inv .3) (little-below 7 (k .before .args .n - k .loop .i) (drop a l) (bytes-drop a l (λ j. c .shared-slice-known .given j .fits)) (omega arith))
+    let b = bytes-drop a l (λ j. c .shared-slice-known .given j .fits) in
+    rw (k .loop .inv .3) (little-below 7 (k .before .args .n - k .loop .i) (drop a l) b (omega arith))
+
+-- the byte that a turn reads
+abbrev place : tie.After-shared-slice-known Inv-loop μ-loop → ℕ
+place c = c .before .before .before .args .at + (c .before .before .loop .i - 1)
 
 byte-below : (c : tie.After-shared-slice-known Inv-loop μ-loop)
-    → getD (now (c .before .before .before .args .section)) (c .before .before .before .args .at + (c .before .before .loop .i - 1)) 0 < 256
-byte-below c = c .shared-slice-known .given (c .before .before .before .args .at + (c .before .before .loop .i - 1)) .fits
+    → getD (now (c .before .before .before .args .section)) (place c) 0 < 256
+byte-below c = c .shared-slice-known .given (place c) .fits
 
 mul-word : tie.Need-mul-word Inv-loop μ-loop
 mul-word c = record { fits = omega (arith, below c) }

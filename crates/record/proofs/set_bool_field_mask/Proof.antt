@@ -14,7 +14,8 @@ with-bit-requires c κs =
     let start = c .before .before .before .before .before .before in (
       c .before .before .slice-known2 .given (a .result .byte) .fits,
       rw (a .ensures) (mod-lt (start .args .o .0) (zero-lt-suc 7)),
-      rw (c .before .flag .ensures, c .flag2 .ensures) (xor-lt 1 _ _ (bit-below (start .args .value)) (bit-below (start .args .mask))),
+      rw (c .before .flag .ensures, c .flag2 .ensures)
+          (xor-lt 1 _ _ (bit-below (start .args .value)) (bit-below (start .args .mask))),
     )
 
 returns : tie.Need-returns

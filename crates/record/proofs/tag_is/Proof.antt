@@ -9,13 +9,15 @@ use Rattle.record.proofs.tag_is.Tie as tie
 returns : tie.Need-returns
 returns c =
     let t = c .before .before in
-    let e = tag-value _ _ (t .before .before .before .before .args .member) _ (sym (t .tag .given .1) ∙ t .before .before .get-data-field .ensures) in
+    let n = t .before .before .before .before .args .member in
+    let e = tag-value _ _ n _ (sym (t .tag .given .1) ∙ t .before .before .get-data-field .ensures) in
     rw (e, eq-eqb _ _ (c .if1 .taken))
 
 returns-2 : tie.Need-returns-2
 returns-2 c =
     let t = c .before .before in
-    let e = tag-value _ _ (t .before .before .before .before .args .member) _ (sym (t .tag .given .1) ∙ t .before .before .get-data-field .ensures) in
+    let n = t .before .before .before .before .args .member in
+    let e = tag-value _ _ n _ (sym (t .tag .given .1) ∙ t .before .before .get-data-field .ensures) in
     rw (e, ne-eqb _ _ (c .if1 .left))
 
 returns-3 : tie.Need-returns-3

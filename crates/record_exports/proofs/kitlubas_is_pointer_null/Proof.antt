@@ -11,7 +11,8 @@ use Rattle.record_exports.proofs.kitlubas_is_pointer_null.Tie as tie
 returns : tie.Need-returns
 returns c =
     let a = c .before .before .before .args in
-    tested (nullFlag (pointerAt (a .offset)) (flags (now (a .pointers)))) (c .number .ensures) (c .before .is-pointer-field-null .ensures)
+    tested (nullFlag (pointerAt (a .offset)) (flags (now (a .pointers))))
+    (c .number .ensures) (c .before .is-pointer-field-null .ensures)
 
 pub kitlubas-is-pointer-null-spec : {M : Type 1} → statement M
 kitlubas-is-pointer-null-spec = tie.close (tie.spec (λ c κs. search needs) (λ c κs. search needs) returns)

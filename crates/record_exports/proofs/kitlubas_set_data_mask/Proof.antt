@@ -11,7 +11,8 @@ returns : tie.Need-returns
 returns c =
     let b = c .before .before in
     let a = b .before .before .args in
-    rw (put-no-width (a .width) (elements (a .offset)) (a .value) (a .mask) (sectionBits (now (a .section))) (b .width-of .ensures) (c .enum-told .given .1))
+    let l = sectionBits (now (a .section)) in
+    rw (put-no-width (a .width) (elements (a .offset)) (a .value) (a .mask) l (b .width-of .ensures) (c .enum-told .given .1))
     left-none
 
 returns-2 : tie.Need-returns-2

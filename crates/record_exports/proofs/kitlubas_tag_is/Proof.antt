@@ -11,7 +11,8 @@ use Rattle.record_exports.proofs.kitlubas_tag_is.Tie as tie
 returns : tie.Need-returns
 returns c =
     let a = c .before .before .before .args in
-    tested (tagIs (elements (a .offset)) (a .member) (sectionBits (now (a .section)))) (c .number .ensures) (c .before .tag-is .ensures)
+    tested (tagIs (elements (a .offset)) (a .member) (sectionBits (now (a .section))))
+    (c .number .ensures) (c .before .tag-is .ensures)
 
 pub kitlubas-tag-is-spec : {M : Type 1} → statement M
 kitlubas-tag-is-spec = tie.close (tie.spec (λ c κs. search needs) (λ c κs. search needs) returns)
