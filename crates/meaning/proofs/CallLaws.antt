@@ -1,9 +1,9 @@
 -- A rendered line, read again, is its operation: for every offset, type, mask and value form. The parts of a line go by their own
 -- laws, and closed text computes. Assumes nothing.
-use mathlib.Core.Path.{_≡_, refl, sym, ap, _∙_}
+use mathlib.Core.Path.{_≡_, refl, ap, _∙_}
 use mathlib.Core.Bool.{Bool, true, false}
 use mathlib.Core.Option.{Option, none, some}
-use mathlib.Core.List.{List, [], _∷_, _++_, append-assoc}
+use mathlib.Core.List.{[], _∷_, _++_, append-assoc}
 use Prim.Native.Nat.{ℕ, zero, suc, _+_, _-_, _/_, _%_, _^_, _≤_, _<_}
 use native.Mathlib.Nat.{mod-lt, zero-lt-suc}
 use native.Mathlib.Omega.{arith}
@@ -12,18 +12,16 @@ use borrow.Author.Tests.{ne-eqb, ltb-true, ltb-false}
 use Rattle.text.specs.Bytes.{Str, ascii, cond}
 use Rattle.text.specs.Decimal.{decimal, signed}
 use Rattle.text.proofs.DecimalLaws.{decimal-low, decimal-high, signed-low, signed-high}
-use Rattle.record.specs.Calls.{member, getBoolField, getDataField, getEnumField, setBoolField, setDataField, setTag, zeroBool}
-use Rattle.record.specs.Calls.{zeroData, zeroTag, clearPointer, notNull, tagTest}
+use Rattle.record.specs.Calls.{member, getBoolField, getDataField, getEnumField, setBoolField, setDataField, setTag}
+use Rattle.record.specs.Calls.{zeroTag, clearPointer, notNull, tagTest}
 use Rattle.record.specs.Lines.{setLine, getLine, zeroLine}
 use Rattle.record.specs.Masks.{halfOf, getMaskText, setMaskText, maskBits}
 use Rattle.record.specs.Record.{mapO}
-use Rattle.record.specs.Types.{Num, int, uint, float32, float64, bitsOf, nameOf, Kind, bool, num, enum, placeOf, tagPlace}
-use Rattle.record.specs.declared.Width.{Width}
-use Rattle.record.specs.declared.Width.the-variants.{One, Two, Four, Eight}
-use Rattle.meaning.specs.Reading.{Arg, value, constant}
+use Rattle.record.specs.Types.{Num, int, uint, float32, float64, nameOf, Kind, bool, num, enum, placeOf, tagPlace}
+use Rattle.meaning.specs.Reading.{value, constant}
 use Rattle.meaning.specs.Claims.{Fits}
 use Rattle.meaning.specs.Meaning as meaning
-use Rattle.meaning.specs.Meaning.{Op, setOp, clearOp, writes, gets, getsIn, Test, nullTest, tests}
+use Rattle.meaning.specs.Meaning.{setOp, clearOp, writes, gets, getsIn, nullTest, tests}
 use Rattle.meaning.proofs.ReadingLaws.{by-type, number-decimal, type-name, type-u16, truth-mask, get-truth, get-mask}
 use Rattle.meaning.proofs.ReadingLaws.{get-mask-enum}
 use Rattle.meaning.proofs.ReadingLaws.{set-mask, set-mask-enum, arg-value, arg-value-mask, arg-enum, arg-tag, arg-zero}

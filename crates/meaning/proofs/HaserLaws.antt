@@ -1,22 +1,21 @@
 -- A haser's text, run, is its tests. Assumes nothing.
-use mathlib.Core.Path.{_≡_, refl, sym, ap, _∙_}
-use mathlib.Core.Bool.{Bool, true, false, not}
+use mathlib.Core.Path.{_≡_, refl, _∙_}
+use mathlib.Core.Bool.{Bool, true, false}
 use mathlib.Core.Option.{Option, none, some}
 use mathlib.Core.List.{List, [], _∷_, _++_}
 use Prim.Native.Nat.{ℕ}
 use lib.Dec.{eqb}
-use Rattle.text.specs.Bytes.{Str, ascii, cond}
+use Rattle.text.specs.Bytes.{Str, cond}
 use Rattle.text.specs.Lines.{spaces}
 use Rattle.record.specs.Calls.{notNull, tagTest}
-use Rattle.record.specs.Lines.{Tag, functionText, haserBody, haserText}
-use Rattle.record.specs.Record.{Record, mapO, get, null}
+use Rattle.record.specs.Lines.{Tag, haserText}
+use Rattle.record.specs.Record.{Record, get, null}
 use Rattle.record.specs.Types.{tagPlace}
-use Rattle.record.specs.declared.PointerOffset.{PointerOffset}
 use Rattle.record.proofs.RecordLaws.{get-inside}
 use Rattle.meaning.specs.Reading.{bindO}
-use Rattle.meaning.specs.Claims.{hasAnswer, HaserHolds, TagHolds}
+use Rattle.meaning.specs.Claims.{HaserHolds, TagHolds}
 use Rattle.meaning.specs.Meaning as meaning
-use Rattle.meaning.specs.Meaning.{Test, nullTest, tests, whole, lines, trim, inner, testsOf, runTests, runHaser}
+use Rattle.meaning.specs.Meaning.{Test, nullTest, whole, testsOf, runTests, runHaser}
 use Rattle.meaning.proofs.CallLaws.{tests-null, tests-tag}
 use Rattle.meaning.proofs.LineLaws.{Wholes, whole-null, whole-tag, indented}
 use Rattle.meaning.proofs.SetLaws.{function-inner}

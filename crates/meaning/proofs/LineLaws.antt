@@ -1,5 +1,5 @@
 -- Lines: which bytes they don't hold, where they end, the spaces in front, and what a list of them does. Assumes nothing.
-use mathlib.Core.Path.{_≡_, refl, sym, ap, ap₂, _∙_, fun-ext}
+use mathlib.Core.Path.{_≡_, refl, ap, ap₂, _∙_, fun-ext}
 use mathlib.Core.Bool.{Bool, true, false}
 use mathlib.Core.Option.{Option, none, some}
 use mathlib.Core.List.{List, [], _∷_, _++_, append-assoc}
@@ -12,13 +12,13 @@ use Rattle.text.specs.Decimal.{decimal, signed}
 use Rattle.text.specs.Lines.{FormattedText, toLines, stringify, spaces, ended}
 use Rattle.text.proofs.LinesLaws.{stringify-lines}
 use Rattle.text.proofs.DecimalLaws.{decimal-low, decimal-high, signed-low, signed-high}
-use Rattle.record.specs.Calls.{member, getBoolField, getDataField, setBoolField, setDataField, setTag, zeroTag, clearPointer}
+use Rattle.record.specs.Calls.{getBoolField, getDataField, setBoolField, setDataField, setTag, clearPointer}
 use Rattle.record.specs.Calls.{notNull, tagTest}
-use Rattle.record.specs.Lines.{Zero, ofSlot, ofTag, ofPointer, getLine, setLine, zeroLine, zeroText}
+use Rattle.record.specs.Lines.{Zero, ofSlot, ofTag, ofPointer, getLine, setLine, zeroText}
 use Rattle.record.specs.Masks.{halfOf, getMaskText, setMaskText, maskBits}
 use Rattle.record.specs.Record.{Record, mapO}
 use Rattle.record.specs.Types.{Num, int, uint, float32, float64, nameOf, Kind, bool, num, enum, placeOf, tagPlace}
-use Rattle.meaning.specs.Reading.{bindO, Arg, value, constant}
+use Rattle.meaning.specs.Reading.{bindO, value, constant}
 use Rattle.meaning.specs.Claims.{Fits}
 use Rattle.meaning.specs.Meaning.{Op, setOp, clearOp, writes, whole, lines, push, trim, inner, front, runOp, runLine}
 use Rattle.meaning.specs.Meaning.{runLines}

@@ -4,9 +4,8 @@ use mathlib.Core.Path.{_≡_, refl, sym, ap, _∙_}
 use mathlib.Core.Bool.{Bool, true, false}
 use mathlib.Core.Option.{Option, none, some}
 use mathlib.Core.List.{List}
-use Prim.Native.Nat.{ℕ, zero, suc, _*_, _^_, _<_}
-use native.Mathlib.Omega.{arith}
-use lib.Bits.{bitXor, xor-lt, xor-zero-l, xor-zero-r}
+use Prim.Native.Nat.{ℕ, _^_, _<_}
+use lib.Bits.{bitXor, xor-lt, xor-zero-r}
 use lib.Dec.{eqb}
 use lib.Pow.{pow-pos}
 use borrow.Author.Tests.{eqb-true}
@@ -14,7 +13,7 @@ use Rattle.text.specs.Bytes.{cond, either}
 use Rattle.record.specs.Bits.{toBits, ofBits, xors}
 use Rattle.record.specs.Masks.{getMask, setMask, maskBits}
 use Rattle.record.specs.Offsets.{size}
-use Rattle.record.specs.Types.{Num, int, uint, float32, float64, Kind, bool, num, enum, slotBits, placeOf}
+use Rattle.record.specs.Types.{int, uint, float32, float64, Kind, bool, num, enum, slotBits, placeOf}
 use Rattle.record.proofs.BitLaws.{of-to, xors-twice, xors-xor}
 use Rattle.meaning.specs.Claims.{Fits, expected, ExpectedHolds}
 

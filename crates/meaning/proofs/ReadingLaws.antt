@@ -1,24 +1,24 @@
 -- What is written in a call, read again, is what was meant: one law for each part of a line, whatever stands behind it. A decimal
 -- number goes by its last digit; closed text computes. Assumes nothing.
-use mathlib.Core.Path.{_≡_, refl, sym, ap, _∙_}
+use mathlib.Core.Path.{_≡_, refl, ap, _∙_}
 use mathlib.Core.Bool.{Bool, true, false}
-use mathlib.Core.Option.{Option, none, some}
-use mathlib.Core.List.{List, [], _∷_, _++_, append-assoc}
+use mathlib.Core.Option.{some}
+use mathlib.Core.List.{_∷_, _++_, append-assoc}
 use Prim.Native.Nat.{ℕ, zero, suc, _+_, _-_, _*_, _/_, _%_, _^_, _≤_, _<_}
 use native.Mathlib.Nat.{mod-lt, zero-lt-suc, div-add-mod'}
 use native.Mathlib.Omega.{arith}
-use lib.Dec.{leb, ltb, eqb}
-use borrow.Author.Tests.{le-leb, lt-ltb, le-ltb, ltb-true, ltb-false}
-use Rattle.text.specs.Bytes.{Str, ascii, unit, cond, both}
+use lib.Dec.{ltb}
+use borrow.Author.Tests.{le-leb, lt-ltb, ltb-true, ltb-false}
+use Rattle.text.specs.Bytes.{Str, ascii}
 use Rattle.text.specs.Decimal.{decimal, signed}
 use Rattle.text.proofs.DecimalLaws.{decimal-low, decimal-high, signed-low, signed-high}
 use Rattle.record.specs.Masks.{halfOf, getMaskText, setMaskText}
 use Rattle.record.specs.Offsets.{bytesOf}
-use Rattle.record.specs.Types.{Num, int, uint, float32, float64, bitsOf, nameOf, Kind, bool, num, enum}
+use Rattle.record.specs.Types.{Num, int, uint, float32, float64, bitsOf, nameOf, bool, num, enum}
 use Rattle.record.specs.declared.Width.{Width}
 use Rattle.record.specs.declared.Width.the-variants.{One, Two, Four, Eight}
-use Rattle.meaning.specs.Reading.{bindO, digit, digits, number, below, negative, signedNumber, typeName, truth, getMaskOf}
-use Rattle.meaning.specs.Reading.{setMaskOf, Arg, value, constant, limit, ending, enumValue, dataArg, boolArg}
+use Rattle.meaning.specs.Reading.{digit, digits, number, below, signedNumber, typeName, truth, getMaskOf}
+use Rattle.meaning.specs.Reading.{setMaskOf, value, constant, dataArg, boolArg}
 
 -- ---- numbers
 

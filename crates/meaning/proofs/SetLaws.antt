@@ -1,29 +1,25 @@
 -- From a setter's text to the record that it leaves, and from a getter's text to its answer. The text's lines say operations, and
 -- the laws of records say what those do. Assumes nothing.
-use mathlib.Core.Path.{_≡_, refl, sym, ap, _∙_}
-use mathlib.Core.Bool.{Bool, true, false}
-use mathlib.Core.Logic.{_⊎_, inl, inr}
+use mathlib.Core.Path.{_≡_, refl, ap, _∙_}
+use mathlib.Core.Bool.{Bool, true}
+use mathlib.Core.Logic.{inl, inr}
 use mathlib.Core.Option.{Option, none, some}
 use mathlib.Core.List.{List, [], _∷_, _++_}
-use Prim.Native.Nat.{ℕ, _^_, _<_}
-use lib.Bits.{bitXor}
-use lib.ListN.{length}
-use lib.Pow.{pow-pos}
+use Prim.Native.Nat.{ℕ}
 use Rattle.text.specs.Bytes.{Str, ascii}
 use Rattle.text.specs.Lines.{FormattedTexts, Indent, Branch, Line, none as noMore, _&_, toLines, flatMap, stringify, spaces}
 use Rattle.record.specs.Calls.{setTag}
-use Rattle.record.specs.Lines.{Tag, getLine, setLine, tagThen, functionText, setterText, voidSetterText, getterText}
+use Rattle.record.specs.Lines.{Tag, getLine, setLine, tagThen, functionText, getterText}
 use Rattle.record.specs.Masks.{getMaskText, setMaskText, maskBits}
-use Rattle.record.specs.Offsets.{size}
-use Rattle.record.specs.Record.{Record, mapO, get, Has, Clear, Holds, Same}
-use Rattle.record.specs.Types.{Kind, slotBits, placeOf, tagPlace}
-use Rattle.record.proofs.RecordLaws.{after, put-inside, after-length, after-same, get-after, get-set, get-other}
-use Rattle.meaning.specs.Reading.{bindO, value, constant}
-use Rattle.meaning.specs.Claims.{Fits, TagFits, TagHolds, TagHas, TagClear, TagIs, SetGet, SetGetHolds, VoidSetHolds}
-use Rattle.meaning.specs.Meaning.{Op, setOp, whole, lines, inner, getsIn, single, allGets, afterFirst, runOp, runLines}
+use Rattle.record.specs.Record.{Record, mapO, get, Holds, Same}
+use Rattle.record.specs.Types.{Kind, placeOf, tagPlace}
+use Rattle.record.proofs.RecordLaws.{after, put-inside, after-same, get-after, get-set, get-other}
+use Rattle.meaning.specs.Reading.{value, constant}
+use Rattle.meaning.specs.Claims.{Fits, TagFits, TagHolds, TagHas, TagClear, TagIs, SetGetHolds, VoidSetHolds}
+use Rattle.meaning.specs.Meaning.{Op, setOp, whole, lines, inner, runOp}
 use Rattle.meaning.specs.Meaning.{runSetter, runGetter}
 use Rattle.meaning.proofs.CallLaws.{gets-line}
-use Rattle.meaning.proofs.LineLaws.{Wholes, whole-get, lines-stringify, lines-first, indented, wholes-indented, Says}
+use Rattle.meaning.proofs.LineLaws.{Wholes, whole-get, lines-stringify, lines-first, indented, wholes-indented}
 use Rattle.meaning.proofs.LineLaws.{says-set, says-tag, Saying, wholes-saying, runOps, run-lines, inner-body}
 use Rattle.meaning.proofs.MaskLaws.{slot-size, mask-below}
 

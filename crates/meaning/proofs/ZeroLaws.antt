@@ -1,35 +1,33 @@
 -- Zeroing: whatever the order and the repeats of its lines, all that they touch is zero afterwards, and nothing else has changed.
 -- A bit that is zero stays zero under a zeroing operation, and so does a null pointer. Assumes nothing.
 use mathlib.Core.Path.{_≡_, refl, sym, ap, _∙_, subst}
-use mathlib.Core.Bool.{Bool, true, false, not}
-use mathlib.Core.Logic.{_⊎_, inl, inr, _≢_}
+use mathlib.Core.Bool.{Bool, true, false}
+use mathlib.Core.Logic.{_⊎_, inl, inr}
 use mathlib.Core.Option.{Option, none, some}
 use mathlib.Core.List.{List, [], _∷_}
 use Prim.Native.Nat.{ℕ, zero, suc, _+_, _-_, _^_, _≤_, _<_}
 use native.Mathlib.Omega.{arith}
 use native.Mathlib.Decide.{ℕ-discrete}
-use lib.Bits.{bitXor, xor-zero-l}
+use lib.Bits.{xor-zero-l}
 use lib.ListN.{length, getD, replicate}
 use lib.Pow.{pow-pos}
 use Rattle.text.specs.Bytes.{Str}
 use Rattle.text.specs.Lines.{FormattedText, toLines, stringify}
 use Rattle.text.proofs.LinesLaws.{stringify-none}
-use Rattle.record.specs.Bits.{toBits}
 use Rattle.record.specs.Calls.{clearPointer}
 use Rattle.record.specs.Lines.{Zero, ofSlot, ofTag, ofPointer, zeroLine, zeroText, zeroTexts}
 use Rattle.record.specs.Masks.{maskBits}
 use Rattle.record.specs.Offsets.{Place, from, size}
 use Rattle.record.specs.Record.{Record, mapO, coded, get, null, Has, Holds, HoldsPointer}
-use Rattle.record.specs.Types.{Num, uint, Kind, bool, num, enum, slotBits, placeOf, tagPlace}
+use Rattle.record.specs.Types.{Num, uint, Kind, bool, num, enum, placeOf, tagPlace}
 use Rattle.record.specs.declared.Width.the-variants.{Two}
-use Rattle.record.specs.declared.PointerOffset.{PointerOffset}
 use Rattle.record.proofs.BitLaws.{xors-xor, toBits-zero}
 use Rattle.record.proofs.RecordLaws.{after, cleared, put-inside, after-length, after-at, after-out, get-ext, get-after}
 use Rattle.record.proofs.RecordLaws.{clear-inside, cleared-bits, cleared-length, cleared-at, cleared-other, null-flag}
 use Rattle.record.proofs.SectionLaws.{where?}
-use Rattle.meaning.specs.Claims.{Fits, In, HoldsZero, ZeroHas, ZeroClears, Zeroed, ZeroingHolds}
-use Rattle.meaning.specs.Meaning.{Op, setOp, clearOp, writes, lines, runOp, runLine, runLines, runZeroing}
-use Rattle.meaning.specs.Reading.{Arg, constant, bindO, _>>=_, _>>_, _or_, pure, lit, number, typeName}
+use Rattle.meaning.specs.Claims.{In, HoldsZero, ZeroHas, ZeroClears, Zeroed, ZeroingHolds}
+use Rattle.meaning.specs.Meaning.{Op, setOp, clearOp, writes, runOp, runLine, runLines, runZeroing}
+use Rattle.meaning.specs.Reading.{_>>=_, _>>_, _or_, pure, lit, number, typeName}
 use Rattle.meaning.proofs.CallLaws.{parts, set-bool, set-data}
 use Rattle.meaning.proofs.HaserLaws.{haser-null}
 use Rattle.meaning.proofs.LineLaws.{Says, says-zero, zeroOp, Saying, wholes-saying, lines-stringify, indented, runOps}

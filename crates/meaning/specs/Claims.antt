@@ -1,6 +1,6 @@
 -- What is claimed of accessor texts, from their bytes: set and then get, the Void setter, hasers, zeroing. The masks of setter
 -- and getter are parameters; `expected` says what document 01's rules for masks make of them. Assumes nothing.
-use Prim.Native.Nat.{ℕ, _+_, _^_, _<_, _≤_}
+use Prim.Native.Nat.{ℕ, _^_, _<_}
 use mathlib.Core.Path.{_≡_}
 use mathlib.Core.Bool.{Bool, true, false, not}
 use mathlib.Core.Logic.{_⊎_}
@@ -17,7 +17,7 @@ use Rattle.record.specs.Lines.{zeroLine, zeroTexts}
 use Rattle.record.specs.Masks.{getMask, setMask, getMaskText, setMaskText, maskBits}
 use Rattle.record.specs.Offsets.{Place}
 use Rattle.record.specs.Record.{Record, mapO, get, null, Has, Clear, Holds, HoldsPointer, Same}
-use Rattle.record.specs.Types.{Num, int, uint, float32, float64, Kind, bool, num, enum, slotBits, placeOf, tagPlace}
+use Rattle.record.specs.Types.{int, uint, float32, float64, Kind, bool, num, enum, slotBits, placeOf, tagPlace}
 use Rattle.record.specs.declared.PointerOffset.{PointerOffset}
 use Rattle.meaning.specs.Reading.{bindO}
 use Rattle.meaning.specs.Meaning.{whole, runSetter, runGetter, runHaser, runZeroing}

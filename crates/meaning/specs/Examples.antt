@@ -3,8 +3,8 @@
 use Prim.Native.Nat.{ℕ}
 use Prim.Native.String.{String}
 use mathlib.Core.Path.{_≡_, refl}
-use mathlib.Core.Bool.{Bool, true, false, not}
-use mathlib.Core.List.{List, [], _∷_, _++_}
+use mathlib.Core.Bool.{Bool, true, false}
+use mathlib.Core.List.{List, [], _∷_}
 use mathlib.Core.Option.{Option, none, some}
 use lib.Dec.{eqb}
 use lib.ListN.{replicate}
@@ -13,15 +13,22 @@ use Rattle.text.specs.Decimal.{decimal, signed}
 use Rattle.text.specs.Lines.{FormattedTexts, Branch, Line, none as noMore, _&_, toLines, flatMap, join, stringify}
 use Rattle.record.specs.Bits.{sectionBits}
 use Rattle.record.specs.Calls.{getBoolField, getDataField, setBoolField, setDataField, clearPointer, notNull, tagTest}
-use Rattle.record.specs.Lines.{getLine, setLine, functionText, setterText, getterText, haserText, Zero, ofSlot, ofTag, ofPointer}
+use Rattle.record.specs.Lines.{getLine, setLine, functionText, getterText, haserText, Zero, ofSlot, ofTag, ofPointer}
 use Rattle.record.specs.Lines.{zeroText}
 use Rattle.record.specs.Masks.{getMask, setMask, getMaskText, setMaskText}
 use Rattle.record.specs.Record.{Record, mapO, found, stored, getBits, putBits, nullFlag, clearFlag}
-use Rattle.record.specs.Types.{Num, int, uint, float32, Kind, bool, num, enum}
-use Rattle.record.specs.declared.Width.the-variants.{One, Two, Four, Eight}
+use Rattle.record.specs.Types.{int, uint, float32, Kind, bool, num, enum, kindOf}
+use Rattle.record.specs.declared.Width.the-variants.{One, Two, Eight}
 use Rattle.meaning.specs.Reading.{bindO, typeName, truth, getMaskOf, setMaskOf, dataArg, boolArg}
 use Rattle.meaning.specs.Meaning.{writes, gets, getsIn, tests, runOp, runLine, runLines, runSetter, runGetter, runZeroing}
 use Rattle.meaning.specs.Meaning.{testsOf, runTests, runHaser}
+
+-- document 01's numbers for kinds: Void, Bool, the first and the last of the numeric types, Text, Enum, AnyPointer
+pub kinds-right :
+    (kindOf 0 ≡ none) × (kindOf 1 ≡ some bool) × (kindOf 2 ≡ some (num (int One))) × (kindOf 9 ≡ some (num (uint Eight)))
+    × (kindOf 10 ≡ some (num float32)) × (kindOf 12 ≡ none) × (kindOf 15 ≡ some enum) × (kindOf 18 ≡ none)
+unfolding kindOf
+kinds-right = (refl, refl, refl, refl, refl, refl, refl, refl)
 
 -- a slot with its default, the lines of its accessors, a value written and the value read
 pub record Row : Type 0 where

@@ -1,6 +1,6 @@
 -- What a text does to a record, from its bytes alone (document 01, "What a line does to a record"): a text that is none of these
 -- has no meaning. Assumes nothing.
-use Prim.Native.Nat.{ℕ, zero, suc}
+use Prim.Native.Nat.{ℕ}
 use mathlib.Core.Bool.{Bool, true, false, not}
 use mathlib.Core.List.{List, [], _∷_, _++_}
 use mathlib.Core.Option.{Option, none, some}
@@ -8,9 +8,9 @@ use lib.Dec.{eqb}
 use Rattle.text.specs.Bytes.{Str, cond}
 use Rattle.record.specs.Offsets.{Place, boolAt, dataAt}
 use Rattle.record.specs.Record.{Record, mapO, get, put, null, clear}
-use Rattle.record.specs.Types.{Num, uint, widthOf, tagPlace}
+use Rattle.record.specs.Types.{Num, widthOf, tagPlace}
 use Rattle.record.specs.declared.PointerOffset.{PointerOffset}
-use Rattle.meaning.specs.Reading.{Reads, bindO, _>>=_, _>>_, pure, _or_, lit, end, number, below, typeName, truth}
+use Rattle.meaning.specs.Reading.{Reads, bindO, _>>=_, _>>_, pure, _or_, lit, end, number, typeName, truth}
 use Rattle.meaning.specs.Reading.{getMaskOf, setMaskOf, Arg, value, constant, dataArg, boolArg}
 
 -- ---- a line that writes

@@ -1,8 +1,8 @@
 -- Reading from the front of a line: fixed bytes, numbers, types and masks as they are written in a call. Assumes nothing.
-use Prim.Native.Nat.{ℕ, zero, suc, _+_, _*_, _-_, _^_}
+use Prim.Native.Nat.{ℕ, _+_, _*_, _-_, _^_}
 use Prim.Native.String.{String}
 use mathlib.Core.Bool.{Bool, true, false}
-use mathlib.Core.List.{List, [], _∷_}
+use mathlib.Core.List.{[], _∷_}
 use mathlib.Core.Option.{Option, none, some}
 use lib.Dec.{eqb, leb, ltb}
 use Rattle.text.specs.Bytes.{Str, ascii, cond, both}

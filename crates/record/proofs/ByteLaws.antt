@@ -1,22 +1,21 @@
 -- The section as bits is the section as bytes, in document 01's own words: which bit of which byte a Bool is, which bytes a
 -- number is, and which bytes a set changes. By induction on the bytes. Assumes nothing.
-use mathlib.Core.Path.{_≡_, refl, sym, ap, ap₂, _∙_, subst}
-use mathlib.Core.Bool.{Bool, true, false, not}
-use mathlib.Core.Option.{Option, none, some}
+use mathlib.Core.Path.{_≡_, refl, sym, ap, ap₂, _∙_}
+use mathlib.Core.Bool.{Bool, false, not}
 use mathlib.Core.List.{List, [], _∷_, _++_, append-assoc}
 use Prim.Native.Nat.{ℕ, zero, suc, _+_, _-_, _*_, _/_, _%_, _^_, _≤_, _<_}
-use native.Mathlib.Nat.{div-add-mod', mod-lt, zero-lt-suc, pow-suc, suc-mul, mul-one, add-zero}
+use native.Mathlib.Nat.{div-add-mod', mod-lt, zero-lt-suc, pow-suc, suc-mul}
 use native.Mathlib.Omega.{arith}
 use lib.Dec.{eqb}
-use lib.ListN.{length, take, drop, getD, set, length-append, List·getD-append}
+use lib.ListN.{length, take, drop, getD, List·getD-append}
 use lib.Seq.{drop-append-add, take-append-add, drop-nil, take-nil, getD-drop, drop-cons, sets, sets-eq}
-use Rattle.record.specs.Bits.{toBits, ofBits, bit, sectionBits, little, littleBytes, flags}
-use Rattle.record.specs.Offsets.{bytesOf, bitAddress, elementAddress, boolAt, dataAt, from, size}
+use Rattle.record.specs.Bits.{toBits, ofBits, sectionBits, little, littleBytes, flags}
+use Rattle.record.specs.Offsets.{bytesOf, boolAt, dataAt, from, size}
 use Rattle.record.specs.Record.{read, write}
 use Rattle.record.specs.declared.BitOffset.{BitOffset}
 use Rattle.record.specs.declared.ElementOffset.{ElementOffset}
 use Rattle.record.specs.declared.Width.{Width}
-use Rattle.record.proofs.BitLaws.{length-toBits, of-to, toBits-at, toBits-append, toBits-mod}
+use Rattle.record.proofs.BitLaws.{of-to, toBits-at, toBits-append, toBits-mod}
 
 -- each is a byte
 abbrev pub Bytes : List ℕ → Type 0

@@ -1,11 +1,11 @@
 -- What the code does to bytes is what the definitions do to bits: a law for each operation, inside the section and past it, and
 -- one for each turn of a loop. Assumes nothing.
-use mathlib.Core.Path.{_≡_, refl, sym, ap, ap₂, _∙_, subst}
+use mathlib.Core.Path.{_≡_, refl, sym, ap, _∙_, subst}
 use mathlib.Core.Bool.{Bool, true, false, not}
 use mathlib.Core.Option.{Option, none, some}
 use mathlib.Core.List.{List, [], _∷_, _++_, append-assoc, append-nil}
 use Prim.Native.Nat.{ℕ, zero, suc, _+_, _-_, _*_, _/_, _%_, _^_, _≤_, _<_}
-use native.Mathlib.Nat.{mod-lt, zero-lt-suc, pow-succ', mod-eq-of-lt, one-le-pow, one-mul}
+use native.Mathlib.Nat.{mod-lt, zero-lt-suc, pow-succ', one-le-pow, one-mul}
 use native.Mathlib.Omega.{arith}
 use lib.Arith.{digits-lt, digits-div, digits-mod}
 use lib.Bits.{bitXor, xor-lt}
@@ -14,9 +14,9 @@ use lib.ListN.{length, take, drop, getD, set, length-append}
 use lib.Pow.{high, low, pow-pos, pow-add, pow-mono, shr-lt, shl-exact}
 use lib.Seq.{drop-cons, take-at, drop-at, sets, set-split}
 use borrow.Author.Tests.{le-leb, lt-leb, leb-true, leb-false}
-use Rattle.record.specs.Bits.{toBits, ofBits, bit, withBit, sectionBits, little, littleBytes, flags}
+use Rattle.record.specs.Bits.{toBits, bit, withBit, sectionBits, little, littleBytes, flags}
 use Rattle.record.specs.Offsets.{Place, bytesOf, boolAt, dataAt, from, size}
-use Rattle.record.specs.Record.{read, write, mapO, masked, coded, getBits, putBits, tagIs, nullFlag, clearFlag}
+use Rattle.record.specs.Record.{read, write, mapO, coded, getBits, putBits, tagIs, nullFlag, clearFlag}
 use Rattle.record.specs.Answers.{getAnswer, Put}
 use Rattle.record.specs.declared.BitOffset.{BitOffset}
 use Rattle.record.specs.declared.ElementOffset.{ElementOffset}

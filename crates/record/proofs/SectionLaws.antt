@@ -1,16 +1,16 @@
 -- Sections: what a write leaves, bit by bit; what a get or a set of a place does where it lies inside. Assumes nothing.
 use mathlib.Core.Path.{_≡_, refl, sym, ap, _∙_, subst}
-use mathlib.Core.Bool.{Bool, true, false}
-use mathlib.Core.Option.{Option, none, some}
+use mathlib.Core.Bool.{Bool, false}
+use mathlib.Core.Option.{none, some}
 use mathlib.Core.Logic.{_⊎_, inl, inr}
-use mathlib.Core.List.{List, [], _∷_, _++_}
-use Prim.Native.Nat.{ℕ, zero, suc, _+_, _-_, _≤_, _<_}
+use mathlib.Core.List.{List, _++_}
+use Prim.Native.Nat.{ℕ, _+_, _-_, _≤_, _<_}
 use native.Mathlib.Omega.{arith}
 use native.Mathlib.Decide.{decLt}
 use lib.ListN.{length, take, drop, getD, length-append, length-take, length-drop, List·getD-append}
 use lib.Seq.{take-at, drop-at, ext-getD, getD-drop, getD-take, getD-append-add, length-take-le}
 use borrow.Author.Tests.{le-leb, lt-leb}
-use Rattle.record.specs.Record.{read, write, only, inside, found, stored}
+use Rattle.record.specs.Record.{read, write, found, stored}
 
 -- past the first list, of length n
 at-right : (xs ys : List Bool) (n q : ℕ) → length xs ≡ n → getD (xs ++ ys) (n + q) false ≡ getD ys q false

@@ -4,11 +4,10 @@ use mathlib.Core.Path.{_≡_}
 use mathlib.Core.Bool.{Bool, true, false}
 use mathlib.Core.Option.{Option, none, some}
 use mathlib.Core.List.{List}
-use lib.Dec.{eqb}
 use lib.ListN.{set}
 use Rattle.record.specs.Bits.{sectionBits, flags}
 use Rattle.record.specs.Offsets.{Place, pointerAddress}
-use Rattle.record.specs.Record.{mapO, putBits, clearFlag}
+use Rattle.record.specs.Record.{putBits, clearFlag}
 use Rattle.record.specs.declared.PointerOffset.{PointerOffset}
 use Rattle.record.specs.declared.Get.{Get}
 use Rattle.record.specs.declared.Get.the-variants as gets

@@ -1,12 +1,12 @@
 -- The lines and texts of a slot's accessors, from the calls in them: those of Void, Bool, numeric and enum slots, the hasers of
 -- pointer slots, and zeroing lines. What stands in a function's opening line or in a result type is left open. Assumes nothing.
-use mathlib.Core.Bool.{Bool, true, false}
+use mathlib.Core.Bool.{Bool}
 use mathlib.Core.List.{List, [], _∷_, _++_}
 use mathlib.Core.Option.{Option, none, some}
 use Prim.Native.Nat.{ℕ}
 use Rattle.text.specs.Bytes.{Str, ascii, unit}
 use Rattle.text.specs.Lines.{FormattedTexts, Indent, Branch, Line, none as noMore, _&_, stringify}
-use Rattle.record.specs.Types.{Num, nameOf, Kind, bool, num, enum}
+use Rattle.record.specs.Types.{nameOf, Kind, bool, num, enum}
 use Rattle.record.specs.Calls.{getBoolField, getDataField, getEnumField, setBoolField, setDataField, setTag, zeroBool}
 use Rattle.record.specs.Calls.{zeroData, zeroTag, clearPointer, notNull, tagTest}
 

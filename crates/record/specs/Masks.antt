@@ -1,14 +1,14 @@
 -- The masks of a slot's getter and setter, from its kind, its default's bits and its explicit flag: as bits, and as they are
 -- written. Assumes nothing.
 use mathlib.Core.Bool.{Bool, true, false}
-use mathlib.Core.List.{List, _++_}
+use mathlib.Core.List.{_++_}
 use mathlib.Core.Option.{Option, none, some}
 use Prim.Native.Nat.{ℕ, _-_, _*_, _^_}
 use lib.Dec.{eqb}
 use Rattle.text.specs.Bytes.{Str, ascii, cond, either}
 use Rattle.text.specs.Decimal.{decimal, signed}
 use Rattle.record.specs.Offsets.{bytesOf}
-use Rattle.record.specs.Types.{Num, int, uint, float32, float64, bitsOf, Kind, bool, num, enum}
+use Rattle.record.specs.Types.{int, uint, float32, float64, Kind, bool, num, enum}
 use Rattle.record.specs.declared.Width.{Width}
 
 -- the sign's bit of a number of so many bytes

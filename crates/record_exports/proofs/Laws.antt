@@ -4,7 +4,7 @@ use mathlib.Core.Bool.{Bool, true, false}
 use mathlib.Core.List.{List}
 use mathlib.Core.Option.{Option, none, some}
 use Prim.Native.Nat.{ℕ}
-use Rattle.record.specs.Answers.{getAnswer, setAnswer, testAnswer, leaves, Put, Cleared}
+use Rattle.record.specs.Answers.{getAnswer, setAnswer, testAnswer, Put, Cleared}
 use Rattle.record.specs.Bits.{sectionBits, flags}
 use Rattle.record.specs.Offsets.{Place, dataAt}
 use Rattle.record.specs.Record.{getBits, putBits, clearFlag}

@@ -17,7 +17,6 @@ use Rattle.record.specs.declared.Set.{Set}
 use Rattle.record.specs.declared.Set.the-variants.{Done, NoMeaning}
 use Rattle.record.specs.declared.Test.{Test}
 use Rattle.record.specs.declared.Test.the-variants.{True, False, None}
-use Rattle.record.specs.declared.Width.{Width}
 use Rattle.record.specs.declared.Width.the-variants.{One, Two, Four, Eight}
 use Rattle.record_exports.specs.declared.Bytes.{Bytes}
 use Rattle.record_exports.specs.declared.Bytes.the-variants.{Are, No}

@@ -1,14 +1,13 @@
 -- `record::load` meets its contract. The loop's invariant: the number is that of the bytes from i on; it takes one byte more in
 -- front with each turn. Assumes nothing.
-use mathlib.Core.Path.{_≡_, refl, sym, ap, _∙_}
-use mathlib.Core.List.{List}
-use Prim.Native.Nat.{ℕ, suc, _+_, _-_, _*_, _≤_, _<_, _^_}
+use mathlib.Core.Path.{_≡_}
+use Prim.Native.Nat.{ℕ, suc, _+_, _-_, _≤_, _<_, _^_}
 use native.Mathlib.Omega.{arith}
 use lib.ListN.{length, take, drop, getD}
 use denote.Ref.{now}
 use borrow.Author.Needs.{needs}
 use Rattle.record.specs.Bits.{little}
-use Rattle.record.proofs.ByteLaws.{Bytes, bytes-drop}
+use Rattle.record.proofs.ByteLaws.{bytes-drop}
 use Rattle.record.proofs.OperationLaws.{little-turn, little-below}
 use Rattle.record.proofs.load.Statement.{statement}
 use Rattle.record.proofs.load.Tie as tie

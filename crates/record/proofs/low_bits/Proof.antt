@@ -1,7 +1,6 @@
 -- `record::low_bits` meets its contract, width by width. Assumes nothing.
 use native.Mathlib.Nat.{mod-eq-of-lt}
 use mathlib.Core.Path.{sym}
-use native.Mathlib.Omega.{arith}
 use borrow.Author.Needs.{needs}
 use Rattle.record.proofs.low_bits.Statement.{statement}
 use Rattle.record.proofs.low_bits.Tie as tie
