@@ -1,5 +1,5 @@
--- A name is one of some words exactly where it is one of those of its own length, and such words can stand one after the other in a byte
--- string. By induction on the words. Assumes nothing.
+-- A name is one of some words exactly where it is one of those of its own length, and such words can stand one after the other
+-- in a byte string. By induction on the words. Assumes nothing.
 use mathlib.Core.Path.{_≡_, refl, sym, ap, _∙_}
 use mathlib.Core.Bool.{Bool, true, false}
 use mathlib.Core.List.{List, [], _∷_, _++_, append-assoc, append-nil}
@@ -31,10 +31,12 @@ among-length s (w ∷ ws) = go (eqb (length w) (length s)) refl (among-length s 
     go false e f = rw (unlike s w (λ q. eqb-false (length w) (length s) e (sym q))) f
 
 -- the words of a byte string, where they are the keywords of the name's length
-pub of-length : (s words : Str) (r : Bool) (n : ℕ) → length s ≡ n → r ≡ among s (wordsOf (length s) words) → cut n n [] words ≡ ofLength n rustKeywords → r ≡ isKeyword s
+pub of-length : (s words : Str) (r : Bool) (n : ℕ) → length s ≡ n → r ≡ among s (wordsOf (length s) words)
+    → cut n n [] words ≡ ofLength n rustKeywords → r ≡ isKeyword s
 unfolding isKeyword wordsOf
 of-length s words r n e f g =
-    f ∙ ap (λ (k : ℕ). among s (cut k k [] words)) e ∙ ap (among s) g ∙ ap (λ (k : ℕ). among s (ofLength k rustKeywords)) (sym e) ∙ among-length s rustKeywords
+    f ∙ ap (λ (k : ℕ). among s (cut k k [] words)) e ∙ ap (among s) g
+    ∙ ap (λ (k : ℕ). among s (ofLength k rustKeywords)) (sym e) ∙ among-length s rustKeywords
 
 -- whether each word has 2 to 8 bytes
 abbrev sized : List Str → Bool
@@ -63,13 +65,15 @@ from-six n a b c d h = omega arith
 past-eight : (n : ℕ) → (n ≡ 6 → ⊥) → (n ≡ 7 → ⊥) → (n ≡ 8 → ⊥) → 6 ≤ n → 8 < n
 past-eight n a b c h = omega arith
 
-pub none-of : (n : ℕ) → (n ≡ 2 → ⊥) → (n ≡ 3 → ⊥) → (n ≡ 4 → ⊥) → (n ≡ 5 → ⊥) → (n ≡ 6 → ⊥) → (n ≡ 7 → ⊥) → (n ≡ 8 → ⊥) → 2 ≤ n → 8 < n
+pub none-of : (n : ℕ) → (n ≡ 2 → ⊥) → (n ≡ 3 → ⊥) → (n ≡ 4 → ⊥) → (n ≡ 5 → ⊥) → (n ≡ 6 → ⊥) → (n ≡ 7 → ⊥) → (n ≡ 8 → ⊥) → 2 ≤ n
+    → 8 < n
 none-of n a b c d e f g h = past-eight n e f g (from-six n a b c d h)
 
 cut-some : (n k : ℕ) (w s : Str) → k < length s → cut n k w s ≡ (w ++ take k s) ∷ cut n n [] (drop (suc k) s)
 cut-some n k w [] h = absurd (not-suc-le-zero h)
 cut-some n zero w (c ∷ s) h = rw append-nil
-cut-some n (suc k) w (c ∷ s) h = cut-some n k (w ++ unit c) s (le-of-suc-le-suc h) ∙ ap (λ (v : Str). v ∷ cut n n [] (drop (suc k) s)) (append-assoc w (unit c) (take k s))
+cut-some n (suc k) w (c ∷ s) h = cut-some n k (w ++ unit c) s (le-of-suc-le-suc h)
+    ∙ ap (λ (v : Str). v ∷ cut n n [] (drop (suc k) s)) (append-assoc w (unit c) (take k s))
 
 cut-none : (n k : ℕ) (w s : Str) → length s ≤ k → cut n k w s ≡ []
 cut-none n k w [] h = refl
@@ -87,8 +91,8 @@ words-none n s h = cut-none n n [] s h
 
 -- a turn over the words from a place on: the word there, which ends at place + length, and those after it
 pub turn : (name words : Str) (at : ℕ) → length name < length words - at
-    → among name (wordsOf (length name) (drop at words))
-    ≡ either (same name (take (at + length name - at) (drop at words))) (among name (wordsOf (length name) (drop (at + length name + 1) words)))
+    → among name (wordsOf (length name) (drop at words)) ≡ either (same name (take (at + length name - at) (drop at words)))
+    (among name (wordsOf (length name) (drop (at + length name + 1) words)))
 unfolding among
 turn name words at h =
     let n = length name in

@@ -16,7 +16,8 @@ use Rattle.text.specs.declared.Text.{Text}
 use Rattle.text.proofs.BytesLaws.{both-false}
 use Rattle.text.proofs.Places.{put-placed, adv-fits}
 use Rattle.names.specs.Keywords.{isKeyword}
-use Rattle.names.specs.Names.{isUppercase, toAsciiLowercase, isAscii, taken, snakeChar, snakeFrom, camelToSnakeCase, moduleName, held, nameOf}
+use Rattle.names.specs.Names.{isUppercase, toAsciiLowercase, isAscii, taken, snakeChar, snakeFrom}
+use Rattle.names.specs.Names.{camelToSnakeCase, moduleName, held, Snaked, nameOf}
 use Rattle.names.specs.declared.Snake.{Snake}
 
 -- a turn of the loop: the first char, a char that is no capital, and a capital
@@ -83,7 +84,8 @@ held-wrote s l t h w =
     (ap (λ (u : Text). u .at) (w .state ∙ adv-fits 0 s (omega arith)) ∙ zero-add (length s))
 
 -- the two ends of `camel_to_snake_case`: a name that is taken, and one that is not
-pub held-taken : (name l : Str) (t : Text) → taken name ≡ true → Wrote (replicate 128 0) (textAt 0) (snakeFrom true name) l t → snake l (t .at) ≡ held (camelToSnakeCase name)
+pub held-taken : (name l : Str) (t : Text) → taken name ≡ true → Wrote (replicate 128 0) (textAt 0) (snakeFrom true name) l t
+    → snake l (t .at) ≡ held (camelToSnakeCase name)
 held-taken name l t e w =
     let f = camel-taken name e in
     rw f (held-wrote (snakeFrom true name) l t (omega (arith, snake-length name, ap length f)) w)
@@ -91,6 +93,10 @@ held-taken name l t e w =
 pub held-other : (name : Str) → taken name ≡ false → snake (replicate 128 0) 0 ≡ held (camelToSnakeCase name)
 unfolding held camelToSnakeCase
 held-other name e = rw e
+
+pub snaked : (name : Str) (n : Snake) → n ≡ held (camelToSnakeCase name) → Snaked name n
+unfolding held
+snaked name n e = record { whole = e; short = rw e (snake-length name) }
 
 -- and is found again
 pub name-of : (n : Snake) (s : Str) → n ≡ held s → nameOf n ≡ s

@@ -1,7 +1,9 @@
--- Names in generated code: `camel_to_snake_case` and `module_name` of codegen.rs, and the name of a default's constant. Assumes nothing.
+-- Names in generated code: `camel_to_snake_case` and `module_name` of codegen.rs, and the name of a default's constant. Assumes
+-- nothing.
+use mathlib.Core.Path.{_≡_}
 use mathlib.Core.Bool.{Bool, true, false, not}
 use mathlib.Core.List.{[], _∷_, _++_, map}
-use Prim.Native.Nat.{ℕ, _+_, _-_}
+use Prim.Native.Nat.{ℕ, _+_, _-_, _≤_}
 use lib.Dec.{leb, ltb}
 use lib.ListN.{length, take, replicate}
 use Rattle.text.specs.Bytes.{Str, ascii, unit, cond, both}
@@ -29,7 +31,8 @@ isAscii (c ∷ cs) = both (ltb c 128) (isAscii cs)
 unfoldable pub taken : Str → Bool
 taken name = both (leb (length name) 64) (isAscii name)
 
--- a turn of the loop of `camel_to_snake_case`: an underscore before a capital that is not the first char, and the char in lower case
+-- a turn of the loop of `camel_to_snake_case`: an underscore before a capital that is not the first char, and the char in lower
+-- case
 abbrev pub snakeChar : Bool → ℕ → Str
 snakeChar first c = cond (both (isUppercase c) (not first)) (unit 95) [] ++ unit (toAsciiLowercase c)
 
@@ -60,3 +63,8 @@ held s = record { bytes = s ++ replicate (128 - length s) 0; len = length s }
 -- the name that a struct holds
 abbrev pub nameOf : Snake → Str
 nameOf n = take (n .len) (n .bytes)
+
+-- what `camel_to_snake_case` makes of a name: its snake name, held whole, in at most 127 bytes
+pub record Snaked (name : Str) (n : Snake) : Type 0 where
+  pub whole : n ≡ held (camelToSnakeCase name)
+  pub short : n .len ≤ 127

@@ -26,7 +26,8 @@ fuel zero m n h g = sym (digits-low m n (omega arith))
 fuel (suc k) zero n h g = digits-low (suc k) n (omega arith)
 fuel (suc k) (suc m) n h g = go (fuel k m (n / 10)) (ltb n 10) refl
   where
-    go : (n / 10 ≤ k → n / 10 ≤ m → digits k (n / 10) ≡ digits m (n / 10)) → (b : Bool) → ltb n 10 ≡ b → digits (suc k) n ≡ digits (suc m) n
+    go : (n / 10 ≤ k → n / 10 ≤ m → digits k (n / 10) ≡ digits m (n / 10)) → (b : Bool) → ltb n 10 ≡ b
+        → digits (suc k) n ≡ digits (suc m) n
     go f true e = digits-low (suc k) n (ltb-true n 10 e) ∙ sym (digits-low (suc m) n (ltb-true n 10 e))
     go f false e =
         let l = ltb-false n 10 e in
@@ -63,13 +64,16 @@ fewer (suc i) left h g =
 -- the list from a place on, once that place is set
 found : (ds : List ℕ) (i d : ℕ) → i < length ds → drop i (set ds i d) ≡ unit d ++ drop (i + 1) ds
 found ds i d h =
-    drop-cons (set ds i d) i 0 (rw length-set h) ∙ rw (getD-set-same ds i d 0 h, drop-set-lt (suc i) ds i d (omega arith), add-one)
+    drop-cons (set ds i d) i 0 (rw length-set h)
+    ∙ rw (getD-set-same ds i d 0 h, drop-set-lt (suc i) ds i d (omega arith), add-one)
 
 pub last-digit : (n left i : ℕ) (ds : List ℕ) → i < length ds → 1 ≤ i → 10 ≤ left
-    → decimal n ≡ decimal left ++ drop (i + 1) ds → decimal n ≡ decimal (left / 10) ++ drop (i - 1 + 1) (set ds i (48 + left % 10))
+    → decimal n ≡ decimal left ++ drop (i + 1) ds
+    → decimal n ≡ decimal (left / 10) ++ drop (i - 1 + 1) (set ds i (48 + left % 10))
 last-digit n left i ds h g k e =
     let f : i - 1 + 1 ≡ i = omega arith in
-    rw (f, found ds i (48 + left % 10) h) (e ∙ rw (decimal-high left k) (append-assoc (decimal (left / 10)) (unit (48 + left % 10)) (drop (i + 1) ds)))
+    rw (f, found ds i (48 + left % 10) h)
+    (e ∙ rw (decimal-high left k) (append-assoc (decimal (left / 10)) (unit (48 + left % 10)) (drop (i + 1) ds)))
 
 pub first-digit : (n left i : ℕ) (ds : List ℕ) → i < length ds → left < 10
     → decimal n ≡ decimal left ++ drop (i + 1) ds → decimal n ≡ drop i (set ds i (48 + left))

@@ -26,7 +26,8 @@ length-put l t [] = refl
 length-put l t (x ∷ a) = length-put (set l (t .at) x) (next t) a ∙ length-set l (t .at) x
 
 -- one text after another
-pub _⨾_ : {l : List ℕ} {t : Text} {a l₁ : List ℕ} {t₁ : Text} {b l₂ : List ℕ} {t₂ : Text} → Wrote l t a l₁ t₁ → Wrote l₁ t₁ b l₂ t₂ → Wrote l t (a ++ b) l₂ t₂
+pub _⨾_ : {l : List ℕ} {t : Text} {a l₁ : List ℕ} {t₁ : Text} {b l₂ : List ℕ} {t₂ : Text} → Wrote l t a l₁ t₁
+    → Wrote l₁ t₁ b l₂ t₂ → Wrote l t (a ++ b) l₂ t₂
 e ⨾ f = record {
   bytes = rw put-append (rw (← e .bytes, ← e .state) (f .bytes));
   state = rw adv-append (rw (← e .state) (f .state));
@@ -44,7 +45,8 @@ pub record Left (l : List ℕ) (t : Text) (s l₀ : List ℕ) (t₀ : Text) (s�
 pub left-all : {l : List ℕ} {t : Text} {s : List ℕ} → Left l t s l t s
 left-all = record { bytes = refl; state = refl }
 
-pub left-more : {l : List ℕ} {t : Text} {a b l₀ : List ℕ} {t₀ : Text} {s₀ l₁ : List ℕ} {t₁ : Text} → Left l t (a ++ b) l₀ t₀ s₀ → Wrote l t a l₁ t₁ → Left l₁ t₁ b l₀ t₀ s₀
+pub left-more : {l : List ℕ} {t : Text} {a b l₀ : List ℕ} {t₀ : Text} {s₀ l₁ : List ℕ} {t₁ : Text} → Left l t (a ++ b) l₀ t₀ s₀
+    → Wrote l t a l₁ t₁ → Left l₁ t₁ b l₀ t₀ s₀
 left-more {l} {t} {a} {b} f e = record {
   bytes = rw (e .bytes, e .state) (sym (put-append l t a b) ∙ f .bytes);
   state = rw (e .state) (sym (adv-append t a b) ∙ f .state);

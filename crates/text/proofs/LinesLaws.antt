@@ -1,5 +1,5 @@
--- Lines written one after the other, each with its byte 10, are `stringify` of their tree where there is a line at all; no lines are one
--- byte 10. By induction on the lines. Assumes nothing.
+-- Lines written one after the other, each with its byte 10, are `stringify` of their tree where there is a line at all; no
+-- lines are one byte 10. By induction on the lines. Assumes nothing.
 use mathlib.Core.Path.{_≡_, refl, sym, ap, _∙_}
 use mathlib.Core.List.{List, [], _∷_, _++_, append-assoc}
 use Prim.Native.Nat.{ℕ, _+_, _-_, _*_, _<_}
@@ -12,7 +12,8 @@ join-ended : (l : Str) (ls : List Str) → join (unit 10) (l ∷ ls) ++ unit 10 
 unfolding join ended
 join-ended l [] = refl
 join-ended l (m ∷ ls) =
-    append-assoc (l ++ unit 10) (join (unit 10) (m ∷ ls)) (unit 10) ∙ append-assoc l (unit 10) (join (unit 10) (m ∷ ls) ++ unit 10)
+    append-assoc (l ++ unit 10) (join (unit 10) (m ∷ ls)) (unit 10)
+    ∙ append-assoc l (unit 10) (join (unit 10) (m ∷ ls) ++ unit 10)
     ∙ ap (λ (s : Str). l ++ 10 ∷ s) (join-ended m ls)
 
 pub ended-append : (a b : List Str) → ended (a ++ b) ≡ ended a ++ ended b
@@ -35,7 +36,8 @@ unfolding stringify join
 stringify-none ft e = rw e
 
 -- a branch: its first tree's lines, then those of the trees after it
-pub ended-branch : (ft : FormattedText) (fts : FormattedTexts) (n : ℕ) → ended (flatMap (ft & fts) n) ≡ ended (toLines ft n) ++ ended (flatMap fts n)
+pub ended-branch : (ft : FormattedText) (fts : FormattedTexts) (n : ℕ)
+    → ended (flatMap (ft & fts) n) ≡ ended (toLines ft n) ++ ended (flatMap fts n)
 unfolding flatMap
 ended-branch ft fts n = ended-append (toLines ft n) (flatMap fts n)
 

@@ -1,4 +1,5 @@
--- Where a text's bytes go: past the end nowhere, and where it fits exactly at the fill count. By induction on the text. Assumes nothing.
+-- Where a text's bytes go: past the end nowhere, and where it fits exactly at the fill count. By induction on the text. Assumes
+-- nothing.
 use mathlib.Core.Path.{_≡_, refl, sym, ap, _∙_}
 use mathlib.Core.List.{List, [], _∷_}
 use Prim.Native.Nat.{ℕ, suc, _+_, _-_, _^_, _<_, _≤_, min}
@@ -32,7 +33,8 @@ put-sets l n (x ∷ s) h =
     ap (λ (k : ℕ). put (set l n x) (textAt k) s) e ∙ put-sets (set l n x) (suc n) s (omega arith)
 
 -- a text that fits stands at its place
-pub put-placed : (l : List ℕ) (n : ℕ) (s : List ℕ) → n + length s ≤ length l → length l < 2 ^ 64 → put l (textAt n) s ≡ placed l n s
+pub put-placed : (l : List ℕ) (n : ℕ) (s : List ℕ) → n + length s ≤ length l → length l < 2 ^ 64
+    → put l (textAt n) s ≡ placed l n s
 unfolding placed
 put-placed l n s h b = put-sets l n s (omega arith) ∙ sets-eq s l n h
 
@@ -42,5 +44,6 @@ unfolding put adv next
 stored l t b h = record { bytes = refl; state = ap textAt (omega arith) }
 
 -- past the end only the count moves
-pub counted : (l : List ℕ) (t : Text) (s : List ℕ) → length l ≤ t .at → t .at ≤ 2 ^ 64 - 1 → Wrote l t s l (textAt (min (t .at + length s) (2 ^ 64 - 1)))
+pub counted : (l : List ℕ) (t : Text) (s : List ℕ) → length l ≤ t .at → t .at ≤ 2 ^ 64 - 1
+    → Wrote l t s l (textAt (min (t .at + length s) (2 ^ 64 - 1)))
 counted l t s h b = record { bytes = sym (past-the-end l t s h b); state = sym (adv-at t s b) }

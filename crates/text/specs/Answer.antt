@@ -1,4 +1,5 @@
--- What a request answers once its text is known, over a buffer l and a fill count (document 01, "Refusals from the state"). Assumes nothing.
+-- What a request answers once its text is known, over a buffer l and a fill count (document 01, "Refusals from the state").
+-- Assumes nothing.
 use mathlib.Core.Path.{_≡_}
 use mathlib.Core.List.{_++_}
 use Prim.Native.Nat.{ℕ, _+_}

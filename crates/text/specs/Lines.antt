@@ -42,7 +42,8 @@ join between (l ∷ m ∷ ls) = l ++ between ++ join between (m ∷ ls)
 unfoldable pub stringify : FormattedText → Str
 stringify ft = join (unit 10) (toLines ft 0) ++ unit 10
 
--- lines, each with its byte 10: what writing one after the other gives. It is `stringify` where there is a line (proofs/LinesLaws.antt)
+-- lines, each with its byte 10: what writing one after the other gives. It is `stringify` where there is a line
+-- (proofs/LinesLaws.antt)
 unfoldable pub ended : List Str → Str
 ended [] = []
 ended (l ∷ ls) = l ++ 10 ∷ ended ls

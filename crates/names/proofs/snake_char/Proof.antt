@@ -18,14 +18,21 @@ returns-2 : tie.Need-returns-2
 returns-2 c =
     let d = c .before .before in
     let e = d .before .before .before in
-    rw (char-lower _ _ (sym (e .before .is-uppercase .ensures) ∙ not-true _ (e .if2 .taken)), ← d .before .to-ascii-lowercase2 .ensures) (d .byte2 .ensures)
+    rw (
+      char-lower _ _ (sym (e .before .is-uppercase .ensures) ∙ not-true _ (e .if2 .taken)),
+      ← d .before .to-ascii-lowercase2 .ensures,
+    ) (d .byte2 .ensures)
 
 returns-3 : tie.Need-returns-3
 returns-3 c =
     let d = c .before .before in
     let u = d .before .before .before .before .before in
     let e = u .before .before in
-    rw (e .before .before .if1 .left, char-capital _ (sym (e .before .is-uppercase .ensures) ∙ not-false _ (e .if2 .left)), ← d .before .to-ascii-lowercase3 .ensures)
+    rw (
+      e .before .before .if1 .left,
+      char-capital _ (sym (e .before .is-uppercase .ensures) ∙ not-false _ (e .if2 .left)),
+      ← d .before .to-ascii-lowercase3 .ensures,
+    )
     (u .byte3 .ensures ⨾ d .byte4 .ensures)
 
 pub snake-char-spec : {M : Type 1} → statement M

@@ -1,4 +1,5 @@
--- `names::takes` meets its contract. The loop's invariant: the rest of the name is ASCII exactly where the whole is. Assumes nothing.
+-- `names::takes` meets its contract. The loop's invariant: the rest of the name is ASCII exactly where the whole is. Assumes
+-- nothing.
 use borrow.Author.Needs.{needs}
 use borrow.Author.Tests.{lt-ltb, le-ltb, le-leb, lt-leb}
 use mathlib.Core.Path.{_≡_, refl}
@@ -35,7 +36,12 @@ returns-2 c =
     let a = c .before .before in
     let l = a .before .loop in
     let s = now (a .before .before .before .args .name) in
-    rw (le-leb (length s) 64 (a .before .before .if1 .left), ← l .inv .1, turn (l .i) s (a .loop-test .taken), le-ltb _ _ (c .if2 .taken))
+    rw (
+      le-leb (length s) 64 (a .before .before .if1 .left),
+      ← l .inv .1,
+      turn (l .i) s (a .loop-test .taken),
+      le-ltb _ _ (c .if2 .taken),
+    )
 
 loop-again : tie.Need-loop-again Inv-loop μ-loop
 loop-again c =

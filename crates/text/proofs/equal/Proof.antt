@@ -1,4 +1,5 @@
--- `text::equal` meets its contract. The loop's invariant: what is left of the two is the same exactly where the whole is. Assumes nothing.
+-- `text::equal` meets its contract. The loop's invariant: what is left of the two is the same exactly where the whole is.
+-- Assumes nothing.
 use borrow.Author.Needs.{needs}
 use borrow.Author.Tests.{eq-eqb, ne-eqb}
 use mathlib.Core.Path.{_≡_, refl, sym}
@@ -21,7 +22,8 @@ Inv-loop a b i₀ i = (i ≤ length a) × (length a ≡ length b) × (same (drop
 abbrev μ-loop : tie.MeasureT-loop
 μ-loop a b i₀ i = length a - i
 
-turn : (a b : List ℕ) (i : ℕ) → i < length a → i < length b → same (drop i a) (drop i b) ≡ both (eqb (getD a i 0) (getD b i 0)) (same (drop (i + 1) a) (drop (i + 1) b))
+turn : (a b : List ℕ) (i : ℕ) → i < length a → i < length b
+    → same (drop i a) (drop i b) ≡ both (eqb (getD a i 0) (getD b i 0)) (same (drop (i + 1) a) (drop (i + 1) b))
 unfolding same
 turn a b i h g = rw (add-one, drop-cons a i 0 h, drop-cons b i 0 g)
 
@@ -50,15 +52,23 @@ loop-again c =
     let a = c .before .before .before in
     let h = a .loop-test .taken in
     let i = a .before .loop .i in
-    let d = a .before .before .before .args in
-    (omega arith, search needs, rw (turn (now (d .a)) (now (d .b)) i h (omega arith), eq-eqb _ _ (c .if2 .left)) at (a .before .loop .inv .2))
+    let d = a .before .before .before .args in (
+      omega arith,
+      search needs,
+      rw (turn (now (d .a)) (now (d .b)) i h (omega arith), eq-eqb _ _ (c .if2 .left)) at
+          (a .before .loop .inv .2),
+    )
 
 returns-3 : tie.Need-returns-3 Inv-loop μ-loop
 unfolding same
 returns-3 c =
     let v = c .before .loop .inv in
     let a = c .before .before .before .args in
-    rw (drop-of-length-le (now (a .a)) (c .loop-test .left), drop-of-length-le (now (a .b)) {i = c .before .loop .i} (omega arith)) at (v .2)
+    rw (
+      drop-of-length-le (now (a .a)) (c .loop-test .left),
+      drop-of-length-le (now (a .b)) {i = c .before .loop .i}
+          (omega arith),
+    ) at (v .2)
 
 pub equal-spec : {M : Type 1} → statement M
 equal-spec =

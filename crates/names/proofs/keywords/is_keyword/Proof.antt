@@ -1,4 +1,5 @@
--- `names::keywords::is_keyword` meets its contract: the words of each arm are the keywords of that length, computed. Assumes nothing.
+-- `names::keywords::is_keyword` meets its contract: the words of each arm are the keywords of that length, computed. Assumes
+-- nothing.
 use borrow.Author.Needs.{needs}
 use mathlib.Core.Path.{refl, sym}
 use Rattle.names.proofs.KeywordLaws.{of-length, of-no-length, none-of}
@@ -29,7 +30,9 @@ returns-7 c = of-length _ _ _ 8 (c .before .before .match .keys7) (c .one-of7 .e
 returns-8 : tie.Need-returns-8
 returns-8 c =
     let r = c .match .rest in
-    sym (of-no-length _ (none-of _ (r .0 .0 .0 .0 .0 .0 .1) (r .0 .0 .0 .0 .0 .1) (r .0 .0 .0 .0 .1) (r .0 .0 .0 .1) (r .0 .0 .1) (r .0 .1) (r .1)))
+    sym (of-no-length _
+    (none-of _ (r .0 .0 .0 .0 .0 .0 .1) (r .0 .0 .0 .0 .0 .1) (r .0 .0 .0 .0 .1) (r .0 .0 .0 .1) (r .0 .0 .1) (r .0 .1)
+    (r .1)))
 
 pub is-keyword-spec : {M : Type 1} → statement M
 is-keyword-spec =

@@ -1,5 +1,5 @@
--- `names::keywords::one_of` meets its contract. The loop's invariant: the name is one of the words that are left exactly where it is one of all.
--- Assumes nothing.
+-- `names::keywords::one_of` meets its contract. The loop's invariant: the name is one of the words that are left exactly where
+-- it is one of all. Assumes nothing.
 use borrow.Author.Needs.{needs}
 use mathlib.Core.Path.{_≡_, refl}
 use Prim.Native.Nat.{_-_, _≤_}
@@ -14,7 +14,8 @@ use Rattle.names.proofs.keywords.one_of.Reads as reads
 use Rattle.names.proofs.keywords.one_of.Lts as lts
 
 abbrev Inv-loop : tie.InvT-loop
-Inv-loop name words len at₀ at = (at ≤ length words) × (among name (wordsOf (length name) (drop at words)) ≡ among name (wordsOf (length name) words))
+Inv-loop name words len at₀ at = (at ≤ length words)
+    × (among name (wordsOf (length name) (drop at words)) ≡ among name (wordsOf (length name) words))
 
 abbrev μ-loop : tie.MeasureT-loop
 μ-loop name words len at₀ at = length words - at
@@ -24,14 +25,23 @@ returns c =
     let a = c .before .before .before in
     let l = a .before .loop in
     let d = a .before .before .before .before .args in
-    rw (← l .inv .1, turn (now (d .name)) (now (d .words)) (l .at) (a .loop-test .taken), ← c .before .equal .ensures, c .if1 .taken)
+    rw (
+      ← l .inv .1,
+      turn (now (d .name)) (now (d .words)) (l .at) (a .loop-test .taken),
+      ← c .before .equal .ensures,
+      c .if1 .taken,
+    )
 
 loop-again : tie.Need-loop-again Inv-loop μ-loop
 loop-again c =
     let a = c .before .before .before in
     let l = a .before .loop in
-    let d = a .before .before .before .before .args in
-    (omega arith, rw (turn (now (d .name)) (now (d .words)) (l .at) (a .loop-test .taken), ← c .before .equal .ensures, c .if1 .left) at (l .inv .1))
+    let d = a .before .before .before .before .args in (
+      omega arith,
+      rw
+          (turn (now (d .name)) (now (d .words)) (l .at) (a .loop-test .taken), ← c .before .equal .ensures, c .if1 .left) at
+          (l .inv .1),
+    )
 
 returns-2 : tie.Need-returns-2 Inv-loop μ-loop
 unfolding among

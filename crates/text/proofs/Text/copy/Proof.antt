@@ -1,5 +1,5 @@
--- `text::Text::copy` meets its contract. The loop's invariant: what is left of `s`, put where `i` stands, makes what the whole makes from
--- the start. Assumes nothing.
+-- `text::Text::copy` meets its contract. The loop's invariant: what is left of `s`, put where `i` stands, makes what the whole
+-- makes from the start. Assumes nothing.
 use borrow.Author.Needs.{needs}
 use mathlib.Core.Path.{_≡_, refl}
 use Prim.Native.Nat.{_+_, _-_, _≤_}
@@ -14,7 +14,8 @@ use Rattle.text.proofs.Text.copy.Statement.{statement}
 use Rattle.text.proofs.Text.copy.Tie as tie
 
 abbrev Inv-loop : tie.InvT-loop
-Inv-loop buf₀ s at i₀ buf i = (i ≤ length s) × (length buf ≡ length buf₀) × Left buf (textAt (at + i)) (drop i s) buf₀ (textAt at) s
+Inv-loop buf₀ s at i₀ buf i = (i ≤ length s) × (length buf ≡ length buf₀)
+    × Left buf (textAt (at + i)) (drop i s) buf₀ (textAt at) s
 
 abbrev μ-loop : tie.MeasureT-loop
 μ-loop buf₀ s at i₀ buf i = length s - i
@@ -26,8 +27,13 @@ loop-again : tie.Need-loop-again Inv-loop μ-loop
 loop-again c =
     let d = c .before in
     let l = d .before .loop in
-    let at = d .before .before .args .self .at in
-    (omega arith, simp length-set (omega arith), rw (← add-assoc) (left-more (rw (drop-unit _ _ (d .loop-test .taken)) at (l .inv .2)) (stored (l .buf) (textAt (at + l .i)) _ (omega arith))))
+    let at = d .before .before .args .self .at in (
+      omega arith,
+      simp length-set (omega arith),
+      rw (← add-assoc)
+          (left-more (rw (drop-unit _ _ (d .loop-test .taken)) at (l .inv .2))
+          (stored (l .buf) (textAt (at + l .i)) _ (omega arith))),
+    )
 
 returns : tie.Need-returns Inv-loop μ-loop
 returns c =

@@ -1,5 +1,5 @@
--- `text::Text::each` meets its contract. The loop's invariant: what is left of `s`, put now, makes what the whole makes from the start.
--- Assumes nothing.
+-- `text::Text::each` meets its contract. The loop's invariant: what is left of `s`, put now, makes what the whole makes from
+-- the start. Assumes nothing.
 use borrow.Author.Needs.{needs}
 use mathlib.Core.Path.{_≡_, refl}
 use Prim.Native.Nat.{_-_, _≤_}
@@ -18,8 +18,12 @@ abbrev μ-loop : tie.MeasureT-loop
 
 loop-again : tie.Need-loop-again Inv-loop μ-loop
 loop-again c =
-    let a = c .before .before .before .before .before in
-    (omega arith, omega arith, left-more (rw (drop-unit _ _ (a .loop-test .taken)) at (a .before .loop .inv .2)) (c .before .before .byte .ensures))
+    let a = c .before .before .before .before .before in (
+      omega arith,
+      omega arith,
+      left-more (rw (drop-unit _ _ (a .loop-test .taken)) at (a .before .loop .inv .2))
+          (c .before .before .byte .ensures),
+    )
 
 returns : tie.Need-returns Inv-loop μ-loop
 returns c =

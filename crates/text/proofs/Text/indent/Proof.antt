@@ -1,5 +1,5 @@
--- `text::Text::indent` meets its contract. The loop's invariant: the spaces of the steps that are left, put now, make what all make from
--- the start. Assumes nothing.
+-- `text::Text::indent` meets its contract. The loop's invariant: the spaces of the steps that are left, put now, make what all
+-- make from the start. Assumes nothing.
 use borrow.Author.Needs.{needs}
 use mathlib.Core.Path.{_≡_, refl}
 use Prim.Native.Nat.{_*_}
@@ -12,15 +12,19 @@ use Rattle.text.proofs.Text.indent.Statement.{statement}
 use Rattle.text.proofs.Text.indent.Tie as tie
 
 abbrev Inv-loop : tie.InvT-loop
-Inv-loop buf₀ indent t₀ left₀ step buf t left = (length buf ≡ length buf₀) × Left buf t (spaces (left * 4)) buf₀ t₀ (spaces (indent * 4))
+Inv-loop buf₀ indent t₀ left₀ step buf t left = (length buf ≡ length buf₀)
+    × Left buf t (spaces (left * 4)) buf₀ t₀ (spaces (indent * 4))
 
 abbrev μ-loop : tie.MeasureT-loop
 μ-loop buf₀ indent t₀ left₀ step buf t left = left
 
 loop-again : tie.Need-loop-again Inv-loop μ-loop
 loop-again c =
-    let a = c .before .before .before .before .before in
-    (omega arith, left-more (rw (spaces-step (a .before .loop .left) (a .loop-test .taken)) at (a .before .loop .inv .1)) (c .before .before .bytes .ensures))
+    let a = c .before .before .before .before .before in (
+      omega arith,
+      left-more (rw (spaces-step (a .before .loop .left) (a .loop-test .taken)) at (a .before .loop .inv .1))
+          (c .before .before .bytes .ensures),
+    )
 
 returns : tie.Need-returns Inv-loop μ-loop
 returns c =

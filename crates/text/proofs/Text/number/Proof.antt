@@ -1,5 +1,5 @@
--- `text::Text::number` meets its contract. The loop's invariant: the digits that are left to write, and those found so far, are the number's;
--- and what is left has at most as many digits as there are places. Assumes nothing.
+-- `text::Text::number` meets its contract. The loop's invariant: the digits that are left to write, and those found so far, are
+-- the number's; and what is left has at most as many digits as there are places. Assumes nothing.
 use borrow.Author.Needs.{needs}
 use mathlib.Core.Path.{_≡_, refl, sym, _∙_}
 use mathlib.Core.List.{_++_, append-nil}
@@ -26,7 +26,8 @@ loop-holds : tie.Need-loop-holds Inv-loop μ-loop
 loop-holds c = (omega arith, refl, omega arith, sym (append-nil _))
 
 -- in a turn a place is left before the one that is written
-room : (c : tie.In-loop Inv-loop μ-loop) → (1 ≤ c .before .loop .i) × (c .before .loop .left / 10 < 10 ^ (c .before .loop .i - 1 + 1))
+room : (c : tie.In-loop Inv-loop μ-loop) → (1 ≤ c .before .loop .i)
+    × (c .before .loop .left / 10 < 10 ^ (c .before .loop .i - 1 + 1))
 room c = fewer _ _ (c .loop-test .taken) (c .before .loop .inv .2)
 
 sub-i : tie.Need-sub-i Inv-loop μ-loop
@@ -37,8 +38,13 @@ loop-less c = omega (arith, room c .0)
 
 loop-again : tie.Need-loop-again Inv-loop μ-loop
 loop-again c =
-    let l = c .before .loop in
-    (omega arith, simp length-set (l .inv .1), room c .1, last-digit _ _ _ _ (omega arith) (room c .0) (c .loop-test .taken) (l .inv .3))
+    let l = c .before .loop in (
+      omega arith,
+      simp length-set (l .inv .1),
+      room c .1,
+      last-digit _ _ _ _ (omega arith) (room c .0) (c .loop-test .taken)
+          (l .inv .3),
+    )
 
 part-bytes-end : tie.Need-part-bytes-end Inv-loop μ-loop
 part-bytes-end c = simp length-set (omega arith)
@@ -49,7 +55,8 @@ returns-2 c =
     let e = w .before .before .before .before in
     let l = e .before .loop in
     let d = first-digit _ (l .left) (l .i) (l .digits) (omega arith) (e .loop-test .left) (l .inv .3) in
-    let whole = take-all (20 - l .i) (drop (l .i) (set (l .digits) (l .i) (48 + l .left))) (simp (length-drop, length-set) (omega arith)) in
+    let whole = take-all (20 - l .i) (drop (l .i) (set (l .digits) (l .i) (48 + l .left)))
+    (simp (length-drop, length-set) (omega arith)) in
     rw (d ∙ sym whole) (w .bytes .ensures)
 
 pub number-spec : {M : Type 1} → statement M

@@ -1,0 +1,214 @@
+-- What a row says: a letter, its numbers in 21 columns each, one space and a text where one belongs, then byte 10.
+-- Assumes nothing.
+use mathlib.Core.List.{List, [], _∷_}
+use Prim.Native.Nat.{ℕ, _-_}
+use Prim.Native.Char.{code}
+use Prim.Native.String as S
+use lib.Dec.{eqb, ltb}
+use lib.ListN.{length, getD, take, drop}
+use Rattle.text.specs.Bytes.{Str, cond}
+use Rattle.column.specs.Number.{columnOf, most}
+use Rattle.column.specs.Texts.{endsIn, isName, isGraphicText}
+use Rattle.column.specs.declared.Number.{Number}
+use Rattle.column.specs.declared.Number.the-variants.{Is, Not}
+use Rattle.row.specs.declared.Line.{Line}
+use Rattle.row.specs.declared.Line.the-variants.{Root, Node, Parameter, Field, Group, Typ, Scope, Unbound, Value, Word, Bad}
+
+-- the byte of a letter
+abbrev pub byte : S.String → ℕ
+byte S.[] = 0
+byte (S._∷_ c s) = code c
+
+-- the line goes on with the number, or is bad
+abbrev pub given : Number → (ℕ → Line) → Line
+given (Is v) f = f v
+given Not f = Bad
+
+-- R: the root, 1 to 64 bytes 33 to 126
+unfoldable pub rootLine : Str → Line
+rootLine t = cond (endsIn (isGraphicText 64) t 1) Root Bad
+
+-- N: id (1 or more), parent, scope id, struct, generic, tag count, tag offset; the module, 1 to 128 bytes 33 to 126
+unfoldable pub nodeLine : Str → Line
+nodeLine t =
+    given (columnOf t 1 1 (most 64)) λ id.
+    given (columnOf t 22 0 (most 64)) λ parent.
+    given (columnOf t 43 0 (most 64)) λ scope.
+    given (columnOf t 64 0 1) λ isStruct.
+    given (columnOf t 85 0 1) λ generic.
+    given (columnOf t 106 0 (most 16)) λ tagCount.
+    given (columnOf t 127 0 (most 32)) λ tagOffset.
+    cond (endsIn (isGraphicText 128) t 148) (Node id parent scope isStruct generic tagCount tagOffset) Bad
+
+-- P: the parameter's name
+unfoldable pub parameterLine : Str → Line
+parameterLine t = cond (endsIn isName t 1) Parameter Bad
+
+-- F: offset, discriminant value, explicit, option; the field's name
+unfoldable pub fieldLine : Str → Line
+fieldLine t =
+    given (columnOf t 1 0 (most 32)) λ offset.
+    given (columnOf t 22 0 (most 16)) λ discriminant.
+    given (columnOf t 43 0 1) λ explicit.
+    given (columnOf t 64 0 1) λ option.
+    cond (endsIn isName t 85) (Field offset discriminant explicit option) Bad
+
+-- G: group id (1 or more), discriminant value; the field's name
+unfoldable pub groupLine : Str → Line
+groupLine t =
+    given (columnOf t 1 1 (most 64)) λ id.
+    given (columnOf t 22 0 (most 16)) λ discriminant.
+    cond (endsIn isName t 43) (Group id discriminant) Bad
+
+-- T's a by the kind: an id for kinds 15 to 17, 0 or 1 for kind 18, otherwise 0
+unfoldable pub mostA : ℕ → ℕ
+mostA kind = cond (ltb kind 15) 0 (cond (ltb kind 18) (most 64) 1)
+
+-- T's b: a number of scopes for kinds 15 to 17, a scope id for a parameter (kind 18 with a 1), otherwise 0
+unfoldable pub mostB : ℕ → ℕ → ℕ
+mostB kind a = cond (ltb kind 15) 0 (cond (ltb kind 18) (most 64) (cond (eqb a 0) 0 (most 64)))
+
+-- T's c: a parameter's index, otherwise 0
+unfoldable pub mostC : ℕ → ℕ → ℕ
+mostC kind a = cond (ltb kind 18) 0 (cond (eqb a 0) 0 (most 16))
+
+-- T: kind, a, b, c
+unfoldable pub typeLine : Str → Line
+typeLine t =
+    given (columnOf t 1 0 18) λ kind.
+    given (columnOf t 22 0 (mostA kind)) λ a.
+    given (columnOf t 43 0 (mostB kind a)) λ b.
+    given (columnOf t 64 0 (mostC kind a)) λ c.
+    cond (eqb (length t) 85) (Typ kind a b c) Bad
+
+-- S's bindings: none under inherit (0), any number under bind (1)
+unfoldable pub mostCount : ℕ → ℕ
+mostCount bind = cond (eqb bind 0) 0 (most 64)
+
+-- S: scope id, 0 inherit or 1 bind, bindings
+unfoldable pub scopeLine : Str → Line
+scopeLine t =
+    given (columnOf t 1 0 (most 64)) λ id.
+    given (columnOf t 22 0 1) λ bind.
+    given (columnOf t 43 0 (mostCount bind)) λ count.
+    cond (eqb (length t) 64) (Scope id bind count) Bad
+
+-- U
+unfoldable pub unboundLine : Str → Line
+unboundLine t = cond (eqb (length t) 1) Unbound Bad
+
+-- the widths, in bits, of the values of kinds 0 to 18: Void, Bool, Int8 to Int64, Uint8 to Uint64, Float32, Float64,
+-- Text, Data, List, Enum, Struct, Interface, AnyPointer
+abbrev pub widths : List ℕ
+widths = 0 ∷ 1 ∷ 8 ∷ 16 ∷ 32 ∷ 64 ∷ 8 ∷ 16 ∷ 32 ∷ 64 ∷ 32 ∷ 64 ∷ 0 ∷ 0 ∷ 0 ∷ 16 ∷ 0 ∷ 0 ∷ 0 ∷ []
+
+-- V's bits by the kind: as many as its values have
+unfoldable pub mostBits : ℕ → ℕ
+mostBits kind = most (getD widths kind 0)
+
+-- V: kind, bits
+unfoldable pub valueLine : Str → Line
+valueLine t =
+    given (columnOf t 1 0 18) λ kind.
+    given (columnOf t 22 0 (mostBits kind)) λ bits.
+    cond (eqb (length t) 43) (Value kind bits) Bad
+
+-- W: eight bytes as a little-endian value
+unfoldable pub wordLine : Str → Line
+wordLine t = given (columnOf t 1 0 (most 64)) λ value. cond (eqb (length t) 22) (Word value) Bad
+
+abbrev pub badLine : Str → Line
+badLine t = Bad
+
+-- the reader of the lines with a letter
+unfoldable pub reader : ℕ → Str → Line
+reader letter =
+    cond (eqb letter (byte "R")) rootLine
+    (cond (eqb letter (byte "N")) nodeLine
+    (cond (eqb letter (byte "P")) parameterLine
+    (cond (eqb letter (byte "F")) fieldLine
+    (cond (eqb letter (byte "G")) groupLine
+    (cond (eqb letter (byte "T")) typeLine
+    (cond (eqb letter (byte "S")) scopeLine
+    (cond (eqb letter (byte "U")) unboundLine
+    (cond (eqb letter (byte "V")) valueLine
+    (cond (eqb letter (byte "W")) wordLine badLine)))))))))
+
+-- a row without its last byte
+abbrev pub front : Str → Str
+front r = take (length r - 1) r
+
+-- what a row says: the line in front of its byte 10, read by its letter
+unfoldable pub lineOf : Str → Line
+lineOf r = cond (eqb (getD r (length r - 1) 0) 10) (reader (getD r 0 0)) badLine (front r)
+
+-- what the first row says; where there is none, the line is bad
+unfoldable pub lineAt : List Str → Line
+lineAt [] = Bad
+lineAt (r ∷ rs) = lineOf r
+
+-- where the text of a line with a letter begins, after its numbers and a space; 0 for a line without a text
+unfoldable pub textStart : ℕ → ℕ
+textStart letter =
+    cond (eqb letter (byte "R")) 2
+    (cond (eqb letter (byte "N")) 149
+    (cond (eqb letter (byte "P")) 2
+    (cond (eqb letter (byte "F")) 86
+    (cond (eqb letter (byte "G")) 44 0))))
+
+-- the text of a row: its root, module, parameter or field name
+unfoldable pub textOf : Str → Str
+textOf r = cond (eqb (textStart (getD r 0 0)) 0) [] (drop (textStart (getD r 0 0)) (front r))
+
+-- the text of the first row
+unfoldable pub textAt : List Str → Str
+textAt [] = []
+textAt (r ∷ rs) = textOf r
+
+-- by what a line says
+abbrev pub cases :
+    {A : Type 0}
+    → A → (ℕ → ℕ → ℕ → ℕ → ℕ → ℕ → ℕ → A) → A → (ℕ → ℕ → ℕ → ℕ → A) → (ℕ → ℕ → A)
+    → (ℕ → ℕ → ℕ → ℕ → A) → (ℕ → ℕ → ℕ → A) → A → (ℕ → ℕ → A) → (ℕ → A) → A → Line → A
+cases r n p f g t s u v w z Root = r
+cases r n p f g t s u v w z (Node i q k x y c o) = n i q k x y c o
+cases r n p f g t s u v w z Parameter = p
+cases r n p f g t s u v w z (Field o d e q) = f o d e q
+cases r n p f g t s u v w z (Group i d) = g i d
+cases r n p f g t s u v w z (Typ k a b c) = t k a b c
+cases r n p f g t s u v w z (Scope i b c) = s i b c
+cases r n p f g t s u v w z Unbound = u
+cases r n p f g t s u v w z (Value k b) = v k b
+cases r n p f g t s u v w z (Word x) = w x
+cases r n p f g t s u v w z Bad = z
+
+-- each letter alone: y for its lines, z for all others
+abbrev pub asRoot : {A : Type 0} → Line → A → A → A
+asRoot l y z = cases y (λ _ _ _ _ _ _ _. z) z (λ _ _ _ _. z) (λ _ _. z) (λ _ _ _ _. z) (λ _ _ _. z) z (λ _ _. z) (λ _. z) z l
+
+abbrev pub asNode : {A : Type 0} → Line → (ℕ → ℕ → ℕ → ℕ → ℕ → ℕ → ℕ → A) → A → A
+asNode l y z = cases z y z (λ _ _ _ _. z) (λ _ _. z) (λ _ _ _ _. z) (λ _ _ _. z) z (λ _ _. z) (λ _. z) z l
+
+abbrev pub asParameter : {A : Type 0} → Line → A → A → A
+asParameter l y z = cases z (λ _ _ _ _ _ _ _. z) y (λ _ _ _ _. z) (λ _ _. z) (λ _ _ _ _. z) (λ _ _ _. z) z (λ _ _. z) (λ _. z) z l
+
+abbrev pub asField : {A : Type 0} → Line → (ℕ → ℕ → ℕ → ℕ → A) → A → A
+asField l y z = cases z (λ _ _ _ _ _ _ _. z) z y (λ _ _. z) (λ _ _ _ _. z) (λ _ _ _. z) z (λ _ _. z) (λ _. z) z l
+
+abbrev pub asGroup : {A : Type 0} → Line → (ℕ → ℕ → A) → A → A
+asGroup l y z = cases z (λ _ _ _ _ _ _ _. z) z (λ _ _ _ _. z) y (λ _ _ _ _. z) (λ _ _ _. z) z (λ _ _. z) (λ _. z) z l
+
+abbrev pub asType : {A : Type 0} → Line → (ℕ → ℕ → ℕ → ℕ → A) → A → A
+asType l y z = cases z (λ _ _ _ _ _ _ _. z) z (λ _ _ _ _. z) (λ _ _. z) y (λ _ _ _. z) z (λ _ _. z) (λ _. z) z l
+
+abbrev pub asScope : {A : Type 0} → Line → (ℕ → ℕ → ℕ → A) → A → A
+asScope l y z = cases z (λ _ _ _ _ _ _ _. z) z (λ _ _ _ _. z) (λ _ _. z) (λ _ _ _ _. z) y z (λ _ _. z) (λ _. z) z l
+
+abbrev pub asUnbound : {A : Type 0} → Line → A → A → A
+asUnbound l y z = cases z (λ _ _ _ _ _ _ _. z) z (λ _ _ _ _. z) (λ _ _. z) (λ _ _ _ _. z) (λ _ _ _. z) y (λ _ _. z) (λ _. z) z l
+
+abbrev pub asValue : {A : Type 0} → Line → (ℕ → ℕ → A) → A → A
+asValue l y z = cases z (λ _ _ _ _ _ _ _. z) z (λ _ _ _ _. z) (λ _ _. z) (λ _ _ _ _. z) (λ _ _ _. z) z y (λ _. z) z l
+
+abbrev pub asWord : {A : Type 0} → Line → (ℕ → A) → A → A
+asWord l y z = cases z (λ _ _ _ _ _ _ _. z) z (λ _ _ _ _. z) (λ _ _. z) (λ _ _ _ _. z) (λ _ _ _. z) z (λ _ _. z) y z l
