@@ -1,8 +1,11 @@
 -- Laws of writing: one text after another, lengths, and what is left of a loop's text. By induction on the text. Assumes nothing.
 use mathlib.Core.Path.{_≡_, refl, sym, _∙_}
 use mathlib.Core.List.{List, [], _∷_, _++_}
-use Prim.Native.Nat.{ℕ}
-use lib.ListN.{set, length, length-set}
+use Prim.Native.Nat.{ℕ, _+_, _<_}
+use native.Mathlib.Numerals.{add-one}
+use lib.ListN.{set, length, drop, getD, length-set}
+use lib.Seq.{drop-cons}
+use Rattle.text.specs.Bytes.{unit}
 use Rattle.text.specs.Text.{next, adv, put, Wrote}
 use Rattle.text.specs.declared.Text.{Text}
 
@@ -46,6 +49,10 @@ left-more {l} {t} {a} {b} f e = record {
   bytes = rw (e .bytes, e .state) (sym (put-append l t a b) ∙ f .bytes);
   state = rw (e .state) (sym (adv-append t a b) ∙ f .state);
 }
+
+-- a loop's turn: what is left of s from i on is its byte at i and what is left from i + 1 on
+pub drop-unit : (i : ℕ) (s : List ℕ) → i < length s → drop i s ≡ unit (getD s i 0) ++ drop (i + 1) s
+drop-unit i s h = rw (add-one, drop-cons s i 0)
 
 pub left-none : {l : List ℕ} {t : Text} {l₀ : List ℕ} {t₀ : Text} {s₀ : List ℕ} → Left l t [] l₀ t₀ s₀ → Wrote l₀ t₀ s₀ l t
 unfolding put adv

@@ -1,2 +1,5 @@
 pub mod Laws
+pub mod Places
 pub mod DecimalLaws
+pub mod LinesLaws
+pub mod AnswerLaws

@@ -1,0 +1,37 @@
+-- Worked examples of the definitions, computed: one theorem over the rows. Assumes nothing.
+use mathlib.Core.Path.{_≡_, refl}
+use mathlib.Core.Bool.{Bool, true}
+use mathlib.Core.List.{List, [], _∷_}
+use Prim.Native.Nat.{_^_, _-_}
+use Prim.Native.String.{String}
+use Rattle.text.specs.Bytes.{Str, ascii, both, same}
+use Rattle.text.specs.Decimal.{decimal, signed}
+use Rattle.text.specs.Lines.{Indent, Branch, Line, BlankLine, none, _&_, toLines, flatMap, join, stringify}
+
+-- a text of a definition, and what it must be
+pub data Row : Type 0 where
+  row : Str → String → Row
+
+abbrev pub right : List Row → Bool
+right [] = true
+right (row s text ∷ rows) = both (same s (ascii text)) (right rows)
+
+abbrev pub rows : List Row
+rows =
+    row (decimal 0) "0"
+    ∷ row (decimal 9) "9"
+    ∷ row (decimal 10) "10"
+    ∷ row (decimal (2 ^ 64 - 1)) "18446744073709551615"
+    ∷ row (signed (2 ^ 7) 127) "127"
+    ∷ row (signed (2 ^ 7) 128) "-128"
+    ∷ row (signed (2 ^ 15) 65535) "-1"
+    ∷ row (signed (2 ^ 63) (2 ^ 63)) "-9223372036854775808"
+    ∷ row (stringify (Branch none)) "\n"
+    ∷ row (stringify BlankLine) "\n"
+    ∷ row (stringify (Indent (Line (ascii "")))) "    \n"
+    ∷ row (stringify (Branch (Line (ascii "{") & Indent (Branch (Line (ascii "x") & BlankLine & none)) & Line (ascii "}") & none))) "{\n    x\n\n}\n"
+    ∷ []
+
+pub rows-right : right rows ≡ true
+unfolding same decimal signed toLines flatMap join stringify
+rows-right = refl
