@@ -1,3 +1,4 @@
+pub mod BytesLaws
 pub mod Laws
 pub mod Places
 pub mod DecimalLaws

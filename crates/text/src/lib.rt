@@ -3,7 +3,7 @@
 ghost use mathlib.Core.Path.{_≡_};
 ghost use Prim.Native.Nat.{_+_, _-_, _*_, _^_, _<_, _≤_, min};
 ghost use lib.ListN.{length};
-ghost use Rattle.text.specs.Bytes.{unit};
+ghost use Rattle.text.specs.Bytes.{unit, same};
 ghost use Rattle.text.specs.Decimal.{decimal, signed};
 ghost use Rattle.text.specs.Lines.{Line, BlankLine, Branch, none, spaces, toLines, stringify, ended};
 ghost use Rattle.text.specs.Text.{Wrote, textAt};
@@ -183,4 +183,21 @@ impl Text {
     {
         self.byte(buf, b'\n')
     }
+}
+
+// Whether two slices hold the same bytes.
+pub fn equal(a: &[u8], b: &[u8]) -> bool
+    ensures { λ r. ⌜ r ≡ same (now (a .entry)) (now (b .entry)) ⌝ }
+{
+    if a.len() != b.len() {
+        return false;
+    }
+    let mut i = 0;
+    while i < a.len() {
+        if a[i] != b[i] {
+            return false;
+        }
+        i += 1;
+    }
+    true
 }
