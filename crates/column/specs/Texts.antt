@@ -14,9 +14,9 @@ between lo hi b = both (leb lo b) (leb b hi)
 abbrev pub isDigit : ℕ → Bool
 isDigit b = between 48 57 b
 
--- an ASCII letter, A to Z or a to z, a digit or an underscore
+-- a digit, a letter A to Z, an underscore or a letter a to z
 unfoldable pub isWord : ℕ → Bool
-isWord b = either (between 65 90 b) (either (between 97 122 b) (either (isDigit b) (eqb b 95)))
+isWord b = either (isDigit b) (either (between 65 90 b) (either (eqb b 95) (between 97 122 b)))
 
 -- bytes 33 to 126
 unfoldable pub isGraphic : ℕ → Bool
@@ -40,5 +40,5 @@ unfoldable pub isGraphicText : ℕ → Str → Bool
 isGraphicText most t = cond (sized most t) (all isGraphic t) false
 
 -- whether one space stands at a, and after it a text that passes a test
-abbrev pub endsIn : (Str → Bool) → Str → ℕ → Bool
+unfoldable pub endsIn : (Str → Bool) → Str → ℕ → Bool
 endsIn ok t a = cond (eqb (getD t a 0) 32) (ok (drop (a + 1) t)) false

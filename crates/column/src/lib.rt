@@ -1,7 +1,205 @@
 // The columns of a sheet's line: a number, right-justified in 21 columns, and a text after one space.
+ghost use mathlib.Core.Path.{_≡_};
+ghost use Rattle.column.specs.Number.{trimmed, digits, unpadded, columnOf};
+ghost use Rattle.column.specs.Texts.{isDigit, isWord, isGraphic, all, isName, isGraphicText, endsIn};
 
-// What stands in a number's columns: the number, where it is one, and lies in its bounds.
+// What stands in a number's columns: the number, where it is one and lies in its bounds.
 pub enum Number {
     Is(u64),
     Not,
+}
+
+// The bytes after the spaces in front.
+fn trimmed(t: &[u8]) -> &[u8]
+    ensures { λ r. ⌜ now r ≡ trimmed (now (t .entry)) ⌝ }
+{
+    let mut i = 0;
+    while i < t.len() {
+        if t[i] != b' ' {
+            return &t[i..];
+        }
+        i += 1;
+    }
+    &t[i..]
+}
+
+fn wide(b: u8) -> u64
+    ensures { λ r. ⌜ r ≡ b ⌝ }
+{
+    b as u64
+}
+
+// The number of some digits.
+fn digits(t: &[u8]) -> Number
+    ensures { λ r. ⌜ r ≡ digits 0 (now (t .entry)) ⌝ }
+{
+    let mut v: u64 = 0;
+    let mut i = 0;
+    while i < t.len() {
+        let b = t[i];
+        if b < b'0' {
+            return Number::Not;
+        }
+        if b'9' < b {
+            return Number::Not;
+        }
+        let d = wide(b) - 48;
+        if 1844674407370955161 < v {
+            return Number::Not;
+        }
+        if 18446744073709551615 - d < v * 10 {
+            return Number::Not;
+        }
+        v = v * 10 + d;
+        i += 1;
+    }
+    Number::Is(v)
+}
+
+// A number without spaces: 0 alone, or digits of which the first is not 0.
+fn unpadded(t: &[u8]) -> Number
+    ensures { λ r. ⌜ r ≡ unpadded (now (t .entry)) ⌝ }
+{
+    if t.len() == 0 {
+        return Number::Not;
+    }
+    if t[0] != b'0' {
+        return digits(t);
+    }
+    if t.len() == 1 {
+        return Number::Is(0);
+    }
+    Number::Not
+}
+
+// The number in the 21 columns from `a` on, where they are there whole and it lies from `least` to `most`.
+pub fn column(t: &[u8], a: usize, least: u64, most: u64) -> Number
+    ensures { λ r. ⌜ r ≡ columnOf (now (t .entry)) a least most ⌝ }
+{
+    if t.len() < 21 {
+        return Number::Not;
+    }
+    if t.len() - 21 < a {
+        return Number::Not;
+    }
+    let e = a + 21;
+    let Number::Is(v) = unpadded(trimmed(&t[a..e])) else {
+        return Number::Not;
+    };
+    if v < least {
+        return Number::Not;
+    }
+    if most < v {
+        return Number::Not;
+    }
+    Number::Is(v)
+}
+
+fn is_digit(b: u8) -> bool
+    ensures { λ r. ⌜ r ≡ isDigit b ⌝ }
+{
+    if b < b'0' {
+        return false;
+    }
+    b <= b'9'
+}
+
+// An ASCII letter, a digit or an underscore.
+fn is_word(b: u8) -> bool
+    ensures { λ r. ⌜ r ≡ isWord b ⌝ }
+{
+    if is_digit(b) {
+        return true;
+    }
+    if b < b'A' {
+        return false;
+    }
+    if b <= b'Z' {
+        return true;
+    }
+    if b == b'_' {
+        return true;
+    }
+    if b < b'a' {
+        return false;
+    }
+    b <= b'z'
+}
+
+fn all_word(t: &[u8]) -> bool
+    ensures { λ r. ⌜ r ≡ all isWord (now (t .entry)) ⌝ }
+{
+    let mut i = 0;
+    while i < t.len() {
+        if !is_word(t[i]) {
+            return false;
+        }
+        i += 1;
+    }
+    true
+}
+
+fn is_graphic(b: u8) -> bool
+    ensures { λ r. ⌜ r ≡ isGraphic b ⌝ }
+{
+    if b < 33 {
+        return false;
+    }
+    b <= 126
+}
+
+fn all_graphic(t: &[u8]) -> bool
+    ensures { λ r. ⌜ r ≡ all isGraphic (now (t .entry)) ⌝ }
+{
+    let mut i = 0;
+    while i < t.len() {
+        if !is_graphic(t[i]) {
+            return false;
+        }
+        i += 1;
+    }
+    true
+}
+
+// Whether the line ends in a space at `a` and a name.
+pub fn ends_in_name(t: &[u8], a: usize) -> bool
+    ensures { λ r. ⌜ r ≡ endsIn isName (now (t .entry)) a ⌝ }
+{
+    if t.len() <= a {
+        return false;
+    }
+    if t[a] != b' ' {
+        return false;
+    }
+    let b = a + 1;
+    if t.len() == b {
+        return false;
+    }
+    if 64 < t.len() - b {
+        return false;
+    }
+    if is_digit(t[b]) {
+        return false;
+    }
+    all_word(&t[b..])
+}
+
+// Whether the line ends in a space at `a` and 1 to `most` graphic bytes.
+pub fn ends_in_graphic(t: &[u8], a: usize, most: usize) -> bool
+    ensures { λ r. ⌜ r ≡ endsIn (isGraphicText most) (now (t .entry)) a ⌝ }
+{
+    if t.len() <= a {
+        return false;
+    }
+    if t[a] != b' ' {
+        return false;
+    }
+    let b = a + 1;
+    if t.len() == b {
+        return false;
+    }
+    if most < t.len() - b {
+        return false;
+    }
+    all_graphic(&t[b..])
 }

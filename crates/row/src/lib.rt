@@ -1,4 +1,42 @@
 // Rows of a sheet: where a row ends, what it says, and the text that it has.
+use column::Number;
+ghost use mathlib.Core.Path.{_≡_};
+ghost use Prim.Native.Nat.{_+_};
+ghost use lib.ListN.{drop};
+ghost use Rattle.row.specs.Rows.{rowLen, rows, restOf, lineNo};
+ghost use Rattle.row.specs.Line.{mostA, mostB, mostC, mostCount, mostBits, rootLine, nodeLine, parameterLine, fieldLine, groupLine};
+ghost use Rattle.row.specs.Line.{typeLine, scopeLine, unboundLine, valueLine, wordLine, reader, lineAt, textStart, textAt};
+
+// The greatest numbers of 64, 32 and 16 bits.
+const MOST_64: u64 = 0xffff_ffff_ffff_ffff;
+
+const MOST_32: u64 = 0xffff_ffff;
+
+const MOST_16: u64 = 0xffff;
+
+// The greatest bits of a value of each kind: Void, Bool, Int8 to Int64, Uint8 to Uint64, Float32, Float64, Text, Data, List, Enum,
+// Struct, Interface, AnyPointer.
+const MOST_BITS: [u64; 19] = [
+    0,
+    1,
+    0xff,
+    MOST_16,
+    MOST_32,
+    MOST_64,
+    0xff,
+    MOST_16,
+    MOST_32,
+    MOST_64,
+    MOST_32,
+    MOST_64,
+    0,
+    0,
+    0,
+    MOST_16,
+    0,
+    0,
+    0,
+];
 
 // What a row says.
 pub enum Line {
@@ -60,4 +98,370 @@ pub enum Line {
 pub struct Got {
     pub line: Line,
     pub next: usize,
+}
+
+// The position after the first byte 10 at or after `from`, or the end where there is none.
+pub fn row_end(s: &[u8], from: usize) -> usize
+    ensures { λ r. ⌜ r ≡ from + rowLen (drop from (now (s .entry))) ⌝ }
+{
+    let mut i = from;
+    while i < s.len() {
+        if s[i] == b'\n' {
+            return i + 1;
+        }
+        i += 1;
+    }
+    i
+}
+
+fn root_line(t: &[u8]) -> Line
+    ensures { λ r. ⌜ r ≡ rootLine (now (t .entry)) ⌝ }
+{
+    if !column::ends_in_graphic(t, 1, 64) {
+        return Line::Bad;
+    }
+    Line::Root
+}
+
+fn node_line(t: &[u8]) -> Line
+    ensures { λ r. ⌜ r ≡ nodeLine (now (t .entry)) ⌝ }
+{
+    let Number::Is(id) = column::column(t, 1, 1, MOST_64) else {
+        return Line::Bad;
+    };
+    let Number::Is(parent) = column::column(t, 22, 0, MOST_64) else {
+        return Line::Bad;
+    };
+    let Number::Is(scope) = column::column(t, 43, 0, MOST_64) else {
+        return Line::Bad;
+    };
+    let Number::Is(is_struct) = column::column(t, 64, 0, 1) else {
+        return Line::Bad;
+    };
+    let Number::Is(generic) = column::column(t, 85, 0, 1) else {
+        return Line::Bad;
+    };
+    let Number::Is(tag_count) = column::column(t, 106, 0, MOST_16) else {
+        return Line::Bad;
+    };
+    let Number::Is(tag_offset) = column::column(t, 127, 0, MOST_32) else {
+        return Line::Bad;
+    };
+    if !column::ends_in_graphic(t, 148, 128) {
+        return Line::Bad;
+    }
+    Line::Node {
+        id,
+        parent,
+        scope,
+        is_struct,
+        generic,
+        tag_count,
+        tag_offset,
+    }
+}
+
+fn parameter_line(t: &[u8]) -> Line
+    ensures { λ r. ⌜ r ≡ parameterLine (now (t .entry)) ⌝ }
+{
+    if !column::ends_in_name(t, 1) {
+        return Line::Bad;
+    }
+    Line::Parameter
+}
+
+fn field_line(t: &[u8]) -> Line
+    ensures { λ r. ⌜ r ≡ fieldLine (now (t .entry)) ⌝ }
+{
+    let Number::Is(offset) = column::column(t, 1, 0, MOST_32) else {
+        return Line::Bad;
+    };
+    let Number::Is(discriminant) = column::column(t, 22, 0, MOST_16) else {
+        return Line::Bad;
+    };
+    let Number::Is(explicit) = column::column(t, 43, 0, 1) else {
+        return Line::Bad;
+    };
+    let Number::Is(option) = column::column(t, 64, 0, 1) else {
+        return Line::Bad;
+    };
+    if !column::ends_in_name(t, 85) {
+        return Line::Bad;
+    }
+    Line::Field {
+        offset,
+        discriminant,
+        explicit,
+        option,
+    }
+}
+
+fn group_line(t: &[u8]) -> Line
+    ensures { λ r. ⌜ r ≡ groupLine (now (t .entry)) ⌝ }
+{
+    let Number::Is(id) = column::column(t, 1, 1, MOST_64) else {
+        return Line::Bad;
+    };
+    let Number::Is(discriminant) = column::column(t, 22, 0, MOST_16) else {
+        return Line::Bad;
+    };
+    if !column::ends_in_name(t, 43) {
+        return Line::Bad;
+    }
+    Line::Group { id, discriminant }
+}
+
+// T's a by the kind: an id for kinds 15 to 17, 0 or 1 for kind 18, otherwise 0.
+fn most_a(kind: u64) -> u64
+    ensures { λ r. ⌜ r ≡ mostA kind ⌝ }
+{
+    if kind < 15 {
+        return 0;
+    }
+    if kind < 18 {
+        return MOST_64;
+    }
+    1
+}
+
+// T's b: a number of scopes for kinds 15 to 17, a scope id for a parameter, otherwise 0.
+fn most_b(kind: u64, a: u64) -> u64
+    ensures { λ r. ⌜ r ≡ mostB kind a ⌝ }
+{
+    if kind < 15 {
+        return 0;
+    }
+    if kind < 18 {
+        return MOST_64;
+    }
+    if a == 0 {
+        return 0;
+    }
+    MOST_64
+}
+
+// T's c: a parameter's index, otherwise 0.
+fn most_c(kind: u64, a: u64) -> u64
+    ensures { λ r. ⌜ r ≡ mostC kind a ⌝ }
+{
+    if kind < 18 {
+        return 0;
+    }
+    if a == 0 {
+        return 0;
+    }
+    MOST_16
+}
+
+fn type_line(t: &[u8]) -> Line
+    ensures { λ r. ⌜ r ≡ typeLine (now (t .entry)) ⌝ }
+{
+    let Number::Is(kind) = column::column(t, 1, 0, 18) else {
+        return Line::Bad;
+    };
+    let Number::Is(a) = column::column(t, 22, 0, most_a(kind)) else {
+        return Line::Bad;
+    };
+    let Number::Is(b) = column::column(t, 43, 0, most_b(kind, a)) else {
+        return Line::Bad;
+    };
+    let Number::Is(c) = column::column(t, 64, 0, most_c(kind, a)) else {
+        return Line::Bad;
+    };
+    if t.len() != 85 {
+        return Line::Bad;
+    }
+    Line::Typ { kind, a, b, c }
+}
+
+// S's bindings: none under inherit (0), any number under bind (1).
+fn most_count(bind: u64) -> u64
+    ensures { λ r. ⌜ r ≡ mostCount bind ⌝ }
+{
+    if bind == 0 {
+        return 0;
+    }
+    MOST_64
+}
+
+fn scope_line(t: &[u8]) -> Line
+    ensures { λ r. ⌜ r ≡ scopeLine (now (t .entry)) ⌝ }
+{
+    let Number::Is(id) = column::column(t, 1, 0, MOST_64) else {
+        return Line::Bad;
+    };
+    let Number::Is(bind) = column::column(t, 22, 0, 1) else {
+        return Line::Bad;
+    };
+    let Number::Is(count) = column::column(t, 43, 0, most_count(bind)) else {
+        return Line::Bad;
+    };
+    if t.len() != 64 {
+        return Line::Bad;
+    }
+    Line::Scope { id, bind, count }
+}
+
+fn unbound_line(t: &[u8]) -> Line
+    ensures { λ r. ⌜ r ≡ unboundLine (now (t .entry)) ⌝ }
+{
+    if t.len() != 1 {
+        return Line::Bad;
+    }
+    Line::Unbound
+}
+
+// V's bits: as many as the kind's values have.
+fn most_bits(kind: u64) -> u64
+    ensures { λ r. ⌜ r ≡ mostBits kind ⌝ }
+{
+    let k = kind as usize;
+    if k < 19 {
+        return MOST_BITS[k];
+    }
+    0
+}
+
+fn value_line(t: &[u8]) -> Line
+    ensures { λ r. ⌜ r ≡ valueLine (now (t .entry)) ⌝ }
+{
+    let Number::Is(kind) = column::column(t, 1, 0, 18) else {
+        return Line::Bad;
+    };
+    let Number::Is(bits) = column::column(t, 22, 0, most_bits(kind)) else {
+        return Line::Bad;
+    };
+    if t.len() != 43 {
+        return Line::Bad;
+    }
+    Line::Value { kind, bits }
+}
+
+fn word_line(t: &[u8]) -> Line
+    ensures { λ r. ⌜ r ≡ wordLine (now (t .entry)) ⌝ }
+{
+    let Number::Is(value) = column::column(t, 1, 0, MOST_64) else {
+        return Line::Bad;
+    };
+    if t.len() != 22 {
+        return Line::Bad;
+    }
+    Line::Word { value }
+}
+
+// What a line says, by its letter.
+fn read(letter: u8, t: &[u8]) -> Line
+    ensures { λ r. ⌜ r ≡ reader letter (now (t .entry)) ⌝ }
+{
+    if letter == b'R' {
+        return root_line(t);
+    }
+    if letter == b'N' {
+        return node_line(t);
+    }
+    if letter == b'P' {
+        return parameter_line(t);
+    }
+    if letter == b'F' {
+        return field_line(t);
+    }
+    if letter == b'G' {
+        return group_line(t);
+    }
+    if letter == b'T' {
+        return type_line(t);
+    }
+    if letter == b'S' {
+        return scope_line(t);
+    }
+    if letter == b'U' {
+        return unbound_line(t);
+    }
+    if letter == b'V' {
+        return value_line(t);
+    }
+    if letter == b'W' {
+        return word_line(t);
+    }
+    Line::Bad
+}
+
+pub fn next(s: &[u8], at: usize) -> Got
+    ensures { λ r. ⌜ (r .line ≡ lineAt (rows (drop at (now (s .entry))))) × (rows (drop (r .next) (now (s .entry))) ≡ restOf (rows (drop at (now (s .entry))))) ⌝ }
+{
+    if s.len() <= at {
+        return Got {
+            line: Line::Bad,
+            next: at,
+        };
+    }
+    let e = row_end(s, at);
+    let z = e - 1;
+    if s[z] != b'\n' {
+        return Got {
+            line: Line::Bad,
+            next: e,
+        };
+    }
+    let line = read(s[at], &s[at..z]);
+    Got { line, next: e }
+}
+
+// Where the text of a line with a letter begins, after its numbers and a space; 0 for a line without a text.
+fn text_start(letter: u8) -> usize
+    ensures { λ r. ⌜ r ≡ textStart letter ⌝ }
+{
+    if letter == b'R' {
+        return 2;
+    }
+    if letter == b'N' {
+        return 149;
+    }
+    if letter == b'P' {
+        return 2;
+    }
+    if letter == b'F' {
+        return 86;
+    }
+    if letter == b'G' {
+        return 44;
+    }
+    0
+}
+
+// The root, module, parameter or field name of the row at a position: the caller's own bytes.
+pub fn text(s: &[u8], at: usize) -> &[u8]
+    ensures { λ r. ⌜ now r ≡ textAt (rows (drop at (now (s .entry)))) ⌝ }
+{
+    if s.len() <= at {
+        return &s[..0];
+    }
+    let k = text_start(s[at]);
+    if k == 0 {
+        return &s[..0];
+    }
+    let z = row_end(s, at) - 1;
+    if z - at < k {
+        return &s[..0];
+    }
+    let a = at + k;
+    &s[a..z]
+}
+
+// The number, from 1, of the row that starts at a position.
+pub fn line_number(s: &[u8], at: usize) -> usize
+    ensures { λ r. ⌜ r ≡ lineNo (now (s .entry)) (rows (drop at (now (s .entry)))) ⌝ }
+{
+    let mut n: usize = 1;
+    let mut i = 0;
+    while i < s.len() {
+        if at <= i {
+            return n;
+        }
+        if s[i] == b'\n' {
+            n += 1;
+        }
+        i += 1;
+    }
+    n
 }

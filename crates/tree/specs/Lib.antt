@@ -3,3 +3,5 @@ pub mod Reader
 pub mod Read
 pub mod Print
 pub mod WellFormed
+pub mod Examples
+pub mod Walked

@@ -1,1 +1,192 @@
-// The tree of a sheet.
+// Walks over the parts of a sheet: a type with its brand, a slot's default and words. Each gives the position after the part,
+// or its refusal and the position of the bad line.
+use row::Line;
+ghost use mathlib.Core.Path.{_≡_};
+ghost use Prim.Native.Nat.{ℕ};
+ghost use lib.ListN.{drop};
+ghost use Rattle.row.specs.Rows.{rows};
+ghost use Rattle.tree.specs.Tree.{end, stop};
+ghost use Rattle.tree.specs.Reader.{times};
+ghost use Rattle.tree.specs.Read.{typeOf, scopeOf, bindingOf, wordsUpTo, wordsOf, hasWords, slotOf};
+ghost use Rattle.tree.specs.Walked.{passed, walked};
+
+// Where a walk came to: the next row, or the row that is refused and the number of the refusal.
+pub enum Walk {
+    Next { at: usize },
+    Refused { number: u64, at: usize },
+}
+
+// One type with so many levels left: a T row, and what belongs to it.
+pub fn typ(s: &[u8], at: usize, left: usize) -> Walk
+    ensures { λ r. ⌜ walked (now (s .entry)) r ≡ passed (typeOf left (rows (drop at (now (s .entry))))) ⌝ }
+{
+    let g = row::next(s, at);
+    let l = g.line;
+    let e = g.next;
+    match l {
+        Line::Typ {
+            kind,
+            a: _,
+            b,
+            c: _,
+        } => {
+            if left == 0 {
+                return Walk::Refused { number: 4, at };
+            }
+            if kind < 14 {
+                return Walk::Next { at: e };
+            }
+            if kind == 14 {
+                return typ(s, e, left - 1);
+            }
+            if kind < 18 {
+                return scopes(s, e, left - 1, b);
+            }
+            Walk::Next { at: e }
+        }
+        _ => Walk::Refused { number: 2, at },
+    }
+}
+
+// So many scopes, whose bindings have so many levels left.
+pub fn scopes(s: &[u8], from: usize, left: usize, count: u64) -> Walk
+    ensures { λ r. ⌜ walked (now (s .entry)) r ≡ passed (times (scopeOf (typeOf left)) end count (rows (drop from (now (s .entry))))) ⌝ }
+{
+    let mut at = from;
+    let mut n = count;
+    while 0 < n {
+        match scope(s, at, left) {
+            Walk::Next { at: q } => {
+                at = q;
+            }
+            Walk::Refused { number, at: q } => {
+                return Walk::Refused { number, at: q };
+            }
+        }
+        n -= 1;
+    }
+    Walk::Next { at }
+}
+
+// One scope: an S row and its bindings.
+pub fn scope(s: &[u8], at: usize, left: usize) -> Walk
+    ensures { λ r. ⌜ walked (now (s .entry)) r ≡ passed (scopeOf (typeOf left) (rows (drop at (now (s .entry))))) ⌝ }
+{
+    let g = row::next(s, at);
+    let l = g.line;
+    let e = g.next;
+    match l {
+        Line::Scope { id: _, bind, count } => {
+            if bind == 0 {
+                return Walk::Next { at: e };
+            }
+            binds(s, e, left, count)
+        }
+        _ => Walk::Refused { number: 2, at },
+    }
+}
+
+// So many bindings, whose types have so many levels left.
+pub fn binds(s: &[u8], from: usize, left: usize, count: u64) -> Walk
+    ensures { λ r. ⌜ walked (now (s .entry)) r ≡ passed (times (bindingOf (typeOf left)) stop count (rows (drop from (now (s .entry))))) ⌝ }
+{
+    let mut at = from;
+    let mut n = count;
+    while 0 < n {
+        match binding(s, at, left) {
+            Walk::Next { at: q } => {
+                at = q;
+            }
+            Walk::Refused { number, at: q } => {
+                return Walk::Refused { number, at: q };
+            }
+        }
+        n -= 1;
+    }
+    Walk::Next { at }
+}
+
+// One binding: a U row, or a type.
+pub fn binding(s: &[u8], at: usize, left: usize) -> Walk
+    ensures { λ r. ⌜ walked (now (s .entry)) r ≡ passed (bindingOf (typeOf left) (rows (drop at (now (s .entry))))) ⌝ }
+{
+    let g = row::next(s, at);
+    let l = g.line;
+    let e = g.next;
+    match l {
+        Line::Unbound => Walk::Next { at: e },
+        _ => typ(s, at, left),
+    }
+}
+
+// The W rows that stand there, up to so many.
+pub fn words_up_to(s: &[u8], from: usize, count: u64) -> Walk
+    ensures { λ r. ⌜ walked (now (s .entry)) r ≡ passed (wordsUpTo count (rows (drop from (now (s .entry))))) ⌝ }
+{
+    let mut at = from;
+    let mut n = count;
+    while 0 < n {
+        let g = row::next(s, at);
+        let l = g.line;
+        let e = g.next;
+        let Line::Word { value: _ } = l else {
+            return Walk::Next { at };
+        };
+        at = e;
+        n -= 1;
+    }
+    Walk::Next { at }
+}
+
+// Whether W rows belong to a slot, by its explicit flag and the kind of its V row.
+pub fn has_words(explicit: u64, kind: u64) -> bool
+    ensures { λ r. ⌜ r ≡ hasWords explicit kind ⌝ }
+{
+    if explicit != 1 {
+        return false;
+    }
+    if kind == 12 {
+        return true;
+    }
+    if kind == 13 {
+        return true;
+    }
+    if kind == 14 {
+        return true;
+    }
+    kind == 16
+}
+
+// The W rows of a slot: 1 to 255 where they belong, else none.
+pub fn words(s: &[u8], at: usize, has: bool) -> Walk
+    ensures { λ r. ⌜ walked (now (s .entry)) r ≡ passed (wordsOf has (rows (drop at (now (s .entry))))) ⌝ }
+{
+    if has {
+        let g = row::next(s, at);
+        let l = g.line;
+        let e = g.next;
+        let Line::Word { value: _ } = l else {
+            return Walk::Refused { number: 2, at };
+        };
+        return words_up_to(s, e, 254);
+    }
+    Walk::Next { at }
+}
+
+// What belongs to an F row with this explicit flag: a type, a V row and its words.
+pub fn slot(s: &[u8], at: usize, explicit: u64) -> Walk
+    ensures { λ r. ⌜ ((o p : ℕ) → walked (now (s .entry)) r ≡ passed (slotOf o explicit p (rows (drop at (now (s .entry)))))) ⌝ }
+{
+    match typ(s, at, 16) {
+        Walk::Next { at: v } => {
+            let g = row::next(s, v);
+            let l = g.line;
+            let e = g.next;
+            let Line::Value { kind, bits: _ } = l else {
+                return Walk::Refused { number: 2, at: v };
+            };
+            words(s, e, has_words(explicit, kind))
+        }
+        Walk::Refused { number, at: q } => Walk::Refused { number, at: q },
+    }
+}

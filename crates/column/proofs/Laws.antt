@@ -1,0 +1,177 @@
+-- Laws for the loops over columns and texts: what a definition gives from one byte on, by that byte. Assumes nothing.
+use mathlib.Core.Path.{_≡_, refl, sym, _∙_}
+use mathlib.Core.Bool.{Bool, true, false}
+use mathlib.Core.List.{List, [], _∷_}
+use Prim.Native.Nat.{ℕ, _+_, _-_, _*_, _^_, _≤_, _<_}
+use native.Mathlib.Omega.{arith}
+use native.Mathlib.Nat.{add-sub-cancel-left}
+use native.Mathlib.Numerals.{add-one}
+use lib.ListN.{length, getD, take, drop, drop-of-length-le, length-drop, List·getD-eq-default}
+use lib.Seq.{drop-cons, take-all}
+use borrow.Author.Tests.{eq-eqb, ne-eqb, lt-ltb, le-ltb, le-leb, lt-leb}
+use Rattle.text.specs.Bytes.{Str}
+use Rattle.column.specs.Number.{trimmed, digits, unpadded, within, columnOf}
+use Rattle.column.specs.Texts.{between, isDigit, isWord, isGraphic, all, sized, isName, isGraphicText, endsIn}
+use Rattle.column.specs.declared.Number.{Number}
+use Rattle.column.specs.declared.Number.the-variants.{Is, Not}
+
+-- a byte inside bounds, below them and above them
+pub between-in : (lo hi b : ℕ) → lo ≤ b → b ≤ hi → between lo hi b ≡ true
+between-in lo hi b l h = rw (le-leb lo b l, le-leb b hi h)
+
+pub between-below : (lo hi b : ℕ) → b < lo → between lo hi b ≡ false
+between-below lo hi b l = rw (lt-leb lo b l)
+
+pub between-above : (lo hi b : ℕ) → lo ≤ b → hi < b → between lo hi b ≡ false
+between-above lo hi b l h = rw (le-leb lo b l, lt-leb b hi h)
+
+module _ (t : Str) (i : ℕ) (h : i < length t) where
+  pub all-more : (ok : ℕ → Bool) → ok (getD t i 0) ≡ true → all ok (drop i t) ≡ all ok (drop (i + 1) t)
+  unfolding all
+  all-more ok e = rw (add-one, drop-cons t i 0 h, all, e)
+
+  pub all-stop : (ok : ℕ → Bool) → ok (getD t i 0) ≡ false → all ok (drop i t) ≡ false
+  unfolding all
+  all-stop ok e = rw (drop-cons t i 0 h, all, e)
+
+  pub trimmed-more : getD t i 0 ≡ 32 → trimmed (drop i t) ≡ trimmed (drop (i + 1) t)
+  unfolding trimmed
+  trimmed-more e = rw (add-one, drop-cons t i 0 h, trimmed, eq-eqb (getD t i 0) 32 e)
+
+  pub trimmed-stop : (getD t i 0 ≡ 32 → ⊥) → trimmed (drop i t) ≡ drop i t
+  unfolding trimmed
+  trimmed-stop e = rw (drop-cons t i 0 h, trimmed, ne-eqb (getD t i 0) 32 e)
+
+  pub digits-below : (v : ℕ) → getD t i 0 < 48 → digits v (drop i t) ≡ Not
+  unfolding digits
+  digits-below v l = rw (drop-cons t i 0 h, digits, lt-ltb (getD t i 0) 48 l)
+
+  pub digits-above : (v : ℕ) → 48 ≤ getD t i 0 → 57 < getD t i 0 → digits v (drop i t) ≡ Not
+  unfolding digits
+  digits-above v l g = rw (drop-cons t i 0 h, digits, le-ltb (getD t i 0) 48 l, lt-ltb 57 (getD t i 0) g)
+
+  -- the number grows out of 64 bits
+  pub digits-over : (v : ℕ) → 48 ≤ getD t i 0 → getD t i 0 ≤ 57 → 2 ^ 64 ≤ v * 10 + (getD t i 0 - 48) → digits v (drop i t) ≡ Not
+  unfolding digits
+  digits-over v l g o =
+      rw (drop-cons t i 0 h, digits, le-ltb (getD t i 0) 48 l, le-ltb 57 (getD t i 0) g, le-ltb (v * 10 + (getD t i 0 - 48)) (2 ^ 64) o)
+
+  pub digits-more :
+      (v : ℕ) → 48 ≤ getD t i 0 → getD t i 0 ≤ 57 → v * 10 + (getD t i 0 - 48) < 2 ^ 64
+      → digits v (drop i t) ≡ digits (v * 10 + (getD t i 0 - 48)) (drop (i + 1) t)
+  unfolding digits
+  digits-more v l g o =
+      rw (add-one, drop-cons t i 0 h, digits, le-ltb (getD t i 0) 48 l, le-ltb 57 (getD t i 0) g, lt-ltb (v * 10 + (getD t i 0 - 48)) (2 ^ 64) o)
+
+pub all-end : (ok : ℕ → Bool) (t : Str) (i : ℕ) → length t ≤ i → all ok (drop i t) ≡ true
+unfolding all
+all-end ok t i h = rw (drop-of-length-le t h)
+
+pub trimmed-end : (t : Str) (i : ℕ) → length t ≤ i → trimmed (drop i t) ≡ drop i t
+unfolding trimmed
+trimmed-end t i h = rw (drop-of-length-le t h)
+
+pub digits-end : (v : ℕ) (t : Str) (i : ℕ) → length t ≤ i → digits v (drop i t) ≡ Is v
+unfolding digits
+digits-end v t i h = rw (drop-of-length-le t h)
+
+-- the part of a slice from i on
+pub rest-is : (t : Str) (i : ℕ) → take (length t - i) (drop i t) ≡ drop i t
+rest-is t i = take-all (length t - i) (drop i t) (rw (length-drop i t) (omega arith))
+
+-- a number without spaces, by its length and its first byte
+pub unpadded-none : (t : Str) → length t ≡ 0 → unpadded t ≡ Not
+unfolding unpadded
+unpadded-none [] h = refl
+unpadded-none (b ∷ t) h = let z : ⊥ = omega arith in absurd z
+
+pub unpadded-digits : (t : Str) → (length t ≡ 0 → ⊥) → (getD t 0 0 ≡ 48 → ⊥) → unpadded t ≡ digits 0 t
+unfolding unpadded
+unpadded-digits [] h e = absurd (h refl)
+unpadded-digits (b ∷ t) h e = rw (ne-eqb b 48 e)
+
+pub unpadded-zero : (t : Str) → getD t 0 0 ≡ 48 → length t ≡ 1 → unpadded t ≡ Is 0
+unfolding unpadded
+unpadded-zero [] e h = let z : ⊥ = omega arith in absurd z
+unpadded-zero (b ∷ []) e h = rw (eq-eqb b 48 e)
+unpadded-zero (b ∷ x ∷ t) e h = let z : ⊥ = omega arith in absurd z
+
+pub unpadded-more : (t : Str) → getD t 0 0 ≡ 48 → (length t ≡ 1 → ⊥) → unpadded t ≡ Not
+unfolding unpadded
+unpadded-more [] e h = refl
+unpadded-more (b ∷ []) e h = absurd (h refl)
+unpadded-more (b ∷ x ∷ t) e h = rw (eq-eqb b 48 e)
+
+-- the number in some columns, where the row is too short and where it is not
+module _ (t : Str) (a least most : ℕ) where
+  pub column-short : length t < a + 21 → columnOf t a least most ≡ Not
+  unfolding columnOf
+  column-short h = rw (lt-ltb (length t) (a + 21) h)
+
+  pub column-is :
+      (x : Str) (n : Number) → a + 21 ≤ length t → x ≡ trimmed (take (a + 21 - a) (drop a t)) → n ≡ unpadded x
+      → columnOf t a least most ≡ within least most n
+  unfolding columnOf
+  column-is x n h e f = rw (le-ltb (length t) (a + 21) h, f, e, add-sub-cancel-left a 21)
+
+-- a text after its space at a
+module _ (t : Str) (a : ℕ) where
+  pub ends-past : (ok : Str → Bool) → length t ≤ a → endsIn ok t a ≡ false
+  unfolding endsIn
+  ends-past ok h = rw (List·getD-eq-default t 0 h)
+
+  pub ends-not : (ok : Str → Bool) → (getD t a 0 ≡ 32 → ⊥) → endsIn ok t a ≡ false
+  unfolding endsIn
+  ends-not ok e = rw (ne-eqb (getD t a 0) 32 e)
+
+  ends-text : (ok : Str → Bool) → getD t a 0 ≡ 32 → endsIn ok t a ≡ ok (drop (a + 1) t)
+  unfolding endsIn
+  ends-text ok e = rw (eq-eqb (getD t a 0) 32 e)
+
+  none-sized : (most : ℕ) → length t ≡ a + 1 → sized most (drop (a + 1) t) ≡ false
+  none-sized most e = between-below 1 most (length (drop (a + 1) t)) (rw (length-drop (a + 1) t) (omega arith))
+
+  over-sized : (most : ℕ) → a + 1 < length t → most < length t - (a + 1) → sized most (drop (a + 1) t) ≡ false
+  over-sized most l h = let n = length-drop (a + 1) t in between-above 1 most (length (drop (a + 1) t)) (omega arith) (omega arith)
+
+  well-sized : (most : ℕ) → a + 1 < length t → length t - (a + 1) ≤ most → sized most (drop (a + 1) t) ≡ true
+  well-sized most l h = let n = length-drop (a + 1) t in between-in 1 most (length (drop (a + 1) t)) (omega arith) (omega arith)
+
+  first-is : a + 1 < length t → getD (drop (a + 1) t) 0 0 ≡ getD t (a + 1) 0
+  first-is l = rw (drop-cons t (a + 1) 0 l)
+
+  name-not : getD t a 0 ≡ 32 → sized 64 (drop (a + 1) t) ≡ false → endsIn isName t a ≡ false
+  unfolding isName
+  name-not s e = ends-text isName s ∙ rw e
+
+  pub name-none : getD t a 0 ≡ 32 → length t ≡ a + 1 → endsIn isName t a ≡ false
+  name-none s h = name-not s (none-sized 64 h)
+
+  pub name-over : getD t a 0 ≡ 32 → a + 1 < length t → 64 < length t - (a + 1) → endsIn isName t a ≡ false
+  name-over s l h = name-not s (over-sized 64 l h)
+
+  pub name-digit : getD t a 0 ≡ 32 → a + 1 < length t → length t - (a + 1) ≤ 64 → isDigit (getD t (a + 1) 0) ≡ true → endsIn isName t a ≡ false
+  unfolding isName
+  name-digit s l h e = ends-text isName s ∙ rw (well-sized 64 l h, first-is l, e)
+
+  pub name-is :
+      getD t a 0 ≡ 32 → a + 1 < length t → length t - (a + 1) ≤ 64 → isDigit (getD t (a + 1) 0) ≡ false
+      → endsIn isName t a ≡ all isWord (take (length t - (a + 1)) (drop (a + 1) t))
+  unfolding isName
+  name-is s l h e = ends-text isName s ∙ rw (well-sized 64 l h, first-is l, e, rest-is t (a + 1))
+
+  graphic-not : (most : ℕ) → getD t a 0 ≡ 32 → sized most (drop (a + 1) t) ≡ false → endsIn (isGraphicText most) t a ≡ false
+  unfolding isGraphicText
+  graphic-not most s e = ends-text (isGraphicText most) s ∙ rw e
+
+  pub graphic-none : (most : ℕ) → getD t a 0 ≡ 32 → length t ≡ a + 1 → endsIn (isGraphicText most) t a ≡ false
+  graphic-none most s h = graphic-not most s (none-sized most h)
+
+  pub graphic-over : (most : ℕ) → getD t a 0 ≡ 32 → a + 1 < length t → most < length t - (a + 1) → endsIn (isGraphicText most) t a ≡ false
+  graphic-over most s l h = graphic-not most s (over-sized most l h)
+
+  pub graphic-is :
+      (most : ℕ) → getD t a 0 ≡ 32 → a + 1 < length t → length t - (a + 1) ≤ most
+      → endsIn (isGraphicText most) t a ≡ all isGraphic (take (length t - (a + 1)) (drop (a + 1) t))
+  unfolding isGraphicText
+  graphic-is most s l h = ends-text (isGraphicText most) s ∙ rw (well-sized most l h, rest-is t (a + 1))

@@ -1,0 +1,19 @@
+use Rattle.column.proofs.Laws.{between-below}
+use borrow.Author.Tests.{le-leb}
+use mathlib.Core.Path.{_≡_, sym}
+use borrow.Author.Needs.{needs}
+use Rattle.column.proofs.is_digit.Statement.{statement}
+use Rattle.column.proofs.is_digit.Tie as tie
+use Rattle.column.proofs.is_digit.Reads as reads
+use Rattle.column.proofs.is_digit.Lts as lts
+
+returns : tie.Need-returns
+returns c =
+    sym (between-below _ _ _ (c .if1 .taken))
+
+returns-2 : tie.Need-returns-2
+returns-2 c =
+    rw (le-leb _ _ (c .if1 .left))
+
+pub is-digit-spec : {M : Type 1} → statement M
+is-digit-spec = tie.close (tie.spec returns returns-2)

@@ -1,0 +1,48 @@
+use Rattle.column.proofs.Laws.{trimmed-more, trimmed-stop, trimmed-end, rest-is}
+use Rattle.column.specs.Number.{trimmed}
+use lib.ListN.{length, drop}
+use Prim.Native.Nat.{_≤_, _-_}
+use mathlib.Core.Path.{_≡_, sym, _∙_}
+use borrow.Author.Needs.{needs}
+use Rattle.column.proofs.trimmed.Statement.{statement}
+use Rattle.column.proofs.trimmed.Tie as tie
+use Rattle.column.proofs.trimmed.Reads as reads
+use Rattle.column.proofs.trimmed.Lts as lts
+
+abbrev Inv-loop : tie.InvT-loop
+Inv-loop t i₀ i = (i ≤ length t) × (trimmed t ≡ trimmed (drop i t))
+
+abbrev μ-loop : tie.MeasureT-loop
+μ-loop t i₀ i = length t - i
+
+returns : tie.Need-returns Inv-loop μ-loop
+returns c =
+    rest-is (c .before .before .before .before .before .args .t .now) (c .before .before .before .before .loop .i) ∙ sym ((c .before .before .before .before .loop .inv .1) ∙ trimmed-stop _ _ (c .before .before .before .loop-test .taken) (c .before .if1 .taken))
+
+loop-again : tie.Need-loop-again Inv-loop μ-loop
+loop-again c =
+    (search needs, (c .before .before .before .loop .inv .1) ∙ trimmed-more _ _ (c .before .before .loop-test .taken) (c .if1 .left))
+
+returns-2 : tie.Need-returns-2 Inv-loop μ-loop
+returns-2 c =
+    rest-is (c .before .before .before .args .t .now) (c .before .before .loop .i) ∙ sym ((c .before .before .loop .inv .1) ∙ trimmed-end _ _ (c .before .loop-test .left))
+
+pub trimmed-spec : {M : Type 1} → statement M
+trimmed-spec =
+    tie.close
+    (tie.spec
+    Inv-loop
+    μ-loop
+    (λ c. search needs)
+    (λ c. search needs)
+    (λ c. search needs)
+    (λ c. search needs)
+    (λ c. search needs)
+    returns
+    (λ c. search needs)
+    (λ c. search needs)
+    loop-again
+    (λ c. search needs)
+    (λ c. search needs)
+    (λ c. search needs)
+    returns-2)

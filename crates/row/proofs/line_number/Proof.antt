@@ -1,0 +1,52 @@
+use Rattle.row.proofs.Laws.{lineNo-at, newline-here, newline-not}
+use Rattle.row.specs.Rows.{newlines}
+use lib.Seq.{take-all}
+use lib.ListN.{length, take}
+use native.Mathlib.Omega.{arith}
+use Prim.Native.Nat.{ℕ, suc, _+_, _-_, _≤_}
+use mathlib.Core.Logic.{⊎-elim}
+use mathlib.Core.List.{List}
+use mathlib.Core.Path.{_≡_, refl, sym, ap, _∙_}
+use borrow.Author.Needs.{needs}
+use Rattle.row.proofs.line_number.Statement.{statement}
+use Rattle.row.proofs.line_number.Tie as tie
+use Rattle.row.proofs.line_number.Reads as reads
+use Rattle.row.proofs.line_number.Lts as lts
+
+abbrev Inv-loop : tie.InvT-loop
+Inv-loop s at n₀ i₀ n i = (i ≤ length s) × (i ≤ at) × (n ≡ suc (newlines (take i s))) × (n ≤ i + 1)
+
+abbrev μ-loop : tie.MeasureT-loop
+μ-loop s at n₀ i₀ n i = length s - i
+
+loop-holds : tie.Need-loop-holds Inv-loop μ-loop
+unfolding newlines
+loop-holds c =
+    (omega arith, omega arith, refl, omega arith)
+
+returns : tie.Need-returns Inv-loop μ-loop
+returns c =
+    let e : (c .before .before .loop .i) ≡ (c .before .before .before .args .at) = omega arith in (c .before .before .loop .inv .2) ∙ ap (λ (k : ℕ). suc (newlines (take k (c .before .before .before .args .s .now)))) e ∙ sym (lineNo-at (c .before .before .before .args .s .now) (c .before .before .before .args .at))
+
+loop-again : tie.Need-loop-again Inv-loop μ-loop
+loop-again c =
+    let l = (c .before .before .before .before .loop) in let s = (c .before .before .before .before .before .args .s .now) in let h = (c .before .before .before .loop-test .taken) in ⊎-elim (λ w. (omega arith, omega arith, omega (arith, newline-here s (l .i) h (w .0 .taken), w), omega (arith, w))) (λ w. (omega arith, omega arith, omega (arith, newline-not s (l .i) h (w .0 .left), w), omega (arith, w))) (c .if2 .came)
+
+returns-2 : tie.Need-returns-2 Inv-loop μ-loop
+returns-2 c =
+    (c .before .loop .inv .2) ∙ ap (λ (t : List ℕ). suc (newlines t)) (take-all _ _ (c .loop-test .left) ∙ sym (take-all (c .before .before .args .at) _ (omega arith))) ∙ sym (lineNo-at (c .before .before .args .s .now) (c .before .before .args .at))
+
+pub line-number-spec : {M : Type 1} → statement M
+line-number-spec =
+    tie.close
+    (tie.spec
+    Inv-loop
+    μ-loop
+    loop-holds
+    returns
+    (λ c. search needs)
+    (λ c. search needs)
+    (λ c. search needs)
+    (λ c. search needs)
+    loop-again
+    returns-2)

@@ -1,0 +1,27 @@
+use borrow.Author.Tests.{eq-eqb, ne-eqb, lt-ltb, le-ltb, le-leb, lt-leb, not-true, not-false}
+use Rattle.row.specs.Line.{parameterLine}
+use borrow.Author.Needs.{needs}
+use Rattle.row.proofs.parameter_line.Statement.{statement}
+use Rattle.row.proofs.parameter_line.Tie as tie
+use Rattle.row.proofs.parameter_line.Reads as reads
+use Rattle.row.proofs.parameter_line.Lts as lts
+use Rattle.column.proofs.ends_in_name.Reads as ends-in-name-reads
+
+returns : tie.Need-returns
+unfolding parameterLine
+returns c =
+    simp (
+      ← c .before .ends-in-name .ensures,
+      not-true (c .before .ends-in-name .result) (c .if1 .taken),
+    )
+
+returns-2 : tie.Need-returns-2
+unfolding parameterLine
+returns-2 c =
+    simp (
+      ← c .before .ends-in-name .ensures,
+      not-false (c .before .ends-in-name .result) (c .if1 .left),
+    )
+
+pub parameter-line-spec : {M : Type 1} → statement M
+parameter-line-spec = tie.close (tie.spec (λ c κs. search needs) returns returns-2)

@@ -1,0 +1,22 @@
+use borrow.Author.Tests.{eq-eqb, ne-eqb, lt-ltb, le-ltb, le-leb, lt-leb, not-true, not-false}
+use Rattle.row.specs.Line.{unboundLine}
+use borrow.Author.Needs.{needs}
+use Rattle.row.proofs.unbound_line.Statement.{statement}
+use Rattle.row.proofs.unbound_line.Tie as tie
+use Rattle.row.proofs.unbound_line.Reads as reads
+use Rattle.row.proofs.unbound_line.Lts as lts
+
+returns : tie.Need-returns
+unfolding unboundLine
+returns c =
+    simp
+    (ne-eqb _ _ (c .if1 .taken))
+
+returns-2 : tie.Need-returns-2
+unfolding unboundLine
+returns-2 c =
+    simp
+    (eq-eqb _ _ (c .if1 .left))
+
+pub unbound-line-spec : {M : Type 1} → statement M
+unbound-line-spec = tie.close (tie.spec returns returns-2)

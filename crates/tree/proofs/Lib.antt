@@ -1,0 +1,3 @@
+pub mod OtherLines
+pub mod WalkLaws
+pub mod SlotLaws

@@ -1,0 +1,224 @@
+-- Worked sheets, computed: document 01's own example, and refusals 1 to 4 at the lines that document 01 names. Assumes nothing.
+use mathlib.Core.Path.{_≡_, refl}
+use mathlib.Core.Bool.{Bool, true, false}
+use mathlib.Core.List.{List, [], _∷_, _++_}
+use Prim.Native.Nat.{ℕ, zero, suc, _+_, _-_}
+use lib.ListN.{length, take, drop, replicate}
+use Rattle.text.specs.Bytes.{Str, ascii, unit}
+use Rattle.text.specs.Decimal.{decimal}
+use Rattle.column.specs.Number.{trimmed, digits, unpadded, columnOf, padded}
+use Rattle.column.specs.Texts.{isWord, isGraphic, all, isName, isGraphicText, endsIn}
+use Rattle.row.specs.Rows.{rows, onto, restOf, newlines, size, lineNo}
+use Rattle.row.specs.Line.{rootLine, nodeLine, parameterLine, fieldLine, groupLine}
+use Rattle.row.specs.Line.{typeLine, scopeLine, unboundLine, valueLine, wordLine}
+use Rattle.row.specs.Line.{mostA, mostB, mostC, mostCount, mostBits, reader, lineOf, lineAt, textStart, textOf, textAt}
+use Rattle.row.specs.Print.{columns, rowText, printRoot, printNode, printParameter, printField, printGroup}
+use Rattle.row.specs.Print.{printType, printScope, printUnbound, printValue, printWord}
+use Rattle.tree.specs.Tree.{Ty, plain, list, enum, struct, interface, anyPointer, parameter}
+use Rattle.tree.specs.Tree.{Scopes, end, inherit, bind, Binds, stop, unbound, bound}
+use Rattle.tree.specs.Tree.{Value, Slot, Arm, slot, group, Field, Node, Sheet}
+use Rattle.tree.specs.Reader.{Rows, times}
+use Rattle.tree.specs.Read.{Admitted, sheet, refused, admitted}
+use Rattle.tree.specs.Read.{bindingOf, scopeOf, typeFrom, typeOf, valueOf, wordsUpTo, wordsOf, slotOf}
+use Rattle.tree.specs.Read.{among, fieldsUpTo, groupIds, paramsOf, membersOf, nodeOf, nodesOf, sheetOf}
+use Rattle.tree.specs.Print.{scopeCount, bindCount, typeRows, wordRows, fieldRows, paramRows, nodeRows, sheetRows}
+use Rattle.tree.specs.Print.{joined, printed}
+use Rattle.tree.specs.WellFormed.{every, distinct, typeFits, nodeIds, allGroupIds, wellFormed}
+
+-- R ::capnp, N 7 0 0 1 0 0 0 bed
+bed : Rows
+bed = printRoot (ascii "::capnp") ∷ printNode 7 0 0 1 0 0 0 (ascii "bed") ∷ []
+
+-- document 01's example
+free : Rows
+free = bed ++ (printField 3 65535 1 0 (ascii "isFree") ∷ printType 1 0 0 0 ∷ printValue 1 1 ∷ [])
+
+-- its slot with other rows for the type
+freeAs : Rows → Rows
+freeAs ts = take 3 free ++ ts ++ drop 4 free
+
+node : ℕ → List Field → Node
+node i fs = record {
+  id = i;
+  parent = 0;
+  scope = 0;
+  isStruct = 1;
+  generic = 0;
+  tagCount = 0;
+  tagOffset = 0;
+  theMod = ascii "bed";
+  params = [];
+  fields = fs;
+}
+
+tree : List Node → Sheet
+tree ns = record { root = ascii "::capnp"; nodes = ns }
+
+field : Str → Slot → Field
+field name s = record { name = name; discriminant = 65535; arm = slot s }
+
+freeTree : Sheet
+freeTree = tree (node 7 (field (ascii "isFree") (record {
+  offset = 3;
+  explicit = 1;
+  option = 0;
+  ty = plain 1;
+  default = record { kind = 1; bits = 1 };
+  words = [];
+}) ∷ []) ∷ [])
+
+-- one slot of a type
+typed : Ty → Sheet
+typed t = tree (node 7 (field (ascii "f") (record {
+  offset = 0;
+  explicit = 0;
+  option = 0;
+  ty = t;
+  default = record { kind = 0; bits = 0 };
+  words = [];
+}) ∷ []) ∷ [])
+
+-- lists in lists, so many levels, around a type
+lists : ℕ → Ty → Ty
+lists zero t = t
+lists (suc n) t = list (lists n t)
+
+-- a struct whose scope has bindings
+bed7 : Binds → Ty
+bed7 bs = struct 7 (bind 7 bs end)
+
+-- one slot of Text with an explicit default of so many words
+worded : ℕ → Sheet
+worded n = tree (node 7 (field (ascii "f") (record {
+  offset = 0;
+  explicit = 1;
+  option = 0;
+  ty = plain 12;
+  default = record { kind = 12; bits = 0 };
+  words = replicate n 5;
+}) ∷ []) ∷ [])
+
+groups : List ℕ → List Field
+groups [] = []
+groups (i ∷ is) = record { name = ascii "g"; discriminant = 0; arm = group i } ∷ groups is
+
+-- nodes with ids from n down to 1
+down : ℕ → List Node
+down zero = []
+down (suc n) = node (suc n) [] ∷ down n
+
+-- parameters, brands, a parameter's type, words, a group and a second node
+rich : Sheet
+rich = tree (record {
+  id = 18446744073709551615;
+  parent = 7;
+  scope = 7;
+  isStruct = 1;
+  generic = 1;
+  tagCount = 65535;
+  tagOffset = 4294967295;
+  theMod = ascii "map::entry";
+  params = ascii "K" ∷ ascii "V" ∷ [];
+  fields =
+      field (ascii "key") (record {
+        offset = 0;
+        explicit = 1;
+        option = 1;
+        ty = parameter 18446744073709551615 65535;
+        default = record { kind = 16; bits = 0 };
+        words = 1 ∷ 18446744073709551615 ∷ [];
+      })
+      ∷ field (ascii "value") (record {
+        offset = 4294967295;
+        explicit = 0;
+        option = 0;
+        ty = list (interface 1 (inherit 1 (bind 2 (unbound (bound (enum 7 end) (bound anyPointer stop))) (bind 3 stop end))));
+        default = record { kind = 15; bits = 65535 };
+        words = [];
+      })
+      ∷ groups (7 ∷ []);
+} ∷ node 7 [] ∷ [])
+
+-- a sheet, and what is admitted of it
+record Case : Type 0 where
+  given : Str
+  answer : Admitted
+
+abbrev when : Str → Admitted → Case
+when s a = record { given = s; answer = a }
+
+-- a tree that is printed and read again
+abbrev whole : Sheet → Case
+whole t = when (printed t) (sheet t)
+
+-- a tree that is printed and refused
+abbrev not : Sheet → ℕ → ℕ → Case
+not t k l = when (printed t) (refused k l)
+
+table : List Case
+table =
+    when (joined free) (sheet freeTree)
+    ∷ whole rich
+    -- a node without fields; no node; empty; a last line without byte 10; no V line
+    ∷ when (joined bed) (sheet (tree (node 7 [] ∷ [])))
+    ∷ not (tree []) 2 2
+    ∷ when [] (refused 2 1)
+    ∷ when (take (length (joined free) - 1) (joined free)) (refused 2 5)
+    ∷ when (joined (take 4 free)) (refused 2 5)
+    -- a second R; an empty line; P after F
+    ∷ when (joined (take 1 bed ++ bed)) (refused 2 2)
+    ∷ when (joined bed ++ unit 10) (refused 2 3)
+    ∷ when (joined (free ++ (printParameter (ascii "T") ∷ []))) (refused 2 6)
+    -- level 16 and a 17th, of a list's element and of a binding; U at the 17th; a 17th line that is bad in itself
+    ∷ whole (typed (lists 15 (plain 12)))
+    ∷ not (typed (lists 16 (plain 12))) 4 20
+    ∷ not (typed (lists 15 (bed7 (bound (plain 12) stop)))) 4 21
+    ∷ whole (typed (lists 15 (bed7 (unbound stop))))
+    ∷ not (typed (lists 16 (plain 19))) 2 20
+    -- 2 ^ 64 - 1 scopes, or bindings, that do not follow
+    ∷ when (joined (freeAs (printType 16 7 18446744073709551615 0 ∷ []))) (refused 2 5)
+    ∷ when (joined (freeAs (printType 16 7 1 0 ∷ printScope 7 1 18446744073709551615 ∷ printUnbound ∷ []))) (refused 2 7)
+    -- 0, 1, 255, 256 words; a word where none belongs
+    ∷ not (worded 0) 2 6
+    ∷ whole (worded 1)
+    ∷ whole (worded 255)
+    ∷ not (worded 256) 2 261
+    ∷ when (joined (free ++ (printWord 5 ∷ []))) (refused 2 6)
+    -- an id on a second N, on a second G of one node, of another node; an N and a G with one id
+    ∷ not (tree (node 7 [] ∷ node 1 [] ∷ node 7 [] ∷ [])) 3 4
+    ∷ not (tree (node 7 (groups (1 ∷ 2 ∷ 1 ∷ [])) ∷ [])) 3 5
+    ∷ not (tree (node 7 (groups (1 ∷ [])) ∷ node 1 (groups (1 ∷ [])) ∷ [])) 3 5
+    ∷ whole (tree (node 7 (groups (7 ∷ [])) ∷ []))
+    -- 64 nodes and a 65th, also with an id that stands before
+    ∷ whole (tree (down 64))
+    ∷ not (tree (down 65)) 2 66
+    ∷ not (tree (down 64 ++ down 1)) 2 66
+    -- the sheet's length
+    ∷ when (replicate 65536 10) (refused 2 1)
+    ∷ when (replicate 65537 10) (refused 1 0)
+    ∷ []
+
+answers : List Case → List Admitted
+answers [] = []
+answers (c ∷ cs) = admitted (c .given) ∷ answers cs
+
+expected : List Case → List Admitted
+expected [] = []
+expected (c ∷ cs) = c .answer ∷ expected cs
+
+-- what is admitted of each sheet is what the table says
+worked : answers table ≡ expected table
+unfolding answers expected table rich down groups worded bed7 lists typed freeTree field tree node freeAs free bed
+    joined printed sheetRows nodeRows paramRows fieldRows wordRows typeRows bindCount scopeCount rowText columns padded decimal
+    admitted sheetOf nodesOf nodeOf membersOf paramsOf groupIds fieldsUpTo among slotOf wordsOf wordsUpTo valueOf
+    typeOf typeFrom scopeOf bindingOf times lineNo size newlines restOf onto rows textAt textOf textStart lineAt lineOf reader
+    rootLine nodeLine parameterLine fieldLine groupLine typeLine scopeLine unboundLine valueLine wordLine
+    mostA mostB mostC mostCount mostBits columnOf unpadded digits trimmed isGraphicText isName all isGraphic isWord endsIn
+worked = refl
+
+-- the two trees with most in them are well-formed
+fit : (wellFormed freeTree ≡ true) × (wellFormed rich ≡ true)
+unfolding wellFormed every distinct typeFits nodeIds allGroupIds groupIds among mostBits isGraphicText isName all isGraphic isWord endsIn
+    freeTree rich groups field tree node
+    joined printed sheetRows nodeRows paramRows fieldRows wordRows typeRows bindCount scopeCount rowText columns padded decimal
+fit = (refl, refl)
