@@ -4,7 +4,9 @@ use text::Text;
 ghost use mathlib.Core.List.{_++_};
 ghost use Rattle.text.specs.Bytes.{ascii};
 ghost use Rattle.text.specs.Text.{Wrote};
+ghost use mathlib.Core.Path.{_≡_};
 ghost use Rattle.codegen_types.specs.Leaf.{bareName, display, lifetimeComma};
+ghost use Rattle.codegen_types.specs.TypeString.{elementLeaf};
 
 // The lifetimes that are asked for: 'a and '_.
 pub enum Lifetime {
@@ -22,6 +24,12 @@ pub enum Leaf {
     ServerDispatch,
     Pipeline,
     GetType,
+}
+
+// The refusal of a request by document 01's number, if there is one.
+pub enum Refusal {
+    None,
+    Number(u8),
 }
 
 impl Leaf {
@@ -67,5 +75,16 @@ impl Leaf {
             Leaf::Pipeline => t.bytes(buf, b"Pipeline<"),
             Leaf::GetType => t.bytes(buf, b"get_type<"),
         }
+    }
+}
+
+// The leaf that a list asks of an element of this kind.
+pub fn element_leaf(kind: u64) -> Leaf
+    ensures { λ r. ⌜ r ≡ elementLeaf kind ⌝ }
+{
+    if kind == 17 {
+        Leaf::Client
+    } else {
+        Leaf::Owned
     }
 }

@@ -26,7 +26,7 @@ use Rattle.tree.specs.Tree as tree
 use Rattle.tree.specs.Tree.{Ty, Scopes, Binds, Sheet, end, stop, unbound, bound, inherit, bind}
 use Rattle.tree.specs.Reader.{Rows, Reading, got, no, Reader, _then_, mapR, times, onUnbound, onScope, onType}
 use Rattle.tree.specs.Read as read
-use Rattle.tree.specs.Read.{typeOf, typeFrom, bindingOf, paramsOf}
+use Rattle.tree.specs.Read.{typeOf, typeFrom, bindingOf, paramsOf, among}
 use Rattle.codegen_types.specs.Out.{Out, ok, refused}
 use Rattle.codegen_types.specs.TypeString as typeString
 use Rattle.codegen_types.specs.TypeString.{nodeOf, orElse, scopeOf, scopesOf, bindingsOf}
@@ -198,6 +198,12 @@ passes-type (suc l) n rs = made (passes-type l)
 pub past-type : (left : ℕ) (rs : Rows) → After (typeOf left rs) (λ rest. pastRows rs 1 ≡ rest)
 past-type left rs =
     after-one (λ rest. pastRows rs 1 ≡ pastRows rest 0) (λ rest. pastRows rs 1 ≡ rest) (typeOf left rs) (λ rest e. e ∙ past-none rest) (passes-type left 0 rs)
+
+-- the rows after a binding
+pub past-binding : (left : ℕ) (rs : Rows) → After (bindingOf (typeOf left) rs) (λ rest. pastRows rs 1 ≡ rest)
+past-binding left rs =
+    after-one (λ rest. pastRows rs 1 ≡ pastRows rest 0) (λ rest. pastRows rs 1 ≡ rest) (bindingOf (typeOf left) rs)
+    (λ rest e. e ∙ past-none rest) (passes-binding (typeOf left) (passes-type left) 0 rs)
 
 -- the rows after a scope
 past-scope : (left : ℕ) (rs : Rows) → After (read.scopeOf (typeOf left) rs) (λ rest. pastRows (restOf rs) (owed (lineAt rs)) ≡ rest)
@@ -384,6 +390,19 @@ lookup-hit id ids ats i h k e = rw (drop-cons ids i 0 h, drop-cons ats i 0 k, eq
 pub lookup-miss : (id : ℕ) (ids ats : List ℕ) (i : ℕ) → i < length ids → i < length ats → (getD ids i 0 ≡ id → ⊥) → lookup id (drop i ids) (drop i ats) ≡ lookup id (drop (i + 1) ids) (drop (i + 1) ats)
 unfolding lookup
 lookup-miss id ids ats i h k e = rw (drop-cons ids i 0 h, drop-cons ats i 0 k, ne-eqb _ _ e, add-one)
+
+-- the search among ids
+pub among-out : (id : ℕ) (ids : List ℕ) (i : ℕ) → length ids ≤ i → among id (drop i ids) ≡ false
+unfolding among
+among-out id ids i h = rw (drop-of-length-le ids h)
+
+pub among-hit : (id : ℕ) (ids : List ℕ) (i : ℕ) → i < length ids → getD ids i 0 ≡ id → among id (drop i ids) ≡ true
+unfolding among
+among-hit id ids i h e = rw (drop-cons ids i 0 h, eq-eqb _ _ e)
+
+pub among-miss : (id : ℕ) (ids : List ℕ) (i : ℕ) → i < length ids → (getD ids i 0 ≡ id → ⊥) → among id (drop i ids) ≡ among id (drop (i + 1) ids)
+unfolding among
+among-miss id ids i h e = rw (drop-cons ids i 0 h, ne-eqb _ _ e, add-one)
 
 -- parameters
 clash : {A : Type 0} → false ≡ true → A

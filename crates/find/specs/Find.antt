@@ -44,9 +44,9 @@ rowsFound s Nothing = none
 
 -- ---- types and scopes
 
--- the kind of the type that comes first
+-- the kind of the type that comes first; no T row has a kind above 18
 abbrev pub kindAt : Rows → ℕ
-kindAt rs = asType (lineAt rs) (λ k a b c. k) 0
+kindAt rs = asType (lineAt rs) (λ k a b c. cond (ltb k 18) k 18) 0
 
 -- how many types, scopes or bindings a line announces: a list one, a brand its scopes, a bind its bindings
 unfoldable pub owed : Line → ℕ

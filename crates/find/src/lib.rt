@@ -8,6 +8,7 @@ ghost use lib.Dec.{eqb};
 ghost use lib.ListN.{drop, length};
 ghost use Rattle.row.specs.Line.{lineAt, asParameter};
 ghost use Rattle.row.specs.Rows.{rows, restOf};
+ghost use Rattle.tree.specs.Read.{among};
 ghost use Rattle.find.specs.Find.{kindAt, owed, pastRows, lastScope, rowsFound, namesOf, nameAt, textFound, parentAt, lookup};
 
 // A position in the sheet, or none.
@@ -31,6 +32,20 @@ pub fn node(ids: &[u64], ats: &[usize], id: u64) -> Found
         i += 1;
     }
     Found::Nothing
+}
+
+// Whether an id is one of these.
+pub fn among(ids: &[u64], id: u64) -> bool
+    ensures { λ r. ⌜ r ≡ among id (now (ids .entry)) ⌝ }
+{
+    let mut i = 0;
+    while i < ids.len() {
+        if ids[i] == id {
+            return true;
+        }
+        i += 1;
+    }
+    false
 }
 
 // What an N row says of a node: its parent, and where its P rows begin.
@@ -113,21 +128,22 @@ pub fn parameter(s: &[u8], from: usize, index: u64) -> Found
     }
 }
 
-// The kind of the type at a position.
+// The kind of the type at a position; no T row has one above 18.
 pub fn kind(s: &[u8], at: usize) -> u64
     ensures { λ r. ⌜ r ≡ kindAt (rows (drop at (now (s .entry)))) ⌝ }
 {
     let g = row::next(s, at);
     let line = g.line;
-    match line {
-        Line::Typ {
-            kind,
-            a: _,
-            b: _,
-            c: _,
-        } => kind,
-        _ => 0,
-    }
+    let Line::Typ {
+        kind,
+        a: _,
+        b: _,
+        c: _,
+    } = line
+    else {
+        return 0;
+    };
+    if kind < 18 { kind } else { 18 }
 }
 
 // How many types, scopes or bindings follow a row that belong to it.

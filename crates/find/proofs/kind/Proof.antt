@@ -1,16 +1,30 @@
--- `find::kind` meets its contract. Assumes nothing.
 use Rattle.tree.proofs.OtherLines.{not-type}
+use borrow.Author.Tests.{lt-ltb, le-ltb}
 use mathlib.Core.Path.{_≡_, refl, sym, _∙_}
-use borrow.Author.Tests.{eq-eqb, ne-eqb, lt-ltb, le-ltb, le-leb, lt-leb, not-true, not-false}
 use borrow.Author.Needs.{needs}
 use Rattle.find.proofs.kind.Statement.{statement}
 use Rattle.find.proofs.kind.Tie as tie
+use Rattle.find.proofs.kind.Reads as reads
+use Rattle.find.proofs.kind.Lts as lts
+use Rattle.row.proofs.next.Reads as next-reads
+
+next-requires : tie.Need-next-requires
+next-requires c κs = search needs
+
+enum-known-line : tie.Need-enum-known-line
+enum-known-line c = search needs
 
 returns : tie.Need-returns
-returns c = rw (sym (c .before .before .before .next .ensures .0) ∙ (c .before .line .given .1)) refl
+returns c =
+    rw (← (c .before .next .ensures .0), not-type _ _ _ (c .match .keys2)) refl
 
 returns-2 : tie.Need-returns-2
-returns-2 c = rw (← (c .before .next .ensures .0), not-type _ _ _ (c .match .keys2)) refl
+returns-2 c =
+    rw (sym (c .before .before .before .before .next .ensures .0) ∙ (c .before .before .line .given .1), lt-ltb _ _ (c .if1 .taken)) refl
+
+returns-3 : tie.Need-returns-3
+returns-3 c =
+    rw (sym (c .before .before .before .before .next .ensures .0) ∙ (c .before .before .line .given .1), le-ltb _ _ (c .if1 .left)) refl
 
 pub kind-spec : {M : Type 1} → statement M
-kind-spec = tie.close (tie.spec (λ c κs. search needs) (λ c. search needs) returns returns-2)
+kind-spec = tie.close (tie.spec next-requires enum-known-line returns returns-2 returns-3)
