@@ -130,6 +130,11 @@ optionCode isReader fallible offset fragment =
     & Line (ascii "}")
     & lines.none)
 
+-- getter_code
+abbrev pub getterCode : Slot → Bool → Bool → Str → FormattedText
+getterCode s isReader shouldGetOption fragment =
+    cond shouldGetOption (optionCode isReader (isFallible (s .ty)) (s .offset) fragment) (Line fragment)
+
 -- what getter_text returns
 pub record Getter : Type 0 where
   pub resultType : Str
@@ -144,7 +149,7 @@ getterText sheet name s isReader isFn =
     getterFragment (sheet .root) name s isReader isFn innerType then λ fragment.
     ok (record {
       resultType = asFunction isFn result;
-      code = cond shouldGetOption (optionCode isReader (isFallible (s .ty)) (s .offset) fragment) (Line fragment);
+      code = getterCode s isReader shouldGetOption fragment;
       declaration = defaultDeclaration (sheet .root) name s;
     })
 

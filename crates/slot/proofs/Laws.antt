@@ -4,7 +4,7 @@ use mathlib.Core.Bool.{Bool, true, false}
 use mathlib.Core.List.{List, [], _∷_}
 use Prim.Native.Nat.{ℕ, zero, suc}
 use native.Mathlib.Omega.{arith}
-use borrow.Author.Tests.{eqb-true, eqb-false}
+use borrow.Author.Tests.{eqb-true, eqb-false, ltb-true}
 use package.types.Run.{OneOf}
 use denote.Enum.Declared.{tagOf}
 use Rattle.row.proofs.Line.{the-type}
@@ -41,20 +41,20 @@ unfolding typeOf typeFrom
 type-id zero rs = as-type (λ (f : Reader Ty). On (f rs) (λ ty. HasId ty (idAt rs))) (lineAt rs) _ _ (λ k a b c e. tt) tt
 type-id (suc n) rs =
     as-type (λ (f : Reader Ty). On (f rs) (λ ty. HasId ty (idAt rs))) (lineAt rs) _ _
-    (λ k a b c e. rw e (go k a b c (ltb k 14) (eqb k 14) (ltb k 18) (eqb a 0) refl (restOf rs))) tt
+    (λ k a b c e. rw e (go k a b c (ltb k 14) (eqb k 14) (ltb k 18) (eqb a 0) refl refl (restOf rs))) tt
   where
-    go : (k a b c : ℕ) (x y z w : Bool) → eqb a 0 ≡ w → (q : Rows)
+    go : (k a b c : ℕ) (x y z w : Bool) → ltb k 14 ≡ x → eqb a 0 ≡ w → (q : Rows)
         → On (cond x (got (plain k)) (cond y (mapR (λ t. list t) (typeOf n)) (cond z
         (mapR (branded k a) (times (read.scopeOf (typeOf n)) end b)) (got (cond w anyPointer (parameter b c))))) q)
         (λ ty. HasId ty a)
-    go k a b c true y z w e q = tt
-    go k a b c false true z w e q =
+    go k a b c true y z w f e q = ltb-true k 14 f
+    go k a b c false true z w f e q =
         on-map (λ t. list t) (λ ty. HasId ty a) (typeOf n q) (on-all {P = λ t. HasId (list t) a} (λ t. tt) (typeOf n q))
-    go k a b c false false true w e q =
+    go k a b c false false true w f e q =
         on-map (branded k a) (λ ty. HasId ty a) (times (read.scopeOf (typeOf n)) end b q)
         (on-all {P = λ ss. HasId (branded k a ss) a} (branded-id k a) (times (read.scopeOf (typeOf n)) end b q))
-    go k a b c false false false true e q = eqb-true a 0 e
-    go k a b c false false false false e q = eqb-false a 0 e
+    go k a b c false false false true f e q = eqb-true a 0 e
+    go k a b c false false false false f e q = eqb-false a 0 e
 
 -- what holds of a reading holds of what was read
 on-got : {A : Type 0} (P : A → Type 0) (g : Reading A) (a : A) (q : Rows) → On g P → g ≡ got a q → P a

@@ -1,6 +1,6 @@
 -- What a slot by value says of the sheet: it is the slot that is read at its F row. Assumes nothing.
 use mathlib.Core.Path.{_≡_}
-use Prim.Native.Nat.{ℕ}
+use Prim.Native.Nat.{ℕ, _<_}
 use lib.ListN.{drop}
 use Rattle.text.specs.Bytes.{Str}
 use Rattle.row.specs.Rows.{rows}
@@ -27,9 +27,9 @@ slotFieldOf =
 abbrev pub idAt : Rows → ℕ
 idAt rs = asType (lineAt rs) (λ k a b c. a) 0
 
--- T's a by the type: the id of an enum's node; 0 for AnyPointer, but not for a parameter
+-- T's a by the type: the id of an enum's node; 0 for AnyPointer, but not for a parameter. A plain type's kind is below 14
 abbrev pub HasId : Ty → ℕ → Type 0
-HasId (plain k) a = Unit {0}
+HasId (plain k) a = k < 14
 HasId (list t) a = Unit {0}
 HasId (enum i ss) a = i ≡ a
 HasId (struct i ss) a = Unit {0}
