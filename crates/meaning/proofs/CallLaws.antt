@@ -12,8 +12,8 @@ use borrow.Author.Tests.{ne-eqb, ltb-true, ltb-false}
 use Rattle.text.specs.Bytes.{Str, ascii, cond}
 use Rattle.text.specs.Decimal.{decimal, signed}
 use Rattle.text.proofs.DecimalLaws.{decimal-low, decimal-high, signed-low, signed-high}
-use Rattle.record.specs.Calls.{member, getBoolField, getDataField, getEnumField, setBoolField, setDataField, setTag}
-use Rattle.record.specs.Calls.{zeroTag, clearPointer, notNull, tagTest}
+use Rattle.calls.specs.Calls.{member, getBoolField, getDataField, getEnumField, setBoolField, setDataField, setTag}
+use Rattle.calls.specs.Calls.{zeroTag, clearPointer, notNull, tagTest}
 use Rattle.record.specs.Lines.{setLine, getLine, zeroLine}
 use Rattle.record.specs.Masks.{halfOf, getMaskText, setMaskText, maskBits}
 use Rattle.record.specs.Record.{mapO}

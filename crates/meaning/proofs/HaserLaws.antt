@@ -7,7 +7,7 @@ use Prim.Native.Nat.{ℕ}
 use lib.Dec.{eqb}
 use Rattle.text.specs.Bytes.{Str, cond}
 use Rattle.text.specs.Lines.{spaces}
-use Rattle.record.specs.Calls.{notNull, tagTest}
+use Rattle.calls.specs.Calls.{notNull, tagTest}
 use Rattle.record.specs.Lines.{Tag, haserText}
 use Rattle.record.specs.Record.{Record, get, null}
 use Rattle.record.specs.Types.{tagPlace}

@@ -12,8 +12,8 @@ use Rattle.text.specs.Decimal.{decimal, signed}
 use Rattle.text.specs.Lines.{FormattedText, toLines, stringify, spaces, ended}
 use Rattle.text.proofs.LinesLaws.{stringify-lines}
 use Rattle.text.proofs.DecimalLaws.{decimal-low, decimal-high, signed-low, signed-high}
-use Rattle.record.specs.Calls.{getBoolField, getDataField, setBoolField, setDataField, setTag, clearPointer}
-use Rattle.record.specs.Calls.{notNull, tagTest}
+use Rattle.calls.specs.Calls.{getBoolField, getDataField, setBoolField, setDataField, setTag, clearPointer}
+use Rattle.calls.specs.Calls.{notNull, tagTest}
 use Rattle.record.specs.Lines.{Zero, ofSlot, ofTag, ofPointer, getLine, setLine, zeroText}
 use Rattle.record.specs.Masks.{halfOf, getMaskText, setMaskText, maskBits}
 use Rattle.record.specs.Record.{Record, mapO}

@@ -8,7 +8,7 @@ use mathlib.Core.List.{List, [], _∷_, _++_}
 use Prim.Native.Nat.{ℕ}
 use Rattle.text.specs.Bytes.{Str, ascii}
 use Rattle.text.specs.Lines.{FormattedTexts, Indent, Branch, Line, none as noMore, _&_, toLines, flatMap, stringify, spaces}
-use Rattle.record.specs.Calls.{setTag}
+use Rattle.calls.specs.Calls.{setTag}
 use Rattle.record.specs.Lines.{Tag, getLine, setLine, tagThen, functionText, getterText}
 use Rattle.record.specs.Masks.{getMaskText, setMaskText, maskBits}
 use Rattle.record.specs.Record.{Record, mapO, get, Holds, Same}

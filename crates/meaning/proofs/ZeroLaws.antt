@@ -14,7 +14,7 @@ use lib.Pow.{pow-pos}
 use Rattle.text.specs.Bytes.{Str}
 use Rattle.text.specs.Lines.{FormattedText, toLines, stringify}
 use Rattle.text.proofs.LinesLaws.{stringify-none}
-use Rattle.record.specs.Calls.{clearPointer}
+use Rattle.calls.specs.Calls.{clearPointer}
 use Rattle.record.specs.Lines.{Zero, ofSlot, ofTag, ofPointer, zeroLine, zeroText, zeroTexts}
 use Rattle.record.specs.Masks.{maskBits}
 use Rattle.record.specs.Offsets.{Place, from, size}

@@ -11,7 +11,7 @@ use lib.Dec.{eqb}
 use lib.ListN.{length, getD}
 use Rattle.text.specs.Bytes.{Str, cond}
 use Rattle.text.specs.Lines.{FormattedText, toLines, stringify}
-use Rattle.record.specs.Calls.{clearPointer}
+use Rattle.calls.specs.Calls.{clearPointer}
 use Rattle.record.specs.Lines.{Tag, getLine, setterText, voidSetterText, getterText, haserText, Zero, ofSlot, ofTag, ofPointer}
 use Rattle.record.specs.Lines.{zeroLine, zeroTexts}
 use Rattle.record.specs.Masks.{getMask, setMask, getMaskText, setMaskText, maskBits}

@@ -12,7 +12,7 @@ use Rattle.text.specs.Bytes.{Str, ascii, both, same}
 use Rattle.text.specs.Decimal.{decimal, signed}
 use Rattle.text.specs.Lines.{FormattedTexts, Branch, Line, none as noMore, _&_, toLines, flatMap, join, stringify}
 use Rattle.record.specs.Bits.{sectionBits}
-use Rattle.record.specs.Calls.{getBoolField, getDataField, setBoolField, setDataField, clearPointer, notNull, tagTest}
+use Rattle.calls.specs.Calls.{getBoolField, getDataField, setBoolField, setDataField, clearPointer, notNull, tagTest}
 use Rattle.record.specs.Lines.{getLine, setLine, functionText, getterText, haserText, Zero, ofSlot, ofTag, ofPointer}
 use Rattle.record.specs.Lines.{zeroText}
 use Rattle.record.specs.Masks.{getMask, setMask, getMaskText, setMaskText}

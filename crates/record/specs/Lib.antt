@@ -4,5 +4,4 @@ pub mod Record
 pub mod Answers
 pub mod Types
 pub mod Masks
-pub mod Calls
 pub mod Lines

@@ -7,8 +7,8 @@ use Prim.Native.Nat.{ℕ}
 use Rattle.text.specs.Bytes.{Str, ascii, unit}
 use Rattle.text.specs.Lines.{FormattedTexts, Indent, Branch, Line, none as noMore, _&_, stringify}
 use Rattle.record.specs.Types.{nameOf, Kind, bool, num, enum}
-use Rattle.record.specs.Calls.{getBoolField, getDataField, getEnumField, setBoolField, setDataField, setTag, zeroBool}
-use Rattle.record.specs.Calls.{zeroData, zeroTag, clearPointer, notNull, tagTest}
+use Rattle.calls.specs.Calls.{getBoolField, getDataField, getEnumField, setBoolField, setDataField, setTag, zeroBool}
+use Rattle.calls.specs.Calls.{zeroData, zeroTag, clearPointer, notNull, tagTest}
 
 -- ---- lines of a slot, from its kind, its offset and the mask as it is written
 

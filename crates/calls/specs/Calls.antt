@@ -1,8 +1,8 @@
--- The calls on a record's sections as codegen.rs writes them, in its names: what the accessors are proved to write and what the
--- meaning of texts runs. A mask is its text, or none where the call is plain. Assumes nothing.
+-- The calls on a record's sections as codegen.rs writes them, in its names: what the accessors are proved to write, and what the
+-- meaning of texts runs on a record. A mask is its text, or none where the call is plain. Assumes nothing.
 use mathlib.Core.Bool.{Bool, true, false}
 use mathlib.Core.Option.{Option, none, some}
-use mathlib.Core.List.{_++_}
+use mathlib.Core.List.{List, _++_}
 use Prim.Native.Nat.{ℕ}
 use Rattle.text.specs.Bytes.{Str, ascii}
 use Rattle.text.specs.Decimal.{decimal}
@@ -23,8 +23,8 @@ unfoldable pub getDataField : Bool → Str → ℕ → Option Str → Str
 getDataField isReader typ offset none =
     ascii "self." ++ member isReader ++ ascii ".get_data_field::<" ++ typ ++ ascii ">(" ++ decimal offset ++ ascii ")"
 getDataField isReader typ offset (some mask) =
-    ascii "self." ++ member isReader ++ ascii ".get_data_field_mask::<" ++ typ ++ ascii ">(" ++ decimal offset ++ ascii ", "
-    ++ mask ++ ascii ")"
+    ascii "self." ++ member isReader ++ ascii ".get_data_field_mask::<" ++ typ ++ ascii ">(" ++ decimal offset
+    ++ ascii ", " ++ mask ++ ascii ")"
 
 -- the get of an enum: its number, turned into the enum
 abbrev pub getEnumField : Bool → ℕ → Option Str → Str
@@ -42,8 +42,8 @@ unfoldable pub setDataField : Str → ℕ → Str → Option Str → Str
 setDataField typ offset value none =
     ascii "self.builder.set_data_field::<" ++ typ ++ ascii ">(" ++ decimal offset ++ ascii ", " ++ value ++ ascii ");"
 setDataField typ offset value (some mask) =
-    ascii "self.builder.set_data_field_mask::<" ++ typ ++ ascii ">(" ++ decimal offset ++ ascii ", " ++ value ++ ascii ", "
-    ++ mask ++ ascii ");"
+    ascii "self.builder.set_data_field_mask::<" ++ typ ++ ascii ">(" ++ decimal offset ++ ascii ", " ++ value
+    ++ ascii ", " ++ mask ++ ascii ");"
 
 -- a setter's line that writes the union's tag
 abbrev pub setTag : ℕ → ℕ → Str
@@ -70,6 +70,5 @@ notNull false offset = ascii "!self.builder.is_pointer_field_null(" ++ decimal o
 
 unfoldable pub tagTest : Bool → ℕ → ℕ → Str
 tagTest isReader offset discriminant =
-    ascii "if self." ++ member isReader ++ ascii ".get_data_field::<u16>(" ++ decimal offset ++ ascii ") != "
-    ++ decimal discriminant
-    ++ ascii " { return false; }"
+    ascii "if self." ++ member isReader ++ ascii ".get_data_field::<u16>(" ++ decimal offset
+    ++ ascii ") != " ++ decimal discriminant ++ ascii " { return false; }"
