@@ -20,15 +20,12 @@ use Rattle.tree.specs.Walked.{passed}
 use Rattle.tree.specs.Index.{On}
 use Rattle.tree.specs.declared.Walk.{Walk}
 use Rattle.tree.specs.declared.Walk.the-variants.{Next, Refused}
-use Rattle.tree.proofs.OtherLines.{not-root}
+use Rattle.tree.proofs.OtherLines.{never, not-root}
 use Rattle.sheet.specs.Admission.{verdict, IndexFor, IndexOf, NodesRead}
 use Rattle.sheet.specs.declared.Answer.{Answer}
 use Rattle.sheet.specs.declared.Index.{Index}
 use Rattle.row.specs.declared.Line.the-variants as line
 use Rattle.sheet.specs.declared.Answer.the-variants as answer
-
-never : {A : Type 0} → _≡_ {A = ℕ} 0 1 → A
-never e = let z : ⊥ = omega arith in absurd z
 
 -- an answer with its index, of what is admitted
 abbrev Says : Str → Admitted → Answer → Index → Type 0

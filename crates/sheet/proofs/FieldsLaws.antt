@@ -8,7 +8,7 @@ use native.Mathlib.Numerals.{add-one}
 use borrow.Author.Tests.{eq-eqb, ne-eqb}
 use lib.ListN.{length, getD, take, drop, set, drop-of-length-le}
 use lib.Seq.{drop-cons, getD-take, length-take-le, take-suc-set}
-use types.Run.{OneOf, miss}
+use types.Run.{OneOf}
 use denote.Enum.Declared.{tagOf}
 use Rattle.text.specs.Bytes.{unit}
 use Rattle.row.proofs.Line.{the-type}
@@ -19,7 +19,7 @@ use Rattle.tree.specs.Tree.{Slot, Field, slot, group}
 use Rattle.tree.specs.Reader.{Rows, Reading, got, no, Reader, _then_}
 use Rattle.tree.specs.Read.{among, overlap, slotOf, field, fieldOf, isField, groupId, groupIds, fieldsOf, paramsOf}
 use Rattle.tree.specs.Walked.{passed}
-use Rattle.tree.proofs.OtherLines.{not-parameter}
+use Rattle.tree.proofs.OtherLines.{never, not-a-field, not-parameter}
 use Rattle.tree.proofs.WalkLaws.{passed-map}
 use Rattle.tree.proofs.TailLaws.{Tail, tail-rest, tail-length, tail-size, leaves-passed, leaves-slot}
 use Rattle.tree.proofs.FieldLaws.{fields-here}
@@ -54,9 +54,6 @@ module _ (ids : List ℕ) (count id : ℕ) (fits : count ≤ length ids) where
 pub pushed : (l : List ℕ) (n i : ℕ) → n < length l → take (n + 1) (set l n i) ≡ take n l ++ unit i
 pushed l n i h = rw add-one (take-suc-set l n i h)
 
-never : {A : Type 0} → _≡_ {A = ℕ} 0 1 → A
-never e = let z : ⊥ = omega arith in absurd z
-
 -- a field that is read, and the groups after it
 groups-on :
     (seen : List ℕ) (rs ts : Rows) (f : Field) → isField (lineAt rs) ≡ true → fieldOf rs ≡ got f ts
@@ -77,20 +74,6 @@ groups-no :
     (seen : List ℕ) (rs ts : Rows) (k : ℕ) → isField (lineAt rs) ≡ true → fieldOf rs ≡ no k ts → groupsAfter seen rs ≡ no k ts
 groups-no seen rs ts k i e =
     ap (λ (g : Reading (List Field)). g then λ fs. got (seen ++ groupIds fs)) (fields-here seen rs) ∙ rw (i, e)
-
--- a line that is neither F nor G
-not-a-field : (l : Line) → OneOf (0 ∷ 1 ∷ 2 ∷ 5 ∷ 6 ∷ 7 ∷ 8 ∷ 9 ∷ 10 ∷ []) (tagOf the-type l) → isField l ≡ false
-not-a-field line.Root h = refl
-not-a-field (line.Node a b c d e f g) h = refl
-not-a-field line.Parameter h = refl
-not-a-field (line.Field a b c d) h = absurd (miss (0 ∷ 1 ∷ 2 ∷ 5 ∷ 6 ∷ 7 ∷ 8 ∷ 9 ∷ 10 ∷ []) 3 tt h)
-not-a-field (line.Group a b) h = absurd (miss (0 ∷ 1 ∷ 2 ∷ 5 ∷ 6 ∷ 7 ∷ 8 ∷ 9 ∷ 10 ∷ []) 4 tt h)
-not-a-field (line.Typ a b c d) h = refl
-not-a-field (line.Scope a b c) h = refl
-not-a-field line.Unbound h = refl
-not-a-field (line.Value a b) h = refl
-not-a-field (line.Word a) h = refl
-not-a-field line.Bad h = refl
 
 -- where there is a line of a letter, there is a row
 shorter : (rs : Rows) → (lineAt rs ≡ line.Bad → _≡_ {A = ℕ} 0 1) → length (restOf rs) < length rs

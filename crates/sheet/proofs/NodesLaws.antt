@@ -21,16 +21,13 @@ use Rattle.tree.specs.Walked.{passed, walked}
 use Rattle.tree.specs.Index.{On, Has, Indexed, nodeHere}
 use Rattle.tree.specs.declared.Walk.{Walk}
 use Rattle.tree.specs.declared.Walk.the-variants.{Next, Refused}
-use Rattle.tree.proofs.OtherLines.{not-node}
+use Rattle.tree.proofs.OtherLines.{never, not-node}
 use Rattle.tree.proofs.WalkLaws.{passed-map}
 use Rattle.tree.proofs.TailLaws.{here, later, Leaves, left, tail-rest, tail-size, leaves-passed, leaves-on, leaves-map}
 use Rattle.tree.proofs.NodeLaws.{Kept, kept-node}
 use Rattle.sheet.specs.Admission.{told, groupsAfter, seenAfter, nodeAfter, IndexFor, NodesRead}
 use Rattle.sheet.specs.declared.Index.{Index}
 use Rattle.row.specs.declared.Line.the-variants as line
-
-never : {A : Type 0} → _≡_ {A = ℕ} 0 1 → A
-never e = let z : ⊥ = omega arith in absurd z
 
 abbrev paired : ℕ → List ℕ → ℕ × List ℕ
 paired i x = (i, x)

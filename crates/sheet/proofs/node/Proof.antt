@@ -35,7 +35,15 @@ fields-requires c κs = (
 
 returns-3 : tie.Need-returns-3
 returns-3 c =
-    (node-fields _ _ _ (c .before .before .before .before .before .before .before .before .before .before .next .ensures .0) (c .before .before .before .before .before .before .before .before .before .before .next .ensures .1) _ _ _ _ _ _ _ _ _ (c .before .before .before .before .before .before .before .before .l .given .1) _ (c .before .before .before .before .before .before .seen .ensures) (c .before .before .before .before .before .before .before .before .before .before .before .before .before .before .args .s .now) (c .before .before .fields .result .walk) (take (c .before .before .fields .result .count) (c .before .before .fields .last .1 .1 .0)) _ (c .before .before .before .before .before .if1 .left) (c .before .before .before .before .params .ensures) (c .before .before .fields .ensures .0), (c .before .before .fields .ensures .1))
+    let f = c .before .before in
+    let b = f .before .before .before in
+    let n = b .before .before .before .before .before in (
+      node-fields _ _ _ (n .next .ensures .0) (n .next .ensures .1) _ _ _ _ _ _ _ _ _ (b .before .before .before .l .given .1) _
+          (b .before .seen .ensures) (n .before .before .before .before .args .s .now) (f .fields .result .walk)
+          (take (f .fields .result .count) (f .fields .last .1 .1 .0)) _ (b .if1 .left) (f .before .before .params .ensures)
+          (f .fields .ensures .0),
+      f .fields .ensures .1,
+    )
 
 pub node-spec : {M : Type 1} → statement M
 node-spec =

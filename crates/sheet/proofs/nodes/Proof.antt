@@ -1,4 +1,5 @@
--- `sheet::nodes` meets its contract: `Held` says what is known at each turn, and IndexLaws what a turn makes of it. Assumes nothing.
+-- `sheet::nodes` meets its contract: `Held` says what is known at each turn, and IndexLaws what a turn makes of it.
+-- Assumes nothing.
 use mathlib.Core.Path.{refl, sym}
 use Prim.Native.Nat.{_-_}
 use native.Mathlib.Omega.{arith}
