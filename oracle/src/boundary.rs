@@ -55,14 +55,15 @@ pub mod admit {
 
     #[link(name = "exports", kind = "static")]
     extern "C" {
-        /// 0 for an admitted sheet, else the refusal's number times 2 to the 32 and its line.
-        fn kitlubas_admit(sheet: *const u8, len: usize) -> u64;
+        /// 0 for an admitted sheet, else the refusal's number; `line` becomes its line.
+        fn kitlubas_admit(sheet: *const u8, len: usize, line: *mut usize) -> u64;
     }
 
     pub fn admit(sheet: &[u8]) -> Result<(), Refusal> {
-        match unsafe { kitlubas_admit(sheet.as_ptr(), sheet.len()) } {
+        let mut line = usize::MAX;
+        match unsafe { kitlubas_admit(sheet.as_ptr(), sheet.len(), &mut line) } {
             0 => Ok(()),
-            code => Err(Refusal { number: code >> 32, line: code & 0xffff_ffff }),
+            number => Err(Refusal { number, line: line as u64 }),
         }
     }
 }
@@ -74,7 +75,7 @@ pub mod answer {
 
     #[link(name = "exports", kind = "static")]
     extern "C" {
-        /// 0 where the text was written and `fill` moved past it, else the refusal's number times 2 to the 32 and its line.
+        /// 0 where the text was written and `fill` moved past it, else the refusal's number; `line` becomes its line.
         fn kitlubas_answer(
             sheet: *const u8,
             sheet_len: usize,
@@ -83,6 +84,7 @@ pub mod answer {
             request: u64,
             leaf: u64,
             fill: *mut usize,
+            line: *mut usize,
             buf: *mut u8,
             len: usize,
         ) -> u64;
@@ -115,11 +117,14 @@ pub mod answer {
         let leaf = if let Request::Type { leaf } = request { leaf } else { 0 };
         let (sheet_at, sheet_len) = (sheet.as_ptr(), sheet.len());
         let (buf_at, len) = (buf.as_mut_ptr(), buf.len());
-        let code =
-            unsafe { kitlubas_answer(sheet_at, sheet_len, node, place, number(request), leaf, fill, buf_at, len) };
-        match code {
+        let request = number(request);
+        let mut line = usize::MAX;
+        let number = unsafe {
+            kitlubas_answer(sheet_at, sheet_len, node, place, request, leaf, fill, &mut line, buf_at, len)
+        };
+        match number {
             0 => Ok(()),
-            code => Err(Refusal { number: code >> 32, line: code & 0xffff_ffff }),
+            number => Err(Refusal { number, line: line as u64 }),
         }
     }
 }

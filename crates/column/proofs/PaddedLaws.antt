@@ -2,7 +2,7 @@
 -- By the last digit one way and by the first the other. Assumes nothing.
 use mathlib.Core.Path.{_≡_, refl, sym, ap, _∙_}
 use mathlib.Core.Bool.{Bool, true, false}
-use mathlib.Core.List.{List, [], _∷_, _++_, append-assoc, append-nil}
+use mathlib.Core.List.{[], _∷_, _++_, append-assoc, append-nil}
 use Prim.Native.Nat.{ℕ, zero, suc, _+_, _-_, _*_, _/_, _%_, _^_, _≤_, _<_}
 use native.Mathlib.Nat.{add-zero, pow-suc, div-lt-iff-lt-mul}
 use native.Mathlib.Decide.{decLt}
@@ -16,7 +16,7 @@ use borrow.Author.Tests.{eq-eqb, ne-eqb, lt-ltb, le-ltb, ltb-true, ltb-false, eq
 use Rattle.text.specs.Bytes.{Str, cond, unit}
 use Rattle.text.specs.Decimal.{decimal}
 use Rattle.text.proofs.DecimalLaws.{decimal-low, decimal-high}
-use Rattle.column.specs.Number.{trimmed, digits, digit, lone, unpadded, number, within, columnOf, padded}
+use Rattle.column.specs.Number.{trimmed, digits, lone, unpadded, number, within, columnOf, padded}
 use Rattle.column.specs.Texts.{endsIn}
 use Rattle.column.specs.declared.Number.{Number}
 use Rattle.column.specs.declared.Number.the-variants.{Is, Not}

@@ -1,4 +1,4 @@
--- What the exported functions answer: the fill count after a text, or that nothing was taken. Assumes nothing.
+-- What the exported functions answer: the fill count after a text, or that nothing was taken; and what a sheet is. Assumes nothing.
 use mathlib.Core.Path.{_≡_}
 use mathlib.Core.Bool.{Bool, true}
 use Prim.Native.Nat.{ℕ, _-_, _%_, _^_}
@@ -7,6 +7,7 @@ use Rattle.text.specs.Bytes.{Str, cond, either}
 use Rattle.text.specs.Decimal.{signed}
 use Rattle.text.specs.Text.{adv, put, textAt}
 use Rattle.names.specs.Names.{taken}
+use Rattle.tree.specs.Read.{Admitted, sheet, refused}
 
 -- where it is taken, the text s is written at a fill count into l, which leaves l′ and the fill count r; else nothing is
 -- written, and the answer is the largest count
@@ -29,3 +30,16 @@ isWidth w = either (eqb w 8) (either (eqb w 16) (either (eqb w 32) (eqb w 64)))
 -- the number whose bits in two's complement are the lowest w of n, where there is such a width
 abbrev pub Signed : Str → ℕ → ℕ → ℕ → Str → ℕ → Type 0
 Signed l at w n = FilledIf (isWidth w) l at (signed (2 ^ (w - 1)) (n % 2 ^ w))
+
+-- document 01's number and line for what is admitted of a sheet: 0 where it has a tree
+abbrev pub numberOf : Admitted → ℕ
+numberOf (sheet sh) = 0
+numberOf (refused k l) = k
+
+abbrev pub lineOf : Admitted → ℕ
+lineOf (sheet sh) = 0
+lineOf (refused k l) = l
+
+pub record Told (a : Admitted) (number line : ℕ) : Type 0 where
+  pub number-is : number ≡ numberOf a
+  pub line-is : line ≡ lineOf a

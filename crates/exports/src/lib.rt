@@ -8,14 +8,17 @@
 //     size_t kitlubas_snake(size_t at, uint8_t *buf, size_t buf_len, const uint8_t *name, size_t name_len);
 //     size_t kitlubas_default_name(size_t at, uint8_t *buf, size_t buf_len, const uint8_t *name, size_t name_len);
 //     size_t kitlubas_module_name(size_t at, uint8_t *buf, size_t buf_len, const uint8_t *name, size_t name_len);
+//     uint64_t kitlubas_admit(const uint8_t *s, size_t s_len, size_t *line);
 //
-// Each writes its text at the fill count `at` and answers the new one. Bytes past the end of the buffer are counted and not
-// written. What is not taken writes nothing and answers 18446744073709551615.
+// The writers put their text at the fill count `at` and answer the new one. Bytes past the end of the buffer are counted and
+// not written. What is not taken writes nothing and answers 18446744073709551615.
+use sheet::Answer;
 use text::Text;
+ghost use Rattle.tree.specs.Read.{admitted};
 ghost use Rattle.names.specs.Names.{camelToSnakeCase, defaultName, moduleName};
 ghost use Rattle.text.specs.Decimal.{decimal};
 ghost use Rattle.text.specs.Lines.{Line, BlankLine, Branch, none, toLines, stringify, ended};
-ghost use Rattle.exports.specs.Boundary.{Filled, Named, Signed};
+ghost use Rattle.exports.specs.Boundary.{Filled, Named, Signed, Told};
 
 #[no_mangle]
 pub extern "C" fn kitlubas_number(at: usize, buf: &mut [u8], n: u64) -> usize
@@ -95,4 +98,23 @@ pub extern "C" fn kitlubas_module_name(at: usize, buf: &mut [u8], name: &[u8]) -
     }
     let t = names::module_name(Text::at(at), buf, name);
     t.fill()
+}
+
+// The number of the sheet's refusal, 0 for a sheet that is admitted; `line` becomes the refusal's line, or 0.
+#[no_mangle]
+pub extern "C" fn kitlubas_admit(s: &[u8], line: &mut usize) -> u64
+    ensures { λ r. ⌜ Told (admitted (now (s .entry))) r (now (line .exit)) ⌝ }
+{
+    let admission = sheet::admit(s);
+    let answer = admission.answer;
+    match answer {
+        Answer::Sheet => {
+            *line = 0;
+            0
+        }
+        Answer::Refused { number, line: at } => {
+            *line = at;
+            number
+        }
+    }
 }

@@ -17,7 +17,7 @@ use Rattle.text.proofs.BytesLaws.{both-false}
 use Rattle.text.proofs.Places.{put-placed, adv-fits}
 use Rattle.names.specs.Keywords.{isKeyword}
 use Rattle.names.specs.Names.{isUppercase, toAsciiLowercase, isAscii, taken, snakeChar, snakeFrom}
-use Rattle.names.specs.Names.{camelToSnakeCase, moduleName, held, nameOf}
+use Rattle.names.specs.Names.{camelToSnakeCase, moduleName, held, Snaked, nameOf}
 use Rattle.names.specs.declared.Snake.{Snake}
 
 -- a turn of the loop: the first char, a char that is no capital, and a capital
@@ -93,6 +93,10 @@ held-taken name l t e w =
 pub held-other : (name : Str) → taken name ≡ false → snake (replicate 128 0) 0 ≡ held (camelToSnakeCase name)
 unfolding held camelToSnakeCase
 held-other name e = rw e
+
+pub snaked : (name : Str) (n : Snake) → n ≡ held (camelToSnakeCase name) → Snaked name n
+unfolding held
+snaked name n e = record { whole = e; short = rw e (snake-length name) }
 
 -- and is found again
 pub name-of : (n : Snake) (s : Str) → n ≡ held s → nameOf n ≡ s

@@ -1,8 +1,9 @@
 -- Names in generated code: `camel_to_snake_case` and `module_name` of codegen.rs, and the name of a default's constant. Assumes
 -- nothing.
+use mathlib.Core.Path.{_≡_}
 use mathlib.Core.Bool.{Bool, true, false, not}
 use mathlib.Core.List.{[], _∷_, _++_, map}
-use Prim.Native.Nat.{ℕ, _+_, _-_}
+use Prim.Native.Nat.{ℕ, _+_, _-_, _≤_}
 use lib.Dec.{leb, ltb}
 use lib.ListN.{length, take, replicate}
 use Rattle.text.specs.Bytes.{Str, ascii, unit, cond, both}
@@ -62,3 +63,8 @@ held s = record { bytes = s ++ replicate (128 - length s) 0; len = length s }
 -- the name that a struct holds
 abbrev pub nameOf : Snake → Str
 nameOf n = take (n .len) (n .bytes)
+
+-- what `camel_to_snake_case` makes of a name: its snake name, held whole, in at most 127 bytes
+pub record Snaked (name : Str) (n : Snake) : Type 0 where
+  pub whole : n ≡ held (camelToSnakeCase name)
+  pub short : n .len ≤ 127

@@ -10,7 +10,7 @@ ghost use Prim.Native.Nat.{min};
 ghost use Rattle.text.specs.Text.{Wrote};
 ghost use Rattle.names.specs.Keywords.{isKeyword};
 ghost use Rattle.names.specs.Names.{isUppercase, toAsciiLowercase, toAsciiUppercase, taken, snakeChar, snakeFrom};
-ghost use Rattle.names.specs.Names.{camelToSnakeCase, defaultName, moduleName, held, nameOf};
+ghost use Rattle.names.specs.Names.{camelToSnakeCase, defaultName, moduleName, Snaked, nameOf};
 
 // A snake name, held whole: its bytes, then zeros.
 pub struct Snake {
@@ -18,6 +18,7 @@ pub struct Snake {
     len: usize,
 }
 
+// Rust's tests and changes of a char, for ASCII.
 fn is_uppercase(c: u8) -> bool
     ensures { λ r. ⌜ r ≡ isUppercase c ⌝ }
 {
@@ -76,6 +77,7 @@ fn snake_char(t: Text, buf: &mut [u8], first: bool, c: u8) -> Text
     t.byte(buf, to_ascii_lowercase(c))
 }
 
+// All chars of a name.
 fn snake_chars(t: Text, buf: &mut [u8], name: &[u8]) -> Text
     ensures { λ r. ⌜ Wrote (now (buf .entry)) t (snakeFrom true (now (name .entry))) (now (buf .exit)) r ⌝ }
 {
@@ -90,7 +92,7 @@ fn snake_chars(t: Text, buf: &mut [u8], name: &[u8]) -> Text
 
 // The snake name of a name; the empty one for a name that is not taken.
 pub fn camel_to_snake_case(name: &[u8]) -> Snake
-    ensures { λ r. ⌜ r ≡ held (camelToSnakeCase (now (name .entry))) ⌝ }
+    ensures { λ r. ⌜ Snaked (now (name .entry)) r ⌝ }
 {
     let mut bytes = [0u8; 128];
     if !takes(name) {
@@ -112,6 +114,7 @@ impl Snake {
         if len < 128 { len } else { 128 }
     }
 
+    // the name
     pub fn write(self, t: Text, buf: &mut [u8]) -> Text
         ensures { λ r. ⌜ Wrote (now (buf .entry)) t (nameOf self) (now (buf .exit)) r ⌝ }
     {
@@ -120,6 +123,7 @@ impl Snake {
         t.bytes(buf, &bytes[..len])
     }
 
+    // the name in capitals
     pub fn write_capitals(self, t: Text, buf: &mut [u8]) -> Text
         ensures { λ r. ⌜ Wrote (now (buf .entry)) t (map toAsciiUppercase (nameOf self)) (now (buf .exit)) r ⌝ }
     {
@@ -128,6 +132,7 @@ impl Snake {
         capitals(t, buf, &bytes[..len])
     }
 
+    // whether the name is one of `RUST_KEYWORDS`
     pub fn is_keyword(self) -> bool
         ensures { λ r. ⌜ r ≡ isKeyword (nameOf self) ⌝ }
     {
@@ -137,6 +142,7 @@ impl Snake {
     }
 }
 
+// A text in capitals.
 fn capitals(t: Text, buf: &mut [u8], s: &[u8]) -> Text
     ensures { λ r. ⌜ Wrote (now (buf .entry)) t (map toAsciiUppercase (now (s .entry))) (now (buf .exit)) r ⌝ }
 {
@@ -149,6 +155,7 @@ fn capitals(t: Text, buf: &mut [u8], s: &[u8]) -> Text
     t
 }
 
+// A name in snake case.
 pub fn snake_name(t: Text, buf: &mut [u8], name: &[u8]) -> Text
     ensures { λ r. ⌜ Wrote (now (buf .entry)) t (camelToSnakeCase (now (name .entry))) (now (buf .exit)) r ⌝ }
 {

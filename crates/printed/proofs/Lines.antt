@@ -1,17 +1,15 @@
 -- What is told of a reading by the first row: for each letter, a row that says such a line is that line printed, in its bounds.
 -- Assumes nothing.
 use mathlib.Core.Path.{_≡_, refl, sym, ap, subst}
-use mathlib.Core.Bool.{true, false}
 use mathlib.Core.List.{[], _∷_}
 use Prim.Native.Nat.{ℕ}
-use lib.Dec.{T}
 use Rattle.text.specs.Bytes.{Str}
 use Rattle.row.specs.Rows.{restOf}
 use Rattle.row.specs.Line.{lineAt, textAt, cases}
 use Rattle.row.specs.Print.{printLine, Fits}
 use Rattle.row.specs.declared.Line.{Line}
 use Rattle.row.specs.declared.Line.the-variants.{Root, Node, Parameter, Field, Group, Typ, Scope, Unbound, Value, Word, Bad}
-use Rattle.row.proofs.ReadLaws.{printed-line}
+use Rattle.row.proofs.ReadLaws.{Good, printed-line}
 use Rattle.tree.specs.Reader.{Rows, Reader, onRoot, onNode, onParameter, onField, onGroup}
 use Rattle.tree.specs.Reader.{onType, onScope, onUnbound, onValue, onWord}
 use Rattle.printed.proofs.Reading.{Tells}
@@ -21,17 +19,12 @@ pub record Says (rs : Rows) (l : Line) : Type 0 where
   pub row : rs ≡ printLine l (textAt rs) ∷ restOf rs
   pub fits : Fits l (textAt rs)
 
--- every line but a bad one
-abbrev Good : Line → Type 0
-Good l =
-    T (cases true (λ _ _ _ _ _ _ _. true) true (λ _ _ _ _. true) (λ _ _. true) (λ _ _ _ _. true) (λ _ _ _. true) true
-    (λ _ _. true) (λ _. true) false l)
-
+-- a row that says a line
 says : (rs : Rows) (l : Line) → Good l → lineAt rs ≡ l → Says rs l
 unfolding lineAt textAt restOf
 says [] l g e = absurd (subst Good (sym e) g)
 says (r ∷ rs) l g e =
-    let p = printed-line r l e (λ z. subst Good z g) in
+    let p = printed-line r l g e in
     record { row = ap (λ (r : Str). r ∷ rs) (p .whole); fits = p .fits }
 
 -- by what the first row says

@@ -10,11 +10,8 @@
 //
 // Each answer ends with byte 10.
 use libc::STDIN_FILENO;
-use libc::STDOUT_FILENO;
 use text::Text;
-ghost use Prim.Native.Nat.{_≤_, _<_};
-ghost use lib.ListN.{length};
-ghost use Rattle.io.specs.Counts.{Counts};
+ghost use Prim.Native.Nat.{_<_};
 
 // What a hex digit counts; 0 for any other byte.
 fn hex_digit(b: u8) -> u64
@@ -65,18 +62,9 @@ fn answer(t: Text, buf: &mut [u8], letter: u8, about: &[u8]) -> Text {
     }
 }
 
-// The fill count, or the buffer's length where an answer did not fit.
-fn filled(t: Text, buf: &[u8]) -> usize
-    ensures { λ r. ⌜ Counts r (now (buf .entry)) ⌝ }
-{
-    let fill = t.fill();
-    if fill < buf.len() { fill } else { buf.len() }
-}
-
 fn print_answer(buf: &mut [u8], letter: u8, about: &[u8]) {
     let t = answer(Text::at(0), buf, letter, about);
-    let n = filled(t, buf);
-    io::write_all(STDOUT_FILENO, &buf[..n]);
+    programs::print(t, buf);
 }
 
 fn print_case(buf: &mut [u8], case: &[u8]) {
@@ -90,25 +78,10 @@ fn print_case(buf: &mut [u8], case: &[u8]) {
     print_answer(buf, case[0], &case[2..]);
 }
 
-// The first byte 10 from a place on, or the end.
-fn line_end(s: &[u8], from: usize) -> usize
-    requires { ⌜ from ≤ length (now s) ⌝ }
-    ensures { λ r. ⌜ (from ≤ r) × (r ≤ length (now (s .entry))) ⌝ }
-{
-    let mut at = from;
-    while at < s.len() {
-        if s[at] == b'\n' {
-            return at;
-        }
-        at += 1;
-    }
-    at
-}
-
 fn replay(buf: &mut [u8], cases: &[u8]) {
     let mut at = 0;
     while at < cases.len() {
-        let end = line_end(cases, at);
+        let end = programs::line_end(cases, at);
         print_case(buf, &cases[at..end]);
         at = end + 1;
     }

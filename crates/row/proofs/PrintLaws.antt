@@ -8,14 +8,14 @@ use native.Mathlib.Numerals.{add-one}
 use native.Mathlib.Omega.{arith}
 use lib.Dec.{eqb, ltb, leb}
 use borrow.Author.Tests.{ne-eqb, leb-true, ltb-true, ltb-false}
-use lib.ListN.{length, getD, take, drop, replicate, length-append, List·getD-map}
+use lib.ListN.{length, getD, drop, replicate, length-append, List·getD-map}
 use lib.Seq.{drop-cons, drop-length, drop-drop, drop-append-seam, take-append-seam, getD-append-seam}
 use Rattle.text.specs.Bytes.{Str, cond, both, unit}
 use Rattle.text.specs.Decimal.{decimal}
 use Rattle.text.proofs.DecimalLaws.{decimal-low, decimal-high}
 use Rattle.column.specs.Number.{most, padded, columnOf}
 use Rattle.column.specs.Texts.{endsIn, isWord, isGraphic, all, isName, isGraphicText}
-use Rattle.column.specs.declared.Number.the-variants.{Is, Not}
+use Rattle.column.specs.declared.Number.the-variants.{Is}
 use Rattle.column.proofs.Laws.{name-all, graphic-all}
 use Rattle.column.proofs.PaddedLaws.{padded-length, column-printed, ends-printed}
 use Rattle.row.specs.Rows.{newlines, rows}

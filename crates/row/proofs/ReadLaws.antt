@@ -3,7 +3,7 @@
 use mathlib.Core.Path.{_≡_, refl, sym, ap, _∙_}
 use mathlib.Core.Bool.{Bool, true, false}
 use mathlib.Core.List.{List, [], _∷_, _++_}
-use Prim.Native.Nat.{ℕ, zero, suc, _+_, _-_, _≤_, _<_}
+use Prim.Native.Nat.{ℕ, suc, _+_, _-_, _≤_, _<_}
 use native.Mathlib.Omega.{arith}
 use lib.Dec.{eqb}
 use lib.ListN.{length, getD, take, drop, drop-of-length-le}
@@ -11,28 +11,42 @@ use lib.Seq.{take-length, take-suc}
 use borrow.Author.Tests.{eqb-true}
 use Rattle.text.specs.Bytes.{Str, cond, unit}
 use Rattle.column.specs.Number.{columnOf, padded}
-use Rattle.column.specs.Texts.{endsIn, isName, isGraphicText}
+use Rattle.column.specs.Texts.{isName, isGraphicText}
 use Rattle.column.specs.declared.Number.{Number}
 use Rattle.column.specs.declared.Number.the-variants.{Is, Not}
 use Rattle.column.proofs.PaddedLaws.{Stands, column-stands, Ends, ends-stands}
 use Rattle.row.specs.Line.{rootLine, nodeLine, parameterLine, fieldLine, groupLine}
 use Rattle.row.specs.Line.{typeLine, scopeLine, unboundLine, valueLine, wordLine}
-use Rattle.row.specs.Line.{given, mostA, mostB, mostC, mostCount, mostBits, reader, badLine, lineOf, textStart, textOf}
+use Rattle.row.specs.Line.{given, reader, badLine, lineOf, textStart, textOf}
 use Rattle.row.specs.Print.{columns, rowText, printLine, Fits}
 use Rattle.row.specs.declared.Line.{Line}
 use Rattle.row.specs.declared.Line.the-variants.{Root, Node, Parameter, Field, Group, Typ, Scope, Unbound, Value, Word, Bad}
 use Rattle.row.proofs.PrintLaws.{row-is, line-read, text-read}
 
--- a row that says l is l printed, in its bounds; of a bad row nothing is said
+-- any line but the bad one
+abbrev pub Good : Line → Type 0
+Good Root = Unit
+Good (Node i p s x g c o) = Unit
+Good Parameter = Unit
+Good (Field o d e p) = Unit
+Good (Group i d) = Unit
+Good (Typ k a b c) = Unit
+Good (Scope i b n) = Unit
+Good Unbound = Unit
+Good (Value k b) = Unit
+Good (Word v) = Unit
+Good Bad = ⊥
+
+-- row r is line l printed with its text, in the line's bounds
 pub record Printed (r : Str) (l : Line) : Type 0 where
   pub fits : Fits l (textOf r)
   pub whole : r ≡ printLine l (textOf r)
 
 abbrev Told : Str → Line → Type 0
-Told r l = (l ≡ Bad → ⊥) → Printed r l
+Told r l = Good l → Printed r l
 
 told-bad : (r : Str) → Told r Bad
-told-bad r h = absurd (h refl)
+told-bad r h = absurd h
 
 -- a line that goes on with a number, and one that goes on where a test holds
 module _ (r : Str) where
@@ -263,6 +277,6 @@ row-told r = go (eqb (getD r (length r - 1) 0) 10) refl
     go true e = same r (take (length r - 1) r ++ unit 10) (row-split r (eqb-true _ 10 e)) (line-told (take (length r - 1) r))
     go false e = rw (line-open r e) (told-bad r)
 
--- a row that says a line, printed
-pub printed-line : (r : Str) (l : Line) → lineOf r ≡ l → (l ≡ Bad → ⊥) → Printed r l
-printed-line r l e = rw (← e) (row-told r)
+-- a row that says a line is that line printed: `printed-line r (Field o d e p) tt e` for e : lineOf r ≡ Field o d e p
+pub printed-line : (r : Str) (l : Line) → Good l → lineOf r ≡ l → Printed r l
+printed-line r l g e = let t : Told r l = rw (← e) (row-told r) in t g

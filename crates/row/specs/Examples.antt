@@ -1,7 +1,7 @@
 -- Worked rows, by computation: what each says, at the bounds of document 01 and one past them. Assumes nothing.
 use mathlib.Core.Path.{_≡_, refl}
 use mathlib.Core.List.{List, [], _∷_, _++_, map}
-use Prim.Native.Nat.{ℕ, _-_, _^_}
+use Prim.Native.Nat.{_-_, _^_}
 use Prim.Native.String as S
 use lib.ListN.{length, replicate}
 use Rattle.text.specs.Bytes.{Str, ascii, unit}

@@ -1,7 +1,7 @@
 -- The rows of a sheet. A row is the bytes up to and with the next byte 10; a last row may lack it. Assumes nothing.
 use mathlib.Core.Bool.{true, false}
 use mathlib.Core.List.{List, [], _∷_, _++_}
-use Prim.Native.Nat.{ℕ, zero, suc, _+_, _-_}
+use Prim.Native.Nat.{ℕ, suc, _+_, _-_}
 use lib.Dec.{eqb}
 use lib.ListN.{length, take}
 use Rattle.text.specs.Bytes.{Str, unit}

@@ -15,18 +15,21 @@ pub struct Text {
 }
 
 impl Text {
+    // the state at a fill count
     pub fn at(fill: usize) -> Text
         ensures { λ r. ⌜ r ≡ textAt fill ⌝ }
     {
         Text { at: fill }
     }
 
+    // the fill count
     pub fn fill(self) -> usize
         ensures { λ r. ⌜ r ≡ self .at ⌝ }
     {
         self.at
     }
 
+    // one byte
     pub fn byte(self, buf: &mut [u8], b: u8) -> Text
         ensures { λ r. ⌜ Wrote (now (buf .entry)) self (unit b) (now (buf .exit)) r ⌝ }
     {
@@ -38,7 +41,7 @@ impl Text {
         self.past(1)
     }
 
-    // Byte strings mostly fit whole, or, in a measuring pass, begin past the end: neither looks at the end for each byte.
+    // A byte string. Most fit whole, or, in a measuring pass, begin past the end: neither looks at the end for each byte.
     pub fn bytes(self, buf: &mut [u8], s: &[u8]) -> Text
         ensures { λ r. ⌜ Wrote (now (buf .entry)) self (now (s .entry)) (now (buf .exit)) r ⌝ }
     {
@@ -124,6 +127,7 @@ impl Text {
         t.number(buf, half - (n - half))
     }
 
+    // the same at 8, 16, 32 and 64 bits
     pub fn signed8(self, buf: &mut [u8], n: u8) -> Text
         ensures { λ r. ⌜ Wrote (now (buf .entry)) self (signed (2 ^ 7) n) (now (buf .exit)) r ⌝ }
     {

@@ -1,12 +1,15 @@
 -- A line of one letter is no line of another: where a `match` leaves a letter out, its reader takes the other way.
 -- Assumes nothing.
 use mathlib.Core.Path.{_≡_, refl}
+use mathlib.Core.Bool.{false}
 use mathlib.Core.List.{[], _∷_}
 use Prim.Native.Nat.{ℕ}
+use native.Mathlib.Omega.{arith}
 use types.Run.{OneOf, miss}
 use denote.Enum.Declared.{tagOf}
 use Rattle.row.proofs.Line.{the-type}
 use Rattle.row.specs.Line.{asRoot, asNode, asParameter, asField, asGroup, asType, asScope, asUnbound, asValue, asWord}
+use Rattle.tree.specs.Read.{isField}
 use Rattle.row.specs.declared.Line.{Line}
 use Rattle.row.specs.declared.Line.the-variants.{Root, Node, Parameter, Field, Group, Typ, Scope, Unbound, Value, Word, Bad}
 
@@ -149,3 +152,21 @@ not-word Unbound y z h = refl
 not-word (Value a b) y z h = refl
 not-word (Word a) y z h = absurd (miss (0 ∷ 1 ∷ 2 ∷ 3 ∷ 4 ∷ 5 ∷ 6 ∷ 7 ∷ 8 ∷ 10 ∷ []) 9 tt h)
 not-word Bad y z h = refl
+
+-- a line that is neither F nor G
+pub not-a-field : (l : Line) → OneOf (0 ∷ 1 ∷ 2 ∷ 5 ∷ 6 ∷ 7 ∷ 8 ∷ 9 ∷ 10 ∷ []) (tagOf the-type l) → isField l ≡ false
+not-a-field Root h = refl
+not-a-field (Node a b c d e f g) h = refl
+not-a-field Parameter h = refl
+not-a-field (Field a b c d) h = absurd (miss (0 ∷ 1 ∷ 2 ∷ 5 ∷ 6 ∷ 7 ∷ 8 ∷ 9 ∷ 10 ∷ []) 3 tt h)
+not-a-field (Group a b) h = absurd (miss (0 ∷ 1 ∷ 2 ∷ 5 ∷ 6 ∷ 7 ∷ 8 ∷ 9 ∷ 10 ∷ []) 4 tt h)
+not-a-field (Typ a b c d) h = refl
+not-a-field (Scope a b c) h = refl
+not-a-field Unbound h = refl
+not-a-field (Value a b) h = refl
+not-a-field (Word a) h = refl
+not-a-field Bad h = refl
+
+-- from two numbers that are not equal, anything
+pub never : {A : Type 0} → _≡_ {A = ℕ} 0 1 → A
+never e = let z : ⊥ = omega arith in absurd z

@@ -23,7 +23,7 @@ pub words-none : (n : ℕ) (rs : Rows) → n ≤ 0 → passed (wordsUpTo n rs) �
 unfolding wordsUpTo
 words-none n rs h = let z : n ≡ 0 = omega arith in rw z
 
-words-more : (n : ℕ) (rs : Rows) → 0 < n → wordsUpTo n rs ≡ onWord (λ w. mapR (w ∷_) (wordsUpTo (n - 1))) (got []) rs
+pub words-more : (n : ℕ) (rs : Rows) → 0 < n → wordsUpTo n rs ≡ onWord (λ w. mapR (w ∷_) (wordsUpTo (n - 1))) (got []) rs
 unfolding wordsUpTo
 words-more zero rs h = let z : ⊥ = omega arith in absurd z
 words-more (suc n) rs h = rw (sub-one (suc n))

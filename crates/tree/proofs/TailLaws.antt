@@ -16,6 +16,7 @@ use Rattle.tree.specs.Reader.{Rows, Reading, got, no, Reader, _then_, ma
 use Rattle.tree.specs.Reader.{onUnbound, onValue, onWord}
 use Rattle.tree.specs.Read.{bindingOf, scopeOf, typeFrom, typeOf, valueOf, wordsUpTo, hasWords, wordsOf, slotOf}
 use Rattle.tree.specs.Walked.{passed}
+use Rattle.tree.proofs.OtherLines.{never}
 use Rattle.row.specs.declared.Line.the-variants as line
 
 -- the first rows are the last of the second
@@ -48,9 +49,9 @@ pub data Leaves {A : Type 0} : Rows → Reading A → Type 0 where
 
 pub leaves-passed : {A : Type 0} {rs : Rows} {g : Reading A} → Leaves rs g → (ts : Rows) → got tt ts ≡ passed g → Tail ts rs
 leaves-passed (left {ts = us} t) ts e = let z : ts ≡ us = cc in rw z t
-leaves-passed none ts e = let z : _≡_ {A = ℕ} 0 1 = cc in let y : ⊥ = omega arith in absurd y
+leaves-passed none ts e = never cc
 
-leaves-on : {A : Type 0} {us rs : Rows} {g : Reading A} → Tail us rs → Leaves us g → Leaves rs g
+pub leaves-on : {A : Type 0} {us rs : Rows} {g : Reading A} → Tail us rs → Leaves us g → Leaves rs g
 leaves-on t (left h) = left (tail-trans h t)
 leaves-on t none = none
 

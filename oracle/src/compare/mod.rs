@@ -23,7 +23,7 @@ struct Part {
 
 const PARTS: [Part; 4] = [
     Part { name: "names, numbers and lines", landed: true, run: leaves_reports },
-    Part { name: "admission", landed: false, run: sheet_reports },
+    Part { name: "admission", landed: true, run: sheet_reports },
     Part { name: "requests", landed: false, run: request_reports },
     Part {
         name: "the program accessors",

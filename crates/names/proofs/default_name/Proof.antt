@@ -12,7 +12,7 @@ returns c =
     let w = c .before .before in
     let b = w .before .before .before .before in
     let s = b .before .before .before in
-    b .bytes .ensures ⨾ (rw (name-of _ _ (s .camel-to-snake-case .ensures)) at (w .write-capitals .ensures))
+    b .bytes .ensures ⨾ (rw (name-of _ _ (s .camel-to-snake-case .ensures .whole)) at (w .write-capitals .ensures))
 
 pub default-name-spec : {M : Type 1} → statement M
 default-name-spec =

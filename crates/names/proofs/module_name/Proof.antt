@@ -12,14 +12,14 @@ returns c =
     let b = c .before .before in
     let k = b .before .before in
     let w = k .before .before .before .before in
-    let n = name-of _ _ (w .before .before .camel-to-snake-case .ensures) in
+    let n = name-of _ _ (w .before .before .camel-to-snake-case .ensures .whole) in
     rw (module-keyword _ (ap isKeyword (sym n) ∙ sym (k .before .is-keyword .ensures) ∙ k .if1 .taken))
     ((rw n at (w .write .ensures)) ⨾ b .byte .ensures)
 
 returns-2 : tie.Need-returns-2
 returns-2 c =
     let w = c .before .before .before .before in
-    let n = name-of _ _ (w .before .before .camel-to-snake-case .ensures) in
+    let n = name-of _ _ (w .before .before .camel-to-snake-case .ensures .whole) in
     rw (module-plain _ (ap isKeyword (sym n) ∙ sym (c .before .is-keyword .ensures) ∙ c .if1 .left)) (rw n at (w .write .ensures))
 
 pub module-name-spec : {M : Type 1} → statement M

@@ -1,0 +1,19 @@
+-- What a function of the Rust gives: a value, or the number of the refusal that its error or panic becomes. Assumes nothing.
+use Prim.Native.Nat.{ℕ}
+use Rattle.codegen_types.specs.declared.Refusal.{Refusal}
+use Rattle.codegen_types.specs.declared.Refusal.the-variants.{None, Number}
+
+pub data Out (A : Type 0) : Type 0 where
+  ok : A → Out A
+  refused : ℕ → Out A
+
+infixl 20 _then_
+-- the Rust's `?`
+abbrev pub _then_ : {A B : Type 0} → Out A → (A → Out B) → Out B
+ok a then f = f a
+refused k then f = refused k
+
+-- the refusal, if there is one
+abbrev pub refusalOf : {A : Type 0} → Out A → Refusal
+refusalOf (ok a) = None
+refusalOf (refused k) = Number k

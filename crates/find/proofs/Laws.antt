@@ -1,0 +1,498 @@
+-- Laws of what stands where in a sheet: what a reader reads is pastRows over by counting what is owed, the scope that counts is the last one
+-- with its id, and an index finds a sheet's nodes. By induction on levels, counts and rows. Assumes nothing.
+use mathlib.Core.Path.{_≡_, refl, sym, ap, _∙_}
+use mathlib.Core.Bool.{Bool, true, false, not}
+use mathlib.Core.List.{List, [], _∷_}
+use mathlib.Core.Option.{Option, none, some}
+use Prim.Native.Nat.{ℕ, zero, suc, _+_, _-_, _<_, _≤_}
+use native.Mathlib.Nat.{add-zero, zero-add, suc-add}
+use native.Mathlib.Numerals.{add-one, sub-one, one-add}
+use native.Mathlib.Omega.{arith}
+use borrow.Author.Tests.{eq-eqb, ne-eqb, eqb-true, eqb-false}
+use lib.Dec.{eqb, ltb}
+use lib.ListN.{length, drop, getD, drop-of-length-le, length-drop}
+use lib.Seq.{drop-cons}
+use package.types.Run.{OneOf, miss}
+use denote.Enum.Declared.{tagOf}
+use Rattle.row.proofs.Line.{the-type}
+use Rattle.row.proofs.Laws.{rows-out}
+use Rattle.tree.proofs.OtherLines.{not-scope}
+use Rattle.text.specs.Bytes.{Str, cond}
+use Rattle.row.specs.Rows.{rows, restOf, onto}
+use Rattle.row.specs.Line.{lineOf, lineAt, textOf, textAt, asNode, asParameter, asType, asScope, asUnbound}
+use Rattle.row.specs.declared.Line.{Line}
+use Rattle.row.specs.declared.Line.the-variants.{Root, Node, Parameter, Field, Group, Typ, Scope, Unbound, Value, Word, Bad}
+use Rattle.tree.specs.Tree as tree
+use Rattle.tree.specs.Tree.{Ty, Scopes, Binds, Sheet, end, stop, unbound, bound, inherit, bind}
+use Rattle.tree.specs.Reader.{Rows, Reading, got, no, Reader, _then_, mapR, times, onUnbound, onScope, onType}
+use Rattle.tree.specs.Read as read
+use Rattle.tree.specs.Read.{typeOf, typeFrom, bindingOf, paramsOf, among}
+use Rattle.codegen_types.specs.Out.{Out, ok, refused}
+use Rattle.codegen_types.specs.TypeString as typeString
+use Rattle.codegen_types.specs.TypeString.{nodeOf, orElse, scopeOf, scopesOf, bindingsOf}
+use Rattle.find.specs.Find.{On, Has, After, owed, pastRows, lastScope, firstOf, ScopeHere, ScopeIs, namesOf, nameAt, NodeHere, Indexed, lookup, rowsFound}
+use Rattle.find.specs.declared.Found.{Found}
+use Rattle.find.specs.declared.Found.the-variants.{At, Nothing}
+
+-- what holds for a letter's lines and for all others
+pub as-type : {A : Type 0} (P : A → Type 0) (l : Line) (y : (ℕ → ℕ → ℕ → ℕ → A)) (z : A) → ((k a b c : ℕ) → l ≡ Typ k a b c → P (y k a b c)) → P z → P (asType l y z)
+as-type P Root this other f g = g
+as-type P (Node i q k x y c o) this other f g = g
+as-type P Parameter this other f g = g
+as-type P (Field o d e q) this other f g = g
+as-type P (Group i d) this other f g = g
+as-type P (Typ k a b c) this other f g = f k a b c refl
+as-type P (Scope i b c) this other f g = g
+as-type P Unbound this other f g = g
+as-type P (Value k b) this other f g = g
+as-type P (Word x) this other f g = g
+as-type P Bad this other f g = g
+
+pub as-scope : {A : Type 0} (P : A → Type 0) (l : Line) (y : (ℕ → ℕ → ℕ → A)) (z : A) → ((i b c : ℕ) → l ≡ Scope i b c → P (y i b c)) → P z → P (asScope l y z)
+as-scope P Root this other f g = g
+as-scope P (Node i q k x y c o) this other f g = g
+as-scope P Parameter this other f g = g
+as-scope P (Field o d e q) this other f g = g
+as-scope P (Group i d) this other f g = g
+as-scope P (Typ k a b c) this other f g = g
+as-scope P (Scope i b c) this other f g = f i b c refl
+as-scope P Unbound this other f g = g
+as-scope P (Value k b) this other f g = g
+as-scope P (Word x) this other f g = g
+as-scope P Bad this other f g = g
+
+pub as-unbound : {A : Type 0} (P : A → Type 0) (l : Line) (y : A) (z : A) → (l ≡ Unbound → P y) → P z → P (asUnbound l y z)
+as-unbound P Root this other f g = g
+as-unbound P (Node i q k x y c o) this other f g = g
+as-unbound P Parameter this other f g = g
+as-unbound P (Field o d e q) this other f g = g
+as-unbound P (Group i d) this other f g = g
+as-unbound P (Typ k a b c) this other f g = g
+as-unbound P (Scope i b c) this other f g = g
+as-unbound P Unbound this other f g = f refl
+as-unbound P (Value k b) this other f g = g
+as-unbound P (Word x) this other f g = g
+as-unbound P Bad this other f g = g
+
+pub as-parameter : {A : Type 0} (P : A → Type 0) (l : Line) (y : A) (z : A) → (l ≡ Parameter → P y) → P z → P (asParameter l y z)
+as-parameter P Root this other f g = g
+as-parameter P (Node i q k x y c o) this other f g = g
+as-parameter P Parameter this other f g = f refl
+as-parameter P (Field o d e q) this other f g = g
+as-parameter P (Group i d) this other f g = g
+as-parameter P (Typ k a b c) this other f g = g
+as-parameter P (Scope i b c) this other f g = g
+as-parameter P Unbound this other f g = g
+as-parameter P (Value k b) this other f g = g
+as-parameter P (Word x) this other f g = g
+as-parameter P Bad this other f g = g
+
+-- ---- what is read
+
+pub on-map : {A B : Type 0} (f : A → B) (P : B → Type 0) (g : Reading A) → On g (λ a. P (f a)) → On (g then λ a. got (f a)) P
+on-map f P (got a rs) h = h
+on-map f P (no k rs) h = h
+
+pub on-one : {A : Type 0} (P Q : A → Type 0) (g : Reading A) → ((a : A) → P a → Q a) → On g P → On g Q
+on-one P Q (got a rs) f h = f a h
+on-one P Q (no k rs) f h = tt
+
+pub on-two : {A : Type 0} (P Q R : A → Type 0) (g : Reading A) → ((a : A) → P a → Q a → R a) → On g P → On g Q → On g R
+on-two P Q R (got a rs) f h k = f a h k
+on-two P Q R (no n rs) f h k = tt
+
+pub on-all : {A : Type 0} {P : A → Type 0} → ((a : A) → P a) → (g : Reading A) → On g P
+on-all f (got a rs) = f a
+on-all f (no k rs) = tt
+
+after-map : {A B : Type 0} (f : A → B) (P : Rows → Type 0) (g : Reading A) → After g P → After (g then λ a. got (f a)) P
+after-map f P (got a rs) h = h
+after-map f P (no k rs) h = h
+
+after-one : {A : Type 0} (P Q : Rows → Type 0) (g : Reading A) → ((rs : Rows) → P rs → Q rs) → After g P → After g Q
+after-one P Q (got a rs) f h = f rs h
+after-one P Q (no k rs) f h = tt
+
+-- ---- rows that are pastRows over
+
+pub past-none : (rs : Rows) → pastRows rs 0 ≡ rs
+unfolding pastRows
+past-none [] = refl
+past-none (r ∷ rs) = refl
+
+pub past-next : (rs : Rows) (n : ℕ) → pastRows rs (suc n) ≡ pastRows (restOf rs) (owed (lineAt rs) + n)
+unfolding pastRows restOf lineAt
+past-next [] n = refl
+past-next (r ∷ rs) n = refl
+
+-- no more rows than are owed
+pub past-out : (rs : Rows) (n : ℕ) → length rs ≤ n → pastRows rs n ≡ []
+unfolding pastRows
+past-out [] n h = refl
+past-out (r ∷ rs) zero h = let z : ⊥ = omega arith in absurd z
+past-out (r ∷ rs) (suc n) h = past-out rs (owed (lineOf r) + n) (omega arith)
+
+-- a reader reads what counts as one
+abbrev Passes : {A : Type 0} → Reader A → Type 0
+Passes one = (n : ℕ) (rs : Rows) → After (one rs) (λ rest. pastRows rs (suc n) ≡ pastRows rest n)
+
+passes-times : {A : Type 0} (one : Reader (A → A)) (base : A) → Passes one → (k n : ℕ) (rs : Rows) → After (times one base k rs) (λ rest. pastRows rs (k + n) ≡ pastRows rest n)
+unfolding times
+passes-times one base h zero n rs = rw zero-add
+passes-times {A} one base h (suc k) n rs = rw suc-add (go (passes-times one base h k n) (one rs) (h (k + n) rs))
+  where
+    go : ((rs : Rows) → After (times one base k rs) (λ rest. pastRows rs (k + n) ≡ pastRows rest n)) → (g : Reading (A → A)) → After g (λ rest. pastRows rs (suc (k + n)) ≡ pastRows rest (k + n)) → After (g then λ f. mapR f (times one base k)) (λ rest. pastRows rs (suc (k + n)) ≡ pastRows rest n)
+    go ih (got f q) e =
+        after-map f (λ rest. pastRows rs (suc (k + n)) ≡ pastRows rest n) (times one base k q)
+        (after-one (λ rest. pastRows q (k + n) ≡ pastRows rest n) (λ rest. pastRows rs (suc (k + n)) ≡ pastRows rest n) (times one base k q) (λ rest i. e ∙ i) (ih q))
+    go ih (no j q) e = tt
+
+passes-binding : (ty : Reader Ty) → Passes ty → Passes (bindingOf ty)
+unfolding bindingOf owed
+passes-binding ty h n rs =
+    as-unbound (λ (f : Reader (Binds → Binds)). After (f rs) (λ rest. pastRows rs (suc n) ≡ pastRows rest n)) (lineAt rs) _ _
+    (λ e. past-next rs n ∙ rw (e, zero-add))
+    (after-map (λ t bs. bound t bs) (λ rest. pastRows rs (suc n) ≡ pastRows rest n) (ty rs) (h n rs))
+
+passes-scope : (ty : Reader Ty) → Passes ty → Passes (read.scopeOf ty)
+unfolding read.scopeOf owed
+passes-scope ty h n rs =
+    as-scope (λ (f : Reader (Scopes → Scopes)). After (f rs) (λ rest. pastRows rs (suc n) ≡ pastRows rest n)) (lineAt rs) _ _
+    (λ i b c e. go i b c e (eqb b 0) refl)
+    tt
+  where
+    go : (i b c : ℕ) → lineAt rs ≡ Scope i b c → (t : Bool) → eqb b 0 ≡ t
+        → After {A = Scopes → Scopes} (cond t (got (λ ss. inherit i ss)) (mapR (λ bs ss. bind i bs ss) (times (bindingOf ty) stop c)) (restOf rs)) (λ rest. pastRows rs (suc n) ≡ pastRows rest n)
+    go i b c e true z = past-next rs n ∙ rw (e, z, zero-add)
+    go i b c e false z =
+        after-map (λ bs ss. bind i bs ss) (λ rest. pastRows rs (suc n) ≡ pastRows rest n) (times (bindingOf ty) stop c (restOf rs))
+        (after-one (λ rest. pastRows (restOf rs) (c + n) ≡ pastRows rest n) (λ rest. pastRows rs (suc n) ≡ pastRows rest n) (times (bindingOf ty) stop c (restOf rs))
+        (λ rest j. past-next rs n ∙ rw (e, z) j) (passes-times (bindingOf ty) stop (passes-binding ty h) c n (restOf rs)))
+
+pub passes-type : (left : ℕ) → Passes (typeOf left)
+unfolding typeOf typeFrom owed
+passes-type zero n rs =
+    as-type (λ (f : Reader Ty). After (f rs) (λ rest. pastRows rs (suc n) ≡ pastRows rest n)) (lineAt rs) _ _ (λ k a b c e. tt) tt
+passes-type (suc l) n rs = made (passes-type l)
+  where
+    go : Passes (typeOf l) → (k a b c : ℕ) → lineAt rs ≡ Typ k a b c → (x y z : Bool) → ltb k 14 ≡ x → eqb k 14 ≡ y → ltb k 18 ≡ z
+        → After (cond x (got (tree.plain k)) (cond y (mapR (λ t. tree.list t) (typeOf l)) (cond z (mapR (read.branded k a) (times (read.scopeOf (typeOf l)) end b)) (got (read.pointer a b c)))) (restOf rs))
+        (λ rest. pastRows rs (suc n) ≡ pastRows rest n)
+    go ih k a b c e true y z p q r = past-next rs n ∙ rw (e, p, zero-add)
+    go ih k a b c e false true z p q r =
+        after-map (λ t. tree.list t) (λ rest. pastRows rs (suc n) ≡ pastRows rest n) (typeOf l (restOf rs))
+        (after-one (λ rest. pastRows (restOf rs) (suc n) ≡ pastRows rest n) (λ rest. pastRows rs (suc n) ≡ pastRows rest n) (typeOf l (restOf rs))
+        (λ rest j. past-next rs n ∙ rw (e, p, q, one-add) j) (ih n (restOf rs)))
+    go ih k a b c e false false true p q r =
+        after-map (read.branded k a) (λ rest. pastRows rs (suc n) ≡ pastRows rest n) (times (read.scopeOf (typeOf l)) end b (restOf rs))
+        (after-one (λ rest. pastRows (restOf rs) (b + n) ≡ pastRows rest n) (λ rest. pastRows rs (suc n) ≡ pastRows rest n) (times (read.scopeOf (typeOf l)) end b (restOf rs))
+        (λ rest j. past-next rs n ∙ rw (e, p, q, r) j) (passes-times (read.scopeOf (typeOf l)) end (passes-scope (typeOf l) ih) b n (restOf rs)))
+    go ih k a b c e false false false p q r = past-next rs n ∙ rw (e, p, q, r, zero-add)
+
+    made : Passes (typeOf l) → After (onType (typeFrom (typeOf l)) (no 2) rs) (λ rest. pastRows rs (suc n) ≡ pastRows rest n)
+    made ih =
+        as-type (λ (f : Reader Ty). After (f rs) (λ rest. pastRows rs (suc n) ≡ pastRows rest n)) (lineAt rs) _ _
+        (λ k a b c e. go ih k a b c e (ltb k 14) (eqb k 14) (ltb k 18) refl refl refl) tt
+
+-- the rows after a type
+pub past-type : (left : ℕ) (rs : Rows) → After (typeOf left rs) (λ rest. pastRows rs 1 ≡ rest)
+past-type left rs =
+    after-one (λ rest. pastRows rs 1 ≡ pastRows rest 0) (λ rest. pastRows rs 1 ≡ rest) (typeOf left rs) (λ rest e. e ∙ past-none rest) (passes-type left 0 rs)
+
+-- the rows after a binding
+pub past-binding : (left : ℕ) (rs : Rows) → After (bindingOf (typeOf left) rs) (λ rest. pastRows rs 1 ≡ rest)
+past-binding left rs =
+    after-one (λ rest. pastRows rs 1 ≡ pastRows rest 0) (λ rest. pastRows rs 1 ≡ rest) (bindingOf (typeOf left) rs)
+    (λ rest e. e ∙ past-none rest) (passes-binding (typeOf left) (passes-type left) 0 rs)
+
+-- the rows after a scope
+past-scope : (left : ℕ) (rs : Rows) → After (read.scopeOf (typeOf left) rs) (λ rest. pastRows (restOf rs) (owed (lineAt rs)) ≡ rest)
+past-scope left rs =
+    after-one (λ rest. pastRows rs 1 ≡ pastRows rest 0) (λ rest. pastRows (restOf rs) (owed (lineAt rs)) ≡ rest) (read.scopeOf (typeOf left) rs)
+    (λ rest e. rw add-zero at (sym (past-next rs 0)) ∙ e ∙ past-none rest) (passes-scope (typeOf left) (passes-type left) 0 rs)
+
+-- a text has no more rows than bytes
+rows-length : (s : Str) → length (rows s) ≤ length s
+unfolding rows onto
+rows-length [] = omega arith
+rows-length (b ∷ s) = go (eqb b 10) (rows s) (rows-length s)
+  where
+    go : (t : Bool) (rs : Rows) → length rs ≤ length s → length {A = Str} (elim t [ true ↦ (b ∷ []) ∷ rs | false ↦ onto b rs ]) ≤ suc (length s)
+    go true rs h = omega arith
+    go false [] h = omega arith
+    go false (r ∷ rs) h = omega arith
+
+-- a row that owes nothing
+pub owed-none : (l : Line) → OneOf (0 ∷ 1 ∷ 2 ∷ 3 ∷ 4 ∷ 7 ∷ 8 ∷ 9 ∷ 10 ∷ []) (tagOf the-type l) → owed l ≡ 0
+unfolding owed
+owed-none (Typ k a b c) h = absurd (miss (0 ∷ 1 ∷ 2 ∷ 3 ∷ 4 ∷ 7 ∷ 8 ∷ 9 ∷ 10 ∷ []) 5 tt h)
+owed-none (Scope i b c) h = absurd (miss (0 ∷ 1 ∷ 2 ∷ 3 ∷ 4 ∷ 7 ∷ 8 ∷ 9 ∷ 10 ∷ []) 6 tt h)
+owed-none Root h = refl
+owed-none (Node i q k x y c o) h = refl
+owed-none Parameter h = refl
+owed-none (Field o d e q) h = refl
+owed-none (Group i d) h = refl
+owed-none Unbound h = refl
+owed-none (Value k b) h = refl
+owed-none (Word x) h = refl
+owed-none Bad h = refl
+
+-- one turn of passing over rows: n rows are owed at a position, and the row there owes more
+past-turn : (rs : Rows) (n : ℕ) → 0 < n → pastRows rs n ≡ pastRows (restOf rs) (owed (lineAt rs) + (n - 1))
+past-turn rs zero h = let z : ⊥ = omega arith in absurd z
+past-turn rs (suc n) h = rw (sub-one (suc n)) (past-next rs n)
+
+pub past-on : (rs rest : Rows) (n m : ℕ) (l : Line) → 0 < n → l ≡ lineAt rs → rest ≡ restOf rs → m ≡ owed l → pastRows rs n ≡ pastRows rest (m + (n - 1))
+past-on rs rest n m l h e f g = past-turn rs n h ∙ rw (← e, ← f, ← g) refl
+
+-- more is owed than a text can have rows
+pub past-far : (s : Str) (at n : ℕ) → length s ≤ n → rows (drop (length s) s) ≡ pastRows (rows (drop at s)) n
+past-far s at n h =
+    rows-out s (length s) (omega arith) ∙ sym (past-out (rows (drop at s)) n (omega (arith, rows-length (drop at s), length-drop at s)))
+
+pub past-done : (rs : Rows) (n : ℕ) → n ≤ 0 → pastRows rs n ≡ rs
+past-done rs n h = let z : n ≡ 0 = omega arith in rw z (past-none rs)
+
+pub past-end : (s : Str) (at n : ℕ) → length s ≤ at → rows (drop at s) ≡ pastRows (rows (drop at s)) n
+unfolding pastRows
+past-end s at n h = rw (rows-out s at h)
+
+-- ---- the scope that counts
+
+-- one scope read: its row, and what it puts in front of the others
+record OneScope (sheet : Sheet) (rs : Rows) (f : Scopes → Scopes) : Type 0 where
+  id : ℕ
+  kind : ℕ
+  count : ℕ
+  scope : typeString.Scope
+  line : lineAt rs ≡ Scope id kind count
+  first : (ss : Scopes) → scopesOf (f ss) sheet ≡ (id, scope) ∷ scopesOf ss sheet
+
+one-scope : (left : ℕ) (sheet : Sheet) (rs : Rows) → On (read.scopeOf (typeOf left) rs) (OneScope sheet rs)
+unfolding read.scopeOf scopesOf
+one-scope left sheet rs =
+    as-scope (λ (f : Reader (Scopes → Scopes)). On (f rs) (OneScope sheet rs)) (lineAt rs) _ _ (λ i b c e. go i b c e (eqb b 0)) tt
+  where
+    go : (i b c : ℕ) → lineAt rs ≡ Scope i b c → (t : Bool)
+        → On {A = Scopes → Scopes} (cond t (got (λ ss. inherit i ss)) (mapR (λ bs ss. bind i bs ss) (times (bindingOf (typeOf left)) stop c)) (restOf rs)) (OneScope sheet rs)
+    go i b c e true = record { id = i; kind = b; count = c; scope = typeString.inherited; line = e; first = λ ss. refl }
+    go i b c e false =
+        on-map (λ bs ss. bind i bs ss) (OneScope sheet rs) (times (bindingOf (typeOf left)) stop c (restOf rs))
+        (on-all {P = λ bs. OneScope sheet rs (λ ss. bind i bs ss)}
+        (λ bs. record { id = i; kind = b; count = c; scope = typeString.binds (bindingsOf bs sheet); line = e; first = λ ss. refl })
+        (times (bindingOf (typeOf left)) stop c (restOf rs)))
+
+-- the last of n scopes with an id is the one that scopeOf finds
+scope-found : (left id : ℕ) (sheet : Sheet) (n : ℕ) (rs : Rows) (found : Option Rows) (o : Option typeString.Scope) → ScopeIs left sheet found o
+    → On (times (read.scopeOf (typeOf left)) end n rs) (λ ss. ScopeIs left sheet (lastScope id n rs found) (orElse (scopeOf id (scopesOf ss sheet)) o))
+unfolding times lastScope scopeOf scopesOf ScopeHere
+scope-found left id sheet zero rs found o h = h
+scope-found left id sheet (suc n) rs found o h =
+    go (read.scopeOf (typeOf left) rs) refl (one-scope left sheet rs) (past-scope left rs) (scope-found left id sheet n)
+  where
+    rest : Rows
+    rest = pastRows (restOf rs) (owed (lineAt rs))
+
+    more : (i : ℕ) (x : typeString.Scope) (t : Bool) (y : Option typeString.Scope) → orElse y (cond t (some x) o) ≡ orElse (orElse y (cond t (some x) none)) o
+    more i x true none = refl
+    more i x true (some y) = refl
+    more i x false none = refl
+    more i x false (some y) = refl
+
+    here : (f : Scopes → Scopes) (q : Rows) → read.scopeOf (typeOf left) rs ≡ got f q → (x : OneScope sheet rs f) (t : Bool) → ScopeIs left sheet (cond t (some rs) found) (cond t (some (x .scope)) o)
+    here f q e x true = rw (e, x .first end) refl
+    here f q e x false = h
+
+    go : (g : Reading (Scopes → Scopes)) → read.scopeOf (typeOf left) rs ≡ g → On g (OneScope sheet rs) → After g (λ q. rest ≡ q)
+        → ((rs : Rows) (found : Option Rows) (o : Option typeString.Scope) → ScopeIs left sheet found o
+        → On (times (read.scopeOf (typeOf left)) end n rs) (λ ss. ScopeIs left sheet (lastScope id n rs found) (orElse (scopeOf id (scopesOf ss sheet)) o)))
+        → On (g then λ f. mapR f (times (read.scopeOf (typeOf left)) end n))
+        (λ ss. ScopeIs left sheet (asScope (lineAt rs) (λ i b m. lastScope id n rest (cond (eqb i id) (some rs) found)) found) (orElse (scopeOf id (scopesOf ss sheet)) o))
+    go (no k q) e x p ih = tt
+    go (got f q) e x p ih =
+        on-map f (λ ss. ScopeIs left sheet (asScope (lineAt rs) (λ i b m. lastScope id n rest (cond (eqb i id) (some rs) found)) found) (orElse (scopeOf id (scopesOf ss sheet)) o))
+        (times (read.scopeOf (typeOf left)) end n q)
+        (on-one (λ ss. ScopeIs left sheet (lastScope id n q (cond (eqb (x .id) id) (some rs) found)) (orElse (scopeOf id (scopesOf ss sheet)) (cond (eqb (x .id) id) (some (x .scope)) o)))
+        (λ ss. ScopeIs left sheet (asScope (lineAt rs) (λ i b m. lastScope id n rest (cond (eqb i id) (some rs) found)) found) (orElse (scopeOf id (scopesOf (f ss) sheet)) o))
+        (times (read.scopeOf (typeOf left)) end n q)
+        (λ ss w. rw (p, x .line, x .first ss, ← more (x .id) (x .scope) (eqb (x .id) id) (scopeOf id (scopesOf ss sheet))) w)
+        (ih q (cond (eqb (x .id) id) (some rs) found) (cond (eqb (x .id) id) (some (x .scope)) o) (here f q e x (eqb (x .id) id))))
+
+pub scope-counts : (left id : ℕ) (sheet : Sheet) (n : ℕ) (rs : Rows)
+    → On (times (read.scopeOf (typeOf left)) end n rs) (λ ss. ScopeIs left sheet (lastScope id n rs none) (scopeOf id (scopesOf ss sheet)))
+scope-counts left id sheet n rs =
+    on-one (λ ss. ScopeIs left sheet (lastScope id n rs none) (orElse (scopeOf id (scopesOf ss sheet)) none)) (λ ss. ScopeIs left sheet (lastScope id n rs none) (scopeOf id (scopesOf ss sheet)))
+    (times (read.scopeOf (typeOf left)) end n rs) (λ ss h. rw or-none at h) (scope-found left id sheet n rs none none refl)
+  where
+    or-none : (y : Option typeString.Scope) → orElse y none ≡ y
+    or-none none = refl
+    or-none (some y) = refl
+
+-- ---- nodes
+
+-- a node that was looked for: its rows are there, or it is not in the sheet
+abbrev pub NodeIs : Str → Found → Out tree.Node → Type 0
+NodeIs s (At at) (ok n) = NodeHere (rows (drop at s)) n
+NodeIs s (At at) (refused k) = ⊥
+NodeIs s Nothing o = o ≡ refused 5
+
+pub node-found : (s : Str) (ns : List tree.Node) (ids ats : List ℕ) (id : ℕ) → Indexed s ns ids ats → NodeIs s (lookup id ids ats) (nodeOf ns id)
+unfolding lookup nodeOf Indexed
+node-found s [] [] ats id x = refl
+node-found s [] (i ∷ ids) ats id x = absurd x
+node-found s (n ∷ ns) [] ats id x = absurd x
+node-found s (n ∷ ns) (i ∷ ids) [] id x = absurd x
+node-found s (n ∷ ns) (i ∷ ids) (a ∷ ats) id x = rw (x .0) (go (node-found s ns ids ats id (x .2)) (eqb (n .id) id))
+  where
+    go : NodeIs s (lookup id ids ats) (nodeOf ns id) → (t : Bool) → NodeIs s (cond t (At a) (lookup id ids ats)) (cond t (ok n) (nodeOf ns id))
+    go ih true = x .1
+    go ih false = ih
+
+-- the names of a node's P rows are what the reader of P rows reads
+pub params-names : (rs : Rows) → On (paramsOf rs) (λ ps. ps ≡ namesOf rs)
+unfolding paramsOf namesOf lineAt textAt restOf
+params-names [] = refl
+params-names (r ∷ rs) = go (lineOf r) (params-names rs)
+  where
+    go : (l : Line) → On (paramsOf rs) (λ ps. ps ≡ namesOf rs)
+        → On (asParameter {A = Reader (List Str)} l (λ q. paramsOf rs then λ ps. got (textAt q ∷ ps)) (got []) (r ∷ rs)) (λ ps. ps ≡ asParameter l (textOf r ∷ namesOf rs) [])
+    go Parameter ih = on-map (λ ps. textOf r ∷ ps) (λ ps. ps ≡ textOf r ∷ namesOf rs) (paramsOf rs) (on-one (λ ps. ps ≡ namesOf rs) (λ ps. textOf r ∷ ps ≡ textOf r ∷ namesOf rs) (paramsOf rs) (λ ps e. ap (λ (l : List Str). textOf r ∷ l) e) ih)
+    go Root ih = refl
+    go (Node i q k x y c o) ih = refl
+    go (Field o d e q) ih = refl
+    go (Group i d) ih = refl
+    go (Typ k a b c) ih = refl
+    go (Scope i b c) ih = refl
+    go Unbound ih = refl
+    go (Value k b) ih = refl
+    go (Word x) ih = refl
+    go Bad ih = refl
+
+-- ---- searching
+
+-- the search for a node
+pub lookup-end : (id : ℕ) (ids ats : List ℕ) (i : ℕ) → length ats ≤ i → lookup id (drop i ids) (drop i ats) ≡ Nothing
+unfolding lookup
+lookup-end id ids ats i h = rw (drop-of-length-le ats h) (go (drop i ids))
+  where
+    go : (l : List ℕ) → lookup id l [] ≡ Nothing
+    go [] = refl
+    go (x ∷ l) = refl
+
+pub lookup-out : (id : ℕ) (ids ats : List ℕ) (i : ℕ) → length ids ≤ i → lookup id (drop i ids) (drop i ats) ≡ Nothing
+unfolding lookup
+lookup-out id ids ats i h = rw (drop-of-length-le ids h)
+
+pub lookup-hit : (id : ℕ) (ids ats : List ℕ) (i : ℕ) → i < length ids → i < length ats → getD ids i 0 ≡ id → lookup id (drop i ids) (drop i ats) ≡ At (getD ats i 0)
+unfolding lookup
+lookup-hit id ids ats i h k e = rw (drop-cons ids i 0 h, drop-cons ats i 0 k, eq-eqb _ _ e)
+
+pub lookup-miss : (id : ℕ) (ids ats : List ℕ) (i : ℕ) → i < length ids → i < length ats → (getD ids i 0 ≡ id → ⊥) → lookup id (drop i ids) (drop i ats) ≡ lookup id (drop (i + 1) ids) (drop (i + 1) ats)
+unfolding lookup
+lookup-miss id ids ats i h k e = rw (drop-cons ids i 0 h, drop-cons ats i 0 k, ne-eqb _ _ e, add-one)
+
+-- the search among ids
+pub among-out : (id : ℕ) (ids : List ℕ) (i : ℕ) → length ids ≤ i → among id (drop i ids) ≡ false
+unfolding among
+among-out id ids i h = rw (drop-of-length-le ids h)
+
+pub among-hit : (id : ℕ) (ids : List ℕ) (i : ℕ) → i < length ids → getD ids i 0 ≡ id → among id (drop i ids) ≡ true
+unfolding among
+among-hit id ids i h e = rw (drop-cons ids i 0 h, eq-eqb _ _ e)
+
+pub among-miss : (id : ℕ) (ids : List ℕ) (i : ℕ) → i < length ids → (getD ids i 0 ≡ id → ⊥) → among id (drop i ids) ≡ among id (drop (i + 1) ids)
+unfolding among
+among-miss id ids i h e = rw (drop-cons ids i 0 h, ne-eqb _ _ e, add-one)
+
+-- parameters
+clash : {A : Type 0} → false ≡ true → A
+clash h = let z : _≡_ {A = ℕ} 0 1 = cc in let y : ⊥ = omega arith in absurd y
+
+pub names-more : (rs : Rows) → asParameter (lineAt rs) true false ≡ true → namesOf rs ≡ textAt rs ∷ namesOf (restOf rs)
+unfolding namesOf lineAt textAt restOf
+names-more [] h = clash h
+names-more (r ∷ rs) h =
+    as-parameter (λ (b : Bool). b ≡ true → asParameter (lineOf r) (textOf r ∷ namesOf rs) [] ≡ textOf r ∷ namesOf rs) (lineOf r) true false (λ e t. rw e) (λ t. clash t) h
+
+pub names-none : (rs : Rows) → asParameter (lineAt rs) true false ≡ false → namesOf rs ≡ []
+unfolding namesOf lineAt
+names-none [] h = refl
+names-none (r ∷ rs) h = go (lineOf r) h
+  where
+    go : (l : Line) → asParameter l true false ≡ false → asParameter l (textOf r ∷ namesOf rs) [] ≡ []
+    go Parameter h = clash (sym h)
+    go Root h = refl
+    go (Node i q k x y c o) h = refl
+    go (Field o d e q) h = refl
+    go (Group i d) h = refl
+    go (Typ k a b c) h = refl
+    go (Scope i b c) h = refl
+    go Unbound h = refl
+    go (Value k b) h = refl
+    go (Word x) h = refl
+    go Bad h = refl
+
+eqb-less : (n m : ℕ) → 0 < n → eqb n (suc m) ≡ eqb (n - 1) m
+eqb-less n m h = go (eqb (n - 1) m) refl
+  where
+    go : (t : Bool) → eqb (n - 1) m ≡ t → eqb n (suc m) ≡ t
+    go true e = eq-eqb n (suc m) (omega (arith, eqb-true (n - 1) m e))
+    go false e = ne-eqb n (suc m) (λ k. eqb-false (n - 1) m e (omega arith))
+
+-- one turn of counting parameters
+module _ (rs rest : Rows) (l : Line) (b : Bool) (line : l ≡ lineAt rs) (next : rest ≡ restOf rs) (is : b ≡ asParameter l true false) where
+  here : (c : Bool) → b ≡ c → asParameter (lineAt rs) true false ≡ c
+  here c e = rw (← line) (sym is ∙ e)
+
+  pub count-more : (n : ℕ) → 0 < n → b ≡ true → eqb n (length (namesOf rs)) ≡ eqb (n - 1) (length (namesOf rest))
+  count-more n h e = rw (names-more rs (here true e), next) (eqb-less n (length (namesOf (restOf rs))) h)
+
+  pub count-fewer : (n : ℕ) → 0 < n → b ≡ false → eqb n (length (namesOf rs)) ≡ false
+  count-fewer n h e = rw (names-none rs (here false e)) (ne-eqb n 0 (λ z. omega arith))
+
+  pub count-last : (n : ℕ) → n ≤ 0 → eqb n (length (namesOf rs)) ≡ not b
+  count-last n h = go b refl
+    where
+      go : (c : Bool) → b ≡ c → eqb n (length (namesOf rs)) ≡ not c
+      go true e = rw (names-more rs (here true e)) (ne-eqb n (suc (length (namesOf (restOf rs)))) (λ z. omega arith))
+      go false e = rw (names-none rs (here false e)) (eq-eqb n 0 (omega arith))
+
+  pub name-more : (n : ℕ) → (n ≡ 0 → ⊥) → b ≡ true → nameAt (namesOf rs) n ≡ nameAt (namesOf rest) (n - 1)
+  unfolding nameAt
+  name-more zero h e = absurd (h refl)
+  name-more (suc n) h e = rw (names-more rs (here true e), next, sub-one (suc n))
+
+  pub name-none : (n : ℕ) → b ≡ false → nameAt (namesOf rs) n ≡ none
+  unfolding nameAt
+  name-none n e = rw (names-none rs (here false e))
+
+  pub name-here : (n : ℕ) → n ≡ 0 → b ≡ true → nameAt (namesOf rs) n ≡ some (textAt rs)
+  unfolding nameAt
+  name-here n z e = rw (z, names-more rs (here true e))
+
+-- one turn of the search for a scope
+pub scope-none : (id n : ℕ) (rs : Rows) (found : Option Rows) → n ≤ 0 → lastScope id n rs found ≡ found
+unfolding lastScope
+scope-none id zero rs found h = refl
+scope-none id (suc n) rs found h = let z : ⊥ = omega arith in absurd z
+
+pub scope-other : (id n : ℕ) (rs : Rows) (found : Option Rows) (l : Line) → l ≡ lineAt rs → OneOf (0 ∷ 1 ∷ 2 ∷ 3 ∷ 4 ∷ 5 ∷ 7 ∷ 8 ∷ 9 ∷ 10 ∷ []) (tagOf the-type l) → lastScope id n rs found ≡ found
+unfolding lastScope
+scope-other id zero rs found l e h = refl
+scope-other id (suc n) rs found l e h = rw (← e, not-scope l _ _ h)
+
+module _ (id n : ℕ) (rs next rest : Rows) (found : Option Rows) (l : Line) (m i b c : ℕ) (more : 0 < n) (line : l ≡ lineAt rs) (is : l ≡ Scope i b c)
+    (after : next ≡ restOf rs) (owes : m ≡ owed (Scope i b c)) (past : rest ≡ pastRows next m) where
+  turn : lastScope id n rs found ≡ lastScope id (n - 1) rest (cond (eqb i id) (some rs) found)
+  unfolding lastScope
+  turn = go n more
+    where
+      go : (n : ℕ) → 0 < n → lastScope id n rs found ≡ lastScope id (n - 1) rest (cond (eqb i id) (some rs) found)
+      go zero h = let z : ⊥ = omega arith in absurd z
+      go (suc n) h = rw (past, after, owes, sym line ∙ is, sub-one (suc n))
+
+  pub scope-this : i ≡ id → lastScope id n rs found ≡ lastScope id (n - 1) rest (some rs)
+  scope-this e = turn ∙ rw (eq-eqb i id e) refl
+
+  pub scope-next : (i ≡ id → ⊥) → lastScope id n rs found ≡ lastScope id (n - 1) rest found
+  scope-next e = turn ∙ rw (ne-eqb i id e) refl

@@ -1,0 +1,30 @@
+use Rattle.tree.proofs.OtherLines.{not-type}
+use borrow.Author.Tests.{lt-ltb, le-ltb}
+use mathlib.Core.Path.{_≡_, refl, sym, _∙_}
+use borrow.Author.Needs.{needs}
+use Rattle.find.proofs.kind.Statement.{statement}
+use Rattle.find.proofs.kind.Tie as tie
+use Rattle.find.proofs.kind.Reads as reads
+use Rattle.find.proofs.kind.Lts as lts
+use Rattle.row.proofs.next.Reads as next-reads
+
+next-requires : tie.Need-next-requires
+next-requires c κs = search needs
+
+enum-known-line : tie.Need-enum-known-line
+enum-known-line c = search needs
+
+returns : tie.Need-returns
+returns c =
+    rw (← (c .before .next .ensures .0), not-type _ _ _ (c .match .keys2)) refl
+
+returns-2 : tie.Need-returns-2
+returns-2 c =
+    rw (sym (c .before .before .before .before .next .ensures .0) ∙ (c .before .before .line .given .1), lt-ltb _ _ (c .if1 .taken)) refl
+
+returns-3 : tie.Need-returns-3
+returns-3 c =
+    rw (sym (c .before .before .before .before .next .ensures .0) ∙ (c .before .before .line .given .1), le-ltb _ _ (c .if1 .left)) refl
+
+pub kind-spec : {M : Type 1} → statement M
+kind-spec = tie.close (tie.spec next-requires enum-known-line returns returns-2 returns-3)

@@ -1,0 +1,61 @@
+-- What the walk that looks for a type's refusal tells: the refusal that `type_string` gives for whatever type is read at a position, in
+-- every sheet whose nodes the index has. Assumes nothing.
+use mathlib.Core.Path.{_≡_}
+use mathlib.Core.List.{List, [], _∷_}
+use Prim.Native.Nat.{ℕ}
+use lib.ListN.{drop}
+use Rattle.text.specs.Bytes.{Str}
+use Rattle.row.specs.Rows.{rows}
+use Rattle.tree.specs.Tree.{Ty, list, Scopes, end, Binds, stop, Node, Sheet}
+use Rattle.tree.specs.Reader.{times}
+use Rattle.tree.specs.Read as read
+use Rattle.tree.specs.Read.{typeOf, bindingOf}
+use Rattle.codegen_types.specs.Out.{Out, ok, _then_, refusalOf}
+use Rattle.codegen_types.specs.TypeString.{typeString, Scope, scopeOf, scopesOf, bindingsOf, nodeOf, allOf, argumentsOf, accumulate}
+use Rattle.codegen_types.specs.declared.Leaf.{Leaf}
+use Rattle.codegen_types.specs.declared.Refusal.{Refusal}
+use Rattle.codegen_types.specs.declared.Refusal.the-variants.{None}
+use Rattle.find.specs.Find.{On, Indexed, NodeHere}
+
+abbrev pub sheetOf : Str → List Node → Sheet
+sheetOf root ns = record { root = root; nodes = ns }
+
+-- the arguments of the node with an id
+unfoldable pub ownOf : Sheet → List (ℕ × Scope) → ℕ → Out (List Str)
+ownOf sheet scopes id = nodeOf (sheet .nodes) id then λ n. argumentsOf (sheet .root) (n .params) (scopeOf id scopes)
+
+-- the nodes with these ids have no refusal of their own
+unfoldable pub Sound : Sheet → List (ℕ × Scope) → List ℕ → Type 0
+Sound sheet scopes [] = Unit {0}
+Sound sheet scopes (id ∷ ids) = (refusalOf (ownOf sheet scopes id) ≡ None) × Sound sheet scopes ids
+
+-- the contracts, over the sheet's bytes and its index: the refusal r of what is read at a position
+module _ (s ids ats : List ℕ) where
+  abbrev pub ForAll : (Sheet → Type 0) → Type 0
+  ForAll P = (root : Str) (ns : List Node) → Indexed s ns ids ats → P (sheetOf root ns)
+
+  abbrev pub TypeTold : ℕ → ℕ → Leaf → Refusal → Type 0
+  TypeTold at left leaf r = ForAll (λ sheet. On (typeOf left (rows (drop at s))) (λ ty. r ≡ refusalOf (typeString ty sheet leaf)))
+
+  abbrev pub ListTold : ℕ → ℕ → Leaf → Refusal → Type 0
+  ListTold at left leaf r = ForAll (λ sheet. On (typeOf left (rows (drop at s))) (λ ty. r ≡ refusalOf (typeString (list ty) sheet leaf)))
+
+  abbrev pub BrandTold : ℕ → ℕ → ℕ → ℕ → Refusal → Type 0
+  BrandTold id at n left r =
+      ForAll (λ sheet. On (times (read.scopeOf (typeOf left)) end n (rows (drop at s))) (λ ss. r ≡ refusalOf (accumulate sheet (scopesOf ss sheet) 16 id)))
+
+  -- of a node at `node` on a chain on which the nodes `seen` have no refusal
+  abbrev pub OwnTold : List ℕ → ℕ → ℕ → ℕ → ℕ → ℕ → Refusal → Type 0
+  OwnTold seen node id at n left r =
+      ForAll (λ sheet. (x : Node) → nodeOf (sheet .nodes) id ≡ ok x → NodeHere (rows (drop node s)) x
+      → On (times (read.scopeOf (typeOf left)) end n (rows (drop at s)))
+      (λ ss. Sound sheet (scopesOf ss sheet) seen → r ≡ refusalOf (ownOf sheet (scopesOf ss sheet) id)))
+
+  abbrev pub BindsTold : ℕ → ℕ → ℕ → Refusal → Type 0
+  BindsTold at n left r =
+      ForAll (λ sheet. On (times (bindingOf (typeOf left)) stop n (rows (drop at s))) (λ bs. r ≡ refusalOf (allOf (bindingsOf bs sheet))))
+
+  -- one binding
+  abbrev pub BindTold : ℕ → ℕ → Refusal → Type 0
+  BindTold at left r =
+      ForAll (λ sheet. On (bindingOf (typeOf left) (rows (drop at s))) (λ f. r ≡ refusalOf (allOf (bindingsOf (f stop) sheet))))
