@@ -5,23 +5,23 @@ use lib.Seq.{length-take-le}
 use lib.ListN.{length, length-set, drop}
 use Rattle.type_refusal.proofs.Laws.{Chained}
 use Rattle.type_refusal.proofs.Laws as law
-use Rattle.type_refusal.specs.Told.{sheetOf}
+use Rattle.find.specs.Find.{sheetOf}
 use Rattle.find.proofs.TypeLaws as read-law
-use Rattle.find.proofs.Laws.{on-one, on-all}
-use Rattle.find.specs.Find.{On, Indexed, rowsFound}
+use Rattle.find.proofs.Laws.{on-one}
+use Rattle.find.specs.Find.{On, Indexed}
 use Rattle.codegen_types.specs.declared.Leaf.the-variants.{Owned}
-use Rattle.codegen_types.specs.declared.Refusal.the-variants.{None, Number}
+use Rattle.codegen_types.specs.declared.Refusal.the-variants.{None}
 use Rattle.codegen_types.specs.declared.Refusal.{Refusal}
-use Rattle.codegen_types.specs.TypeString.{typeString, scopesOf, bindingsOf, allOf, accumulate, getQualifiedModule}
-use Rattle.codegen_types.specs.Out.{refusalOf}
-use Rattle.tree.specs.Read.{typeOf, bindingOf, branded, pointer}
+use Rattle.codegen_types.specs.TypeString.{typeString, scopesOf, bindingsOf, allOf}
+use Rattle.codegen_types.specs.Out.{Out, refusalOf}
+use Rattle.tree.specs.Read.{typeOf, bindingOf}
 use Rattle.tree.specs.Read as read
 use Rattle.tree.specs.Reader.{times}
-use Rattle.tree.specs.Tree.{Ty, Binds, Scopes, Node, end, stop, unbound, bound, list}
+use Rattle.tree.specs.Tree.{Node, end, stop, bound}
 use Rattle.row.specs.Rows.{rows}
 use Rattle.text.specs.Bytes.{Str}
 use Prim.Native.Nat.{_+_, _-_, _*_, _≤_}
-use mathlib.Core.Path.{_≡_, refl, sym, ap, _∙_}
+use mathlib.Core.Path.{_≡_, refl, sym, _∙_}
 use mathlib.Core.List.{List}
 use native.Mathlib.Omega.{arith}
 use borrow.Author.Needs.{needs}
@@ -318,7 +318,7 @@ refusal-returns-4 t c =
 
 refusal-returns-5 : (t : ℕ) → refusal-lts.Need-returns-5 (refusal-calls t) (refusal-at t) refusal.Post
 refusal-returns-5 t c =
-    λ root ns x. law.type-enum (sheetOf root ns) (c .before .before .before .before .before .before .before .before .before .before .before .before .args .leaf) _ _ _ _ _ _ _ _ (c .before .before .before .before .before .before .before .before .if1 .left) (c .before .before .before .before .before .before .before .next .ensures .0) (c .before .before .before .before .before .line .given .1) (c .before .before .before .before .before .before .before .next .ensures .1) _ (c .before .if4 .taken) ((c .module-refusal .ensures) root ns x)
+    λ root ns x. read-law.type-enum (sheetOf root ns) (c .before .before .before .before .before .before .before .before .before .before .before .before .args .leaf) _ _ _ _ _ _ _ _ (c .before .before .before .before .before .before .before .before .if1 .left) (c .before .before .before .before .before .before .before .next .ensures .0) (c .before .before .before .before .before .line .given .1) (c .before .before .before .before .before .before .before .next .ensures .1) (λ (o : Out Str). (c .module-refusal .result) ≡ refusalOf o) (c .before .if4 .taken) ((c .module-refusal .ensures) root ns x)
 
 refusal-brand-refusal-requires : (t : ℕ) → refusal-lts.Need-brand-refusal-requires (refusal-calls t) (refusal-at t) refusal.Post
 refusal-brand-refusal-requires t c κs =
@@ -326,7 +326,7 @@ refusal-brand-refusal-requires t c κs =
 
 refusal-returns-6 : (t : ℕ) → refusal-lts.Need-returns-6 (refusal-calls t) (refusal-at t) refusal.Post
 refusal-returns-6 t c =
-    λ root ns x. law.type-brand (sheetOf root ns) (c .before .before .before .before .before .before .before .before .before .before .before .before .before .args .leaf) _ _ _ _ _ _ _ _ (c .before .before .before .before .before .before .before .before .before .if1 .left) (c .before .before .before .before .before .before .before .before .next .ensures .0) (c .before .before .before .before .before .before .line .given .1) (c .before .before .before .before .before .before .before .before .next .ensures .1) _ (c .before .before .before .before .if2 .left) (c .before .before .before .if3 .left) (c .before .before .if4 .left) (c .before .if5 .taken) ((c .brand-refusal .ensures) root ns x)
+    λ root ns x. read-law.type-branded (sheetOf root ns) (c .before .before .before .before .before .before .before .before .before .before .before .before .before .args .leaf) _ _ _ _ _ _ _ _ (c .before .before .before .before .before .before .before .before .before .if1 .left) (c .before .before .before .before .before .before .before .before .next .ensures .0) (c .before .before .before .before .before .before .line .given .1) (c .before .before .before .before .before .before .before .before .next .ensures .1) (λ (o : Out Str). (c .brand-refusal .result) ≡ refusalOf o) (c .before .before .before .before .if2 .left) (c .before .before .before .if3 .left) (c .before .before .if4 .left) (c .before .if5 .taken) (law.brand-told (sheetOf root ns) (c .before .before .before .before .before .before .before .before .before .before .before .before .before .args .leaf) (times (read.scopeOf (typeOf (c .before .before .before .before .before .before .before .before .before .before .before .before .before .args .left - 1))) end (c .before .before .before .before .before .before .line .given .0 .1 .1 .0) (rows (drop (c .before .before .before .before .before .before .before .before .next .result .next) (c .before .before .before .before .before .before .before .before .before .before .before .before .before .args .s .now)))) _ _ ((c .brand-refusal .ensures) root ns x))
 
 refusal-returns-7 : (t : ℕ) → refusal-lts.Need-returns-7 (refusal-calls t) (refusal-at t) refusal.Post
 refusal-returns-7 t c =

@@ -4,21 +4,19 @@
 use Rattle.type_string.proofs.Laws as law
 use Rattle.type_string.specs.Told.{onlyOf}
 use Rattle.type_parts.specs.declared.Arguments.{Arguments}
-use Rattle.type_parts.specs.Parts.{sheetOf, Writes, Lists}
+use Rattle.type_parts.specs.Parts.{Writes, Lists}
 use Rattle.find.proofs.TypeLaws as read-law
-use Rattle.find.proofs.Laws.{on-one, on-all}
-use Rattle.find.specs.Find.{On, Indexed}
-use Rattle.codegen_types.specs.declared.Leaf.the-variants.{Owned}
-use Rattle.codegen_types.specs.TypeString.{typeString, scopesOf, bindingsOf, allOf, getQualifiedModule}
+use Rattle.find.specs.Find.{On, Indexed, sheetOf}
+use Rattle.codegen_types.specs.TypeString.{typeString, bindingsOf, allOf}
 use Rattle.codegen_types.specs.Out.{Out}
-use Rattle.tree.specs.Read.{typeOf, bindingOf, branded, pointer}
+use Rattle.tree.specs.Read.{typeOf, bindingOf, pointer}
 use Rattle.tree.specs.Read as read
 use Rattle.tree.specs.Reader.{times}
-use Rattle.tree.specs.Tree.{Ty, Binds, Scopes, Node, end, stop, unbound, bound, list, struct}
+use Rattle.tree.specs.Tree.{Node, end, stop, unbound}
 use Rattle.row.specs.Rows.{rows}
 use Rattle.text.specs.Bytes.{Str}
-use Prim.Native.Nat.{_+_, _-_, _*_, _≤_}
-use mathlib.Core.Path.{_≡_, refl, sym, ap, _∙_}
+use Prim.Native.Nat.{_+_, _-_, _*_}
+use mathlib.Core.Path.{_≡_, refl}
 use mathlib.Core.List.{List}
 use native.Mathlib.Omega.{arith}
 use lib.ListN.{length, drop}
@@ -312,7 +310,7 @@ write-type-returns-4 t c =
 
 write-type-returns-5 : (t : ℕ) → write-type-lts.Need-returns-5 (write-type-calls t) (write-type-at t) write-type.Post
 write-type-returns-5 t c =
-    λ ns x. law.type-enum (sheetOf ((c .before .before .before .before .before .before .before .before .before .before .before .before .before .before .before .before .before .args .root) .now) ns) (c .before .before .before .before .before .before .before .before .before .before .before .before .before .before .before .before .before .args .leaf) _ _ _ _ _ _ _ _ (c .before .before .before .before .before .before .before .before .before .before .before .if1 .left) (c .before .before .before .before .before .before .before .before .before .before .next .ensures .0) (c .before .before .before .before .before .before .before .before .line .given .1) (c .before .before .before .before .before .before .before .before .before .before .next .ensures .1) (λ (o : Out Str). Writes o ((c .before .before .before .before .before .before .before .before .before .before .before .before .before .before .before .before .before .args .buf) .now) (c .before .before .before .before .before .before .before .before .before .before .before .before .before .before .before .before .before .args .t) (c .before .before .qualified-module .last .1 .1 .1 .1 .1 .1 .0) (c .before .before .qualified-module .result)) (c .before .before .before .before .if4 .taken) ((c .before .before .qualified-module .ensures) ns x)
+    λ ns x. read-law.type-enum (sheetOf ((c .before .before .before .before .before .before .before .before .before .before .before .before .before .before .before .before .before .args .root) .now) ns) (c .before .before .before .before .before .before .before .before .before .before .before .before .before .before .before .before .before .args .leaf) _ _ _ _ _ _ _ _ (c .before .before .before .before .before .before .before .before .before .before .before .if1 .left) (c .before .before .before .before .before .before .before .before .before .before .next .ensures .0) (c .before .before .before .before .before .before .before .before .line .given .1) (c .before .before .before .before .before .before .before .before .before .before .next .ensures .1) (λ (o : Out Str). Writes o ((c .before .before .before .before .before .before .before .before .before .before .before .before .before .before .before .before .before .args .buf) .now) (c .before .before .before .before .before .before .before .before .before .before .before .before .before .before .before .before .before .args .t) (c .before .before .qualified-module .last .1 .1 .1 .1 .1 .1 .0) (c .before .before .qualified-module .result)) (c .before .before .before .before .if4 .taken) ((c .before .before .qualified-module .ensures) ns x)
 
 write-type-do-branding-requires : (t : ℕ) → write-type-lts.Need-do-branding-requires (write-type-calls t) (write-type-at t) write-type.Post
 write-type-do-branding-requires t c κs =
@@ -320,7 +318,7 @@ write-type-do-branding-requires t c κs =
 
 write-type-returns-6 : (t : ℕ) → write-type-lts.Need-returns-6 (write-type-calls t) (write-type-at t) write-type.Post
 write-type-returns-6 t c =
-    λ ns x. law.type-brand (sheetOf ((c .before .before .before .before .before .before .before .before .before .before .before .before .before .before .before .before .before .before .args .root) .now) ns) (c .before .before .before .before .before .before .before .before .before .before .before .before .before .before .before .before .before .before .args .leaf) _ _ _ _ _ _ _ _ (c .before .before .before .before .before .before .before .before .before .before .before .before .if1 .left) (c .before .before .before .before .before .before .before .before .before .before .before .next .ensures .0) (c .before .before .before .before .before .before .before .before .before .line .given .1) (c .before .before .before .before .before .before .before .before .before .before .before .next .ensures .1) (λ (o : Out Str). Writes o ((c .before .before .before .before .before .before .before .before .before .before .before .before .before .before .before .before .before .before .args .buf) .now) (c .before .before .before .before .before .before .before .before .before .before .before .before .before .before .before .before .before .before .args .t) (c .before .before .do-branding .last .1 .1 .1 .1 .1 .1 .1 .1 .1 .1 .0) (c .before .before .do-branding .result)) (c .before .before .before .before .before .before .before .if2 .left) (c .before .before .before .before .before .before .if3 .left) (c .before .before .before .before .before .if4 .left) (c .before .before .before .before .if5 .taken) ((c .before .before .do-branding .ensures) ns x)
+    λ ns x. read-law.type-branded (sheetOf ((c .before .before .before .before .before .before .before .before .before .before .before .before .before .before .before .before .before .before .args .root) .now) ns) (c .before .before .before .before .before .before .before .before .before .before .before .before .before .before .before .before .before .before .args .leaf) _ _ _ _ _ _ _ _ (c .before .before .before .before .before .before .before .before .before .before .before .before .if1 .left) (c .before .before .before .before .before .before .before .before .before .before .before .next .ensures .0) (c .before .before .before .before .before .before .before .before .before .line .given .1) (c .before .before .before .before .before .before .before .before .before .before .before .next .ensures .1) (λ (o : Out Str). Writes o ((c .before .before .before .before .before .before .before .before .before .before .before .before .before .before .before .before .before .before .args .buf) .now) (c .before .before .before .before .before .before .before .before .before .before .before .before .before .before .before .before .before .before .args .t) (c .before .before .do-branding .last .1 .1 .1 .1 .1 .1 .1 .1 .1 .1 .0) (c .before .before .do-branding .result)) (c .before .before .before .before .before .before .before .if2 .left) (c .before .before .before .before .before .before .if3 .left) (c .before .before .before .before .before .if4 .left) (c .before .before .before .before .if5 .taken) ((c .before .before .do-branding .ensures) ns x)
 
 write-type-returns-7 : (t : ℕ) → write-type-lts.Need-returns-7 (write-type-calls t) (write-type-at t) write-type.Post
 write-type-returns-7 t c =
