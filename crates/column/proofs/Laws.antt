@@ -1,7 +1,7 @@
 -- Laws for the loops over columns and texts: what a definition gives from one byte on, by that byte. Assumes nothing.
-use mathlib.Core.Path.{_≡_, refl, sym, _∙_}
+use mathlib.Core.Path.{_≡_, refl, _∙_}
 use mathlib.Core.Bool.{Bool, true, false}
-use mathlib.Core.List.{List, [], _∷_}
+use mathlib.Core.List.{[], _∷_}
 use Prim.Native.Nat.{ℕ, _+_, _-_, _*_, _^_, _≤_, _<_}
 use native.Mathlib.Omega.{arith}
 use native.Mathlib.Nat.{add-sub-cancel-left}
@@ -9,7 +9,7 @@ use native.Mathlib.Numerals.{add-one}
 use lib.ListN.{length, getD, take, drop, drop-of-length-le, length-drop, List·getD-eq-default}
 use lib.Seq.{drop-cons, take-all}
 use borrow.Author.Tests.{eq-eqb, ne-eqb, lt-ltb, le-ltb, le-leb, lt-leb}
-use Rattle.text.specs.Bytes.{Str}
+use Rattle.text.specs.Bytes.{Str, cond, either}
 use Rattle.column.specs.Number.{trimmed, digits, unpadded, within, columnOf}
 use Rattle.column.specs.Texts.{between, isDigit, isWord, isGraphic, all, sized, isName, isGraphicText, endsIn}
 use Rattle.column.specs.declared.Number.{Number}
@@ -24,6 +24,10 @@ between-below lo hi b l = rw (lt-leb lo b l)
 
 pub between-above : (lo hi b : ℕ) → lo ≤ b → hi < b → between lo hi b ≡ false
 between-above lo hi b l h = rw (le-leb lo b l, lt-leb b hi h)
+
+pub either-none : (t : Bool) → either t false ≡ t
+either-none true = refl
+either-none false = refl
 
 module _ (t : Str) (i : ℕ) (h : i < length t) where
   pub all-more : (ok : ℕ → Bool) → ok (getD t i 0) ≡ true → all ok (drop i t) ≡ all ok (drop (i + 1) t)
@@ -54,14 +58,16 @@ module _ (t : Str) (i : ℕ) (h : i < length t) where
   pub digits-over : (v : ℕ) → 48 ≤ getD t i 0 → getD t i 0 ≤ 57 → 2 ^ 64 ≤ v * 10 + (getD t i 0 - 48) → digits v (drop i t) ≡ Not
   unfolding digits
   digits-over v l g o =
-      rw (drop-cons t i 0 h, digits, le-ltb (getD t i 0) 48 l, le-ltb 57 (getD t i 0) g, le-ltb (v * 10 + (getD t i 0 - 48)) (2 ^ 64) o)
+      let b = getD t i 0 in
+      rw (drop-cons t i 0 h, digits, le-ltb b 48 l, le-ltb 57 b g, le-ltb (v * 10 + (b - 48)) (2 ^ 64) o)
 
   pub digits-more :
       (v : ℕ) → 48 ≤ getD t i 0 → getD t i 0 ≤ 57 → v * 10 + (getD t i 0 - 48) < 2 ^ 64
       → digits v (drop i t) ≡ digits (v * 10 + (getD t i 0 - 48)) (drop (i + 1) t)
   unfolding digits
   digits-more v l g o =
-      rw (add-one, drop-cons t i 0 h, digits, le-ltb (getD t i 0) 48 l, le-ltb 57 (getD t i 0) g, lt-ltb (v * 10 + (getD t i 0 - 48)) (2 ^ 64) o)
+      let b = getD t i 0 in
+      rw (add-one, drop-cons t i 0 h, digits, le-ltb b 48 l, le-ltb 57 b g, lt-ltb (v * 10 + (b - 48)) (2 ^ 64) o)
 
 pub all-end : (ok : ℕ → Bool) (t : Str) (i : ℕ) → length t ≤ i → all ok (drop i t) ≡ true
 unfolding all
@@ -132,10 +138,14 @@ module _ (t : Str) (a : ℕ) where
   none-sized most e = between-below 1 most (length (drop (a + 1) t)) (rw (length-drop (a + 1) t) (omega arith))
 
   over-sized : (most : ℕ) → a + 1 < length t → most < length t - (a + 1) → sized most (drop (a + 1) t) ≡ false
-  over-sized most l h = let n = length-drop (a + 1) t in between-above 1 most (length (drop (a + 1) t)) (omega arith) (omega arith)
+  over-sized most l h =
+      let n = length-drop (a + 1) t in
+      between-above 1 most (length (drop (a + 1) t)) (omega arith) (omega arith)
 
   well-sized : (most : ℕ) → a + 1 < length t → length t - (a + 1) ≤ most → sized most (drop (a + 1) t) ≡ true
-  well-sized most l h = let n = length-drop (a + 1) t in between-in 1 most (length (drop (a + 1) t)) (omega arith) (omega arith)
+  well-sized most l h =
+      let n = length-drop (a + 1) t in
+      between-in 1 most (length (drop (a + 1) t)) (omega arith) (omega arith)
 
   first-is : a + 1 < length t → getD (drop (a + 1) t) 0 0 ≡ getD t (a + 1) 0
   first-is l = rw (drop-cons t (a + 1) 0 l)
@@ -150,7 +160,9 @@ module _ (t : Str) (a : ℕ) where
   pub name-over : getD t a 0 ≡ 32 → a + 1 < length t → 64 < length t - (a + 1) → endsIn isName t a ≡ false
   name-over s l h = name-not s (over-sized 64 l h)
 
-  pub name-digit : getD t a 0 ≡ 32 → a + 1 < length t → length t - (a + 1) ≤ 64 → isDigit (getD t (a + 1) 0) ≡ true → endsIn isName t a ≡ false
+  pub name-digit :
+      getD t a 0 ≡ 32 → a + 1 < length t → length t - (a + 1) ≤ 64 → isDigit (getD t (a + 1) 0) ≡ true
+      → endsIn isName t a ≡ false
   unfolding isName
   name-digit s l h e = ends-text isName s ∙ rw (well-sized 64 l h, first-is l, e)
 
@@ -167,7 +179,8 @@ module _ (t : Str) (a : ℕ) where
   pub graphic-none : (most : ℕ) → getD t a 0 ≡ 32 → length t ≡ a + 1 → endsIn (isGraphicText most) t a ≡ false
   graphic-none most s h = graphic-not most s (none-sized most h)
 
-  pub graphic-over : (most : ℕ) → getD t a 0 ≡ 32 → a + 1 < length t → most < length t - (a + 1) → endsIn (isGraphicText most) t a ≡ false
+  pub graphic-over :
+      (most : ℕ) → getD t a 0 ≡ 32 → a + 1 < length t → most < length t - (a + 1) → endsIn (isGraphicText most) t a ≡ false
   graphic-over most s l h = graphic-not most s (over-sized most l h)
 
   pub graphic-is :
@@ -175,3 +188,21 @@ module _ (t : Str) (a : ℕ) where
       → endsIn (isGraphicText most) t a ≡ all isGraphic (take (length t - (a + 1)) (drop (a + 1) t))
   unfolding isGraphicText
   graphic-is most s l h = ends-text (isGraphicText most) s ∙ rw (well-sized most l h, rest-is t (a + 1))
+
+-- each byte of a name, and of a graphic text
+pub name-all : (t : Str) → isName t ≡ true → all isWord t ≡ true
+unfolding isName
+name-all t e = go (sized 64 t) (isDigit (getD t 0 0)) e
+  where
+    go : (p q : Bool) → cond p (cond q false (all isWord t)) false ≡ true → all isWord t ≡ true
+    go true false e = e
+    go true true e = cc
+    go false q e = cc
+
+pub graphic-all : (most : ℕ) (t : Str) → isGraphicText most t ≡ true → all isGraphic t ≡ true
+unfolding isGraphicText
+graphic-all most t e = go (sized most t) e
+  where
+    go : (p : Bool) → cond p (all isGraphic t) false ≡ true → all isGraphic t ≡ true
+    go true e = e
+    go false e = cc

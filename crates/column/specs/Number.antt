@@ -1,6 +1,5 @@
 -- A number in its 21 columns: right-justified with spaces, no sign, no leading zero, below 2 ^ 64. Assumes nothing.
-use mathlib.Core.Bool.{Bool, true, false}
-use mathlib.Core.List.{List, [], _∷_, _++_}
+use mathlib.Core.List.{[], _∷_, _++_}
 use Prim.Native.Nat.{ℕ, _+_, _-_, _*_, _^_}
 use lib.Dec.{eqb, ltb}
 use lib.ListN.{length, take, drop, replicate}

@@ -1,8 +1,8 @@
 -- The texts of a line, each after one space: a name, or graphic bytes. Assumes nothing.
 use mathlib.Core.Bool.{Bool, true, false}
-use mathlib.Core.List.{List, [], _∷_}
+use mathlib.Core.List.{[], _∷_}
 use Prim.Native.Nat.{ℕ, _+_}
-use lib.Dec.{eqb, ltb, leb}
+use lib.Dec.{eqb, leb}
 use lib.ListN.{length, getD, drop}
 use Rattle.text.specs.Bytes.{Str, cond, both, either}
 
@@ -14,9 +14,9 @@ between lo hi b = both (leb lo b) (leb b hi)
 abbrev pub isDigit : ℕ → Bool
 isDigit b = between 48 57 b
 
--- a digit, a letter A to Z, an underscore or a letter a to z
+-- a letter, a to z or A to Z, an underscore or a digit
 unfoldable pub isWord : ℕ → Bool
-isWord b = either (isDigit b) (either (between 65 90 b) (either (eqb b 95) (between 97 122 b)))
+isWord b = either (between 97 122 b) (either (between 65 90 b) (either (eqb b 95) (isDigit b)))
 
 -- bytes 33 to 126
 unfoldable pub isGraphic : ℕ → Bool

@@ -23,13 +23,14 @@ fn trimmed(t: &[u8]) -> &[u8]
     &t[i..]
 }
 
+// A byte as a number of 64 bits.
 fn wide(b: u8) -> u64
     ensures { λ r. ⌜ r ≡ b ⌝ }
 {
     b as u64
 }
 
-// The number of some digits.
+// The number that digits make, where it fits 64 bits. Past 1844674407370955161, ten times the number does not.
 fn digits(t: &[u8]) -> Number
     ensures { λ r. ⌜ r ≡ digits 0 (now (t .entry)) ⌝ }
 {
@@ -95,6 +96,7 @@ pub fn column(t: &[u8], a: usize, least: u64, most: u64) -> Number
     Number::Is(v)
 }
 
+// 0 to 9.
 fn is_digit(b: u8) -> bool
     ensures { λ r. ⌜ r ≡ isDigit b ⌝ }
 {
@@ -104,28 +106,23 @@ fn is_digit(b: u8) -> bool
     b <= b'9'
 }
 
-// An ASCII letter, a digit or an underscore.
+// An ASCII letter, an underscore or a digit.
 fn is_word(b: u8) -> bool
     ensures { λ r. ⌜ r ≡ isWord b ⌝ }
 {
-    if is_digit(b) {
-        return true;
+    if b'a' <= b {
+        return b <= b'z';
     }
     if b < b'A' {
-        return false;
+        return is_digit(b);
     }
     if b <= b'Z' {
         return true;
     }
-    if b == b'_' {
-        return true;
-    }
-    if b < b'a' {
-        return false;
-    }
-    b <= b'z'
+    b == b'_'
 }
 
+// Whether each byte is a letter, an underscore or a digit.
 fn all_word(t: &[u8]) -> bool
     ensures { λ r. ⌜ r ≡ all isWord (now (t .entry)) ⌝ }
 {
@@ -139,6 +136,7 @@ fn all_word(t: &[u8]) -> bool
     true
 }
 
+// A byte from 33 to 126.
 fn is_graphic(b: u8) -> bool
     ensures { λ r. ⌜ r ≡ isGraphic b ⌝ }
 {
@@ -148,6 +146,7 @@ fn is_graphic(b: u8) -> bool
     b <= 126
 }
 
+// Whether each byte is graphic.
 fn all_graphic(t: &[u8]) -> bool
     ensures { λ r. ⌜ r ≡ all isGraphic (now (t .entry)) ⌝ }
 {

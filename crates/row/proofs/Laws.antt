@@ -12,7 +12,7 @@ use lib.Seq.{drop-cons, drop-drop, take-suc, take-all, take-take, take-nil, leng
 use lib.Dec.{eqb}
 use borrow.Author.Tests.{eq-eqb, ne-eqb}
 use Rattle.text.specs.Bytes.{Str, cond, unit}
-use Rattle.row.specs.Rows.{rowLen, onto, rows, restOf, newlines, size, lineNo}
+use Rattle.row.specs.Rows.{rowLen, onto, rows, joined, restOf, newlines, size, lineNo}
 use Rattle.row.specs.Line.{reader, badLine, lineOf, lineAt, textStart, textOf, textAt}
 
 -- where a row goes on and where it ends
@@ -86,14 +86,19 @@ rows-split b (x ∷ s) = by-test (rows-split x s) (eqb b 10) refl
 
 -- the row at a position inside the sheet: where it ends, and the rows from it on
 module _ (s : Str) (at e : ℕ) (h : at < length s) (is : e ≡ at + rowLen (drop at s)) where
-  pub row-starts : at < e
+  row-starts : at < e
   row-starts = omega (arith, rowLen-some (drop at s) (rw (length-drop at s) (omega arith)))
 
-  pub row-ends : e ≤ length s
+  row-ends : e ≤ length s
   row-ends = omega (arith, rowLen-le (drop at s), length-drop at s)
 
+  pub row-bounds : (at < e) × (e ≤ length s)
+  row-bounds = (row-starts, row-ends)
+
   pub rows-at : rows (drop at s) ≡ take (e - at) (drop at s) ∷ rows (drop e s)
-  rows-at = rw (is, add-sub-cancel-left at (rowLen (drop at s)), ← drop-drop (rowLen (drop at s)) at s, drop-cons s at 0 h) (rows-split (getD s at 0) (drop (suc at) s))
+  rows-at =
+      rw (is, add-sub-cancel-left at (rowLen (drop at s)), ← drop-drop (rowLen (drop at s)) at s, drop-cons s at 0 h)
+      (rows-split (getD s at 0) (drop (suc at) s))
 
 pub rows-out : (s : Str) (at : ℕ) → length s ≤ at → rows (drop at s) ≡ []
 unfolding rows
@@ -119,6 +124,32 @@ size-rows (b ∷ s) = go (size-rows s) (eqb b 10) refl
     go h true e = rw (rows, e) (omega (arith, h))
     go h false e = rw (rows, e) (size-onto b (rows s) ∙ ap suc h)
 
+-- rows joined are the bytes again
+pub joined-rows : (s : Str) → joined (rows s) ≡ s
+unfolding joined rows onto
+joined-rows [] = refl
+joined-rows (b ∷ s) = go (joined-rows s) (eqb b 10) refl
+  where
+    onto-joined : (rs : List Str) → joined (onto b rs) ≡ b ∷ joined rs
+    onto-joined [] = refl
+    onto-joined (r ∷ rs) = refl
+
+    go : joined (rows s) ≡ s → (t : Bool) → eqb b 10 ≡ t → joined (rows (b ∷ s)) ≡ b ∷ s
+    go h true e = rw (rows, e) (ap (λ (r : Str). b ∷ r) h)
+    go h false e = rw (rows, e) (onto-joined (rows s) ∙ ap (λ (r : Str). b ∷ r) h)
+
+-- a line that ends in its only byte 10 is the first row of what it stands in front of
+pub rows-line : (s rest : Str) → newlines s ≡ 0 → rows ((s ++ unit 10) ++ rest) ≡ (s ++ unit 10) ∷ rows rest
+unfolding rows newlines onto
+rows-line [] rest h = refl
+rows-line (b ∷ s) rest h = go (rows-line s rest) (eqb b 10) refl
+  where
+    go :
+        (newlines s ≡ 0 → rows ((s ++ unit 10) ++ rest) ≡ (s ++ unit 10) ∷ rows rest) → (t : Bool) → eqb b 10 ≡ t
+        → rows (b ∷ ((s ++ unit 10) ++ rest)) ≡ (b ∷ (s ++ unit 10)) ∷ rows rest
+    go f true e = let z = rw (newlines, e) at h in let y : ⊥ = omega arith in absurd y
+    go f false e = rw (rows, e) (ap (onto b) (f (rw (newlines, e) at h)))
+
 pub lineNo-at : (s : Str) (at : ℕ) → lineNo s (rows (drop at s)) ≡ suc (newlines (take at s))
 unfolding lineNo
 lineNo-at s at = rw (size-rows (drop at s), length-drop at s) (go (decLe at (length s)))
@@ -131,22 +162,26 @@ lineNo-at s at = rw (size-rows (drop at s), length-drop at s) (go (decLe at (len
         let k : length s ≤ length s = omega arith in
         rw (e, take-all at s g, take-all (length s) s k)
 
-newlines-end : (t : Str) (b : ℕ) → newlines (t ++ (b ∷ [])) ≡ newlines t + newlines (b ∷ [])
+pub newlines-append : (s t : Str) → newlines (s ++ t) ≡ newlines s + newlines t
 unfolding newlines
-newlines-end [] b = sym (zero-add (newlines (b ∷ [])))
-newlines-end (x ∷ t) b = go (newlines-end t b) (eqb x 10) refl
+newlines-append [] t = sym (zero-add (newlines t))
+newlines-append (x ∷ s) t = go (newlines-append s t) (eqb x 10) refl
   where
-    go : newlines (t ++ (b ∷ [])) ≡ newlines t + newlines (b ∷ []) → (v : Bool) → eqb x 10 ≡ v → newlines (x ∷ (t ++ (b ∷ []))) ≡ newlines (x ∷ t) + newlines (b ∷ [])
-    go h true e = rw (newlines, e) (ap suc h ∙ sym (suc-add (newlines t) (newlines (b ∷ []))))
+    go :
+        newlines (s ++ t) ≡ newlines s + newlines t → (v : Bool) → eqb x 10 ≡ v
+        → newlines (x ∷ (s ++ t)) ≡ newlines (x ∷ s) + newlines t
+    go h true e = rw (newlines, e) (ap suc h ∙ sym (suc-add (newlines s) (newlines t)))
     go h false e = rw (newlines, e) h
 
 pub newline-here : (s : Str) (i : ℕ) → i < length s → getD s i 0 ≡ 10 → newlines (take (i + 1) s) ≡ newlines (take i s) + 1
 unfolding newlines
-newline-here s i h e = rw (add-one, take-suc s i 0 h, newlines-end (take i s) (getD s i 0), e)
+newline-here s i h e = rw (add-one, take-suc s i 0 h, newlines-append (take i s) (unit (getD s i 0)), e)
 
 pub newline-not : (s : Str) (i : ℕ) → i < length s → (getD s i 0 ≡ 10 → ⊥) → newlines (take (i + 1) s) ≡ newlines (take i s)
 unfolding newlines
-newline-not s i h e = rw (add-one, take-suc s i 0 h, newlines-end (take i s) (getD s i 0), newlines, ne-eqb (getD s i 0) 10 e) (omega arith)
+newline-not s i h e =
+    rw (add-one, take-suc s i 0 h, newlines-append (take i s) (unit (getD s i 0)), newlines, ne-eqb (getD s i 0) 10 e)
+    (omega arith)
 
 drop-take : (m n : ℕ) (l : Str) → drop m (take n l) ≡ take (n - m) (drop m l)
 drop-take zero n l = rw (sub-zero n)
@@ -191,7 +226,9 @@ module _ (s : Str) (at e : ℕ) (lo : at < e) (hi : e ≤ length s) where
 
 -- what the row at a position says, by its last byte, and its text
 module _ (s : Str) (at e : ℕ) (h : at < length s) (is : e ≡ at + rowLen (drop at s)) where
-  pub said : lineAt (rows (drop at s)) ≡ cond (eqb (getD s (e - 1) 0) 10) (reader (getD s at 0)) badLine (take (e - 1 - at) (drop at s))
+  pub said :
+      lineAt (rows (drop at s))
+      ≡ cond (eqb (getD s (e - 1) 0) 10) (reader (getD s at 0)) badLine (take (e - 1 - at) (drop at s))
   unfolding lineAt
   said = rw (rows-at s at e h is) (line-row s at e (row-starts s at e h is) (row-ends s at e h is))
 

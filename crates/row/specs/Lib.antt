@@ -1,3 +1,4 @@
 pub mod Rows
 pub mod Line
 pub mod Print
+pub mod Examples

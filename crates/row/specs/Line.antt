@@ -1,4 +1,5 @@
--- What a row says: a letter, its numbers in 21 columns each, one space and a text where one belongs, then byte 10. Assumes nothing.
+-- What a row says: a letter, its numbers in 21 columns each, one space and a text where one belongs, then byte 10.
+-- Assumes nothing.
 use mathlib.Core.List.{List, [], _∷_}
 use Prim.Native.Nat.{ℕ, _-_}
 use Prim.Native.Char.{code}

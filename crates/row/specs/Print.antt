@@ -1,9 +1,14 @@
 -- A line printed from its numbers and its text: the row's bytes, with its byte 10. Assumes nothing.
+use mathlib.Core.Path.{_≡_}
+use mathlib.Core.Bool.{true}
 use mathlib.Core.List.{List, [], _∷_, _++_}
-use Prim.Native.Nat.{ℕ}
+use Prim.Native.Nat.{ℕ, _≤_}
 use Rattle.text.specs.Bytes.{Str, unit}
-use Rattle.column.specs.Number.{padded}
-use Rattle.row.specs.Line.{byte}
+use Rattle.column.specs.Number.{most, padded}
+use Rattle.column.specs.Texts.{isName, isGraphicText}
+use Rattle.row.specs.Line.{byte, mostA, mostB, mostC, mostCount, mostBits}
+use Rattle.row.specs.declared.Line.{Line}
+use Rattle.row.specs.declared.Line.the-variants.{Root, Node, Parameter, Field, Group, Typ, Scope, Unbound, Value, Word, Bad}
 
 -- numbers, each in its columns, and what stands after them
 unfoldable pub columns : List ℕ → Str → Str
@@ -49,3 +54,33 @@ printValue kind bits = rowText (byte "V") (kind ∷ bits ∷ []) []
 
 abbrev pub printWord : ℕ → Str
 printWord value = rowText (byte "W") (value ∷ []) []
+
+-- a line with its text, printed
+abbrev pub printLine : Line → Str → Str
+printLine Root text = printRoot text
+printLine (Node i p s x g c o) text = printNode i p s x g c o text
+printLine Parameter text = printParameter text
+printLine (Field o d e p) text = printField o d e p text
+printLine (Group i d) text = printGroup i d text
+printLine (Typ k a b c) text = printType k a b c
+printLine (Scope i b n) text = printScope i b n
+printLine Unbound text = printUnbound
+printLine (Value k b) text = printValue k b
+printLine (Word v) text = printWord v
+printLine Bad text = []
+
+-- document 01's bounds for a line and its text; a line without a text has an empty one
+abbrev pub Fits : Line → Str → Type 0
+Fits Root text = isGraphicText 64 text ≡ true
+Fits (Node i p s x g c o) text =
+    ((1 ≤ i) × (i ≤ most 64)) × (p ≤ most 64) × (s ≤ most 64) × (x ≤ 1) × (g ≤ 1) × (c ≤ most 16) × (o ≤ most 32)
+    × (isGraphicText 128 text ≡ true)
+Fits Parameter text = isName text ≡ true
+Fits (Field o d e p) text = (o ≤ most 32) × (d ≤ most 16) × (e ≤ 1) × (p ≤ 1) × (isName text ≡ true)
+Fits (Group i d) text = ((1 ≤ i) × (i ≤ most 64)) × (d ≤ most 16) × (isName text ≡ true)
+Fits (Typ k a b c) text = (k ≤ 18) × (a ≤ mostA k) × (b ≤ mostB k a) × (c ≤ mostC k a) × (text ≡ [])
+Fits (Scope i b n) text = (i ≤ most 64) × (b ≤ 1) × (n ≤ mostCount b) × (text ≡ [])
+Fits Unbound text = text ≡ []
+Fits (Value k b) text = (k ≤ 18) × (b ≤ mostBits k) × (text ≡ [])
+Fits (Word v) text = (v ≤ most 64) × (text ≡ [])
+Fits Bad text = ⊥

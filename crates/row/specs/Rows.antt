@@ -1,7 +1,7 @@
 -- The rows of a sheet. A row is the bytes up to and with the next byte 10; a last row may lack it. Assumes nothing.
 use mathlib.Core.Bool.{true, false}
-use mathlib.Core.List.{List, [], _∷_}
-use Prim.Native.Nat.{ℕ, zero, suc, _+_, _-_}
+use mathlib.Core.List.{List, [], _∷_, _++_}
+use Prim.Native.Nat.{ℕ, suc, _+_, _-_}
 use lib.Dec.{eqb}
 use lib.ListN.{length, take}
 use Rattle.text.specs.Bytes.{Str, unit}
@@ -19,6 +19,11 @@ onto b (r ∷ rs) = (b ∷ r) ∷ rs
 unfoldable pub rows : Str → List Str
 rows [] = []
 rows (b ∷ s) = elim (eqb b 10) [ true ↦ unit b ∷ rows s | false ↦ onto b (rows s) ]
+
+-- the bytes of rows
+unfoldable pub joined : List Str → Str
+joined [] = []
+joined (r ∷ rs) = r ++ joined rs
 
 -- the rows from the second on
 unfoldable pub restOf : List Str → List Str

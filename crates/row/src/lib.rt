@@ -4,8 +4,9 @@ ghost use mathlib.Core.Path.{_≡_};
 ghost use Prim.Native.Nat.{_+_};
 ghost use lib.ListN.{drop};
 ghost use Rattle.row.specs.Rows.{rowLen, rows, restOf, lineNo};
-ghost use Rattle.row.specs.Line.{mostA, mostB, mostC, mostCount, mostBits, rootLine, nodeLine, parameterLine, fieldLine, groupLine};
-ghost use Rattle.row.specs.Line.{typeLine, scopeLine, unboundLine, valueLine, wordLine, reader, lineAt, textStart, textAt};
+ghost use Rattle.row.specs.Line.{rootLine, nodeLine, parameterLine, fieldLine, groupLine};
+ghost use Rattle.row.specs.Line.{typeLine, scopeLine, unboundLine, valueLine, wordLine};
+ghost use Rattle.row.specs.Line.{mostA, mostB, mostC, mostCount, mostBits, reader, lineAt, textStart, textAt};
 
 // The greatest numbers of 64, 32 and 16 bits.
 const MOST_64: u64 = 0xffff_ffff_ffff_ffff;
@@ -14,8 +15,8 @@ const MOST_32: u64 = 0xffff_ffff;
 
 const MOST_16: u64 = 0xffff;
 
-// The greatest bits of a value of each kind: Void, Bool, Int8 to Int64, Uint8 to Uint64, Float32, Float64, Text, Data, List, Enum,
-// Struct, Interface, AnyPointer.
+// The greatest bits of a value of each kind: Void, Bool, Int8 to Int64, Uint8 to Uint64, Float32, Float64, Text, Data, List,
+// Enum, Struct, Interface, AnyPointer.
 const MOST_BITS: [u64; 19] = [
     0,
     1,
@@ -114,6 +115,7 @@ pub fn row_end(s: &[u8], from: usize) -> usize
     i
 }
 
+// R: the root, 1 to 64 graphic bytes.
 fn root_line(t: &[u8]) -> Line
     ensures { λ r. ⌜ r ≡ rootLine (now (t .entry)) ⌝ }
 {
@@ -123,6 +125,7 @@ fn root_line(t: &[u8]) -> Line
     Line::Root
 }
 
+// N: seven numbers and the module, 1 to 128 graphic bytes.
 fn node_line(t: &[u8]) -> Line
     ensures { λ r. ⌜ r ≡ nodeLine (now (t .entry)) ⌝ }
 {
@@ -161,6 +164,7 @@ fn node_line(t: &[u8]) -> Line
     }
 }
 
+// P: the parameter's name.
 fn parameter_line(t: &[u8]) -> Line
     ensures { λ r. ⌜ r ≡ parameterLine (now (t .entry)) ⌝ }
 {
@@ -170,6 +174,7 @@ fn parameter_line(t: &[u8]) -> Line
     Line::Parameter
 }
 
+// F: four numbers and the field's name.
 fn field_line(t: &[u8]) -> Line
     ensures { λ r. ⌜ r ≡ fieldLine (now (t .entry)) ⌝ }
 {
@@ -196,6 +201,7 @@ fn field_line(t: &[u8]) -> Line
     }
 }
 
+// G: the group's id, the discriminant and the field's name.
 fn group_line(t: &[u8]) -> Line
     ensures { λ r. ⌜ r ≡ groupLine (now (t .entry)) ⌝ }
 {
@@ -253,6 +259,7 @@ fn most_c(kind: u64, a: u64) -> u64
     MOST_16
 }
 
+// T: the kind, and what it allows for a, b and c.
 fn type_line(t: &[u8]) -> Line
     ensures { λ r. ⌜ r ≡ typeLine (now (t .entry)) ⌝ }
 {
@@ -284,6 +291,7 @@ fn most_count(bind: u64) -> u64
     MOST_64
 }
 
+// S: the scope id, whether it binds, and how many bindings follow.
 fn scope_line(t: &[u8]) -> Line
     ensures { λ r. ⌜ r ≡ scopeLine (now (t .entry)) ⌝ }
 {
@@ -302,6 +310,7 @@ fn scope_line(t: &[u8]) -> Line
     Line::Scope { id, bind, count }
 }
 
+// U: the letter alone.
 fn unbound_line(t: &[u8]) -> Line
     ensures { λ r. ⌜ r ≡ unboundLine (now (t .entry)) ⌝ }
 {
@@ -322,6 +331,7 @@ fn most_bits(kind: u64) -> u64
     0
 }
 
+// V: the kind, and bits that fit its width.
 fn value_line(t: &[u8]) -> Line
     ensures { λ r. ⌜ r ≡ valueLine (now (t .entry)) ⌝ }
 {
@@ -337,6 +347,7 @@ fn value_line(t: &[u8]) -> Line
     Line::Value { kind, bits }
 }
 
+// W: one number.
 fn word_line(t: &[u8]) -> Line
     ensures { λ r. ⌜ r ≡ wordLine (now (t .entry)) ⌝ }
 {
@@ -386,8 +397,10 @@ fn read(letter: u8, t: &[u8]) -> Line
     Line::Bad
 }
 
+// The row at a position; past the end stands a bad line, and no row follows.
 pub fn next(s: &[u8], at: usize) -> Got
-    ensures { λ r. ⌜ (r .line ≡ lineAt (rows (drop at (now (s .entry))))) × (rows (drop (r .next) (now (s .entry))) ≡ restOf (rows (drop at (now (s .entry))))) ⌝ }
+    ensures { λ r. ⌜ r .line ≡ lineAt (rows (drop at (now (s .entry)))) ⌝ }
+    ensures { λ r. ⌜ rows (drop (r .next) (now (s .entry))) ≡ restOf (rows (drop at (now (s .entry)))) ⌝ }
 {
     if s.len() <= at {
         return Got {

@@ -1,11 +1,15 @@
 -- Decimal text by its last digit: any fuel from the number on will do. Assumes nothing.
 use mathlib.Core.Path.{_≡_, refl, sym, ap, _∙_}
 use mathlib.Core.Bool.{Bool, true, false}
-use mathlib.Core.List.{List, _++_}
-use Prim.Native.Nat.{ℕ, zero, suc, _+_, _-_, _/_, _%_, _≤_, _<_}
+use mathlib.Core.List.{List, _++_, append-assoc}
+use Prim.Native.Nat.{ℕ, zero, suc, _+_, _-_, _*_, _/_, _%_, _^_, _≤_, _<_}
+use native.Mathlib.Nat.{pow-suc, div-lt-iff-lt-mul}
+use native.Mathlib.Numerals.{add-one}
 use native.Mathlib.Omega.{arith}
 use borrow.Author.Tests.{lt-ltb, le-ltb, ltb-true, ltb-false}
-use lib.Dec.{ltb}
+use lib.Dec.{ltb, lit<}
+use lib.ListN.{length, drop, set, length-set}
+use lib.Seq.{drop-cons, getD-set-same, drop-set-lt}
 use Rattle.text.specs.Bytes.{unit}
 use Rattle.text.specs.Decimal.{digits, decimal, signed}
 
@@ -22,7 +26,8 @@ fuel zero m n h g = sym (digits-low m n (omega arith))
 fuel (suc k) zero n h g = digits-low (suc k) n (omega arith)
 fuel (suc k) (suc m) n h g = go (fuel k m (n / 10)) (ltb n 10) refl
   where
-    go : (n / 10 ≤ k → n / 10 ≤ m → digits k (n / 10) ≡ digits m (n / 10)) → (b : Bool) → ltb n 10 ≡ b → digits (suc k) n ≡ digits (suc m) n
+    go : (n / 10 ≤ k → n / 10 ≤ m → digits k (n / 10) ≡ digits m (n / 10)) → (b : Bool) → ltb n 10 ≡ b
+        → digits (suc k) n ≡ digits (suc m) n
     go f true e = digits-low (suc k) n (ltb-true n 10 e) ∙ sym (digits-low (suc m) n (ltb-true n 10 e))
     go f false e =
         let l = ltb-false n 10 e in
@@ -45,3 +50,31 @@ signed-low half n h = rw (lt-ltb _ _ h, signed)
 pub signed-high : (half n : ℕ) → half ≤ n → signed half n ≡ unit 45 ++ decimal (half + half - n)
 unfolding signed
 signed-high half n h = rw (le-ltb _ _ h, signed)
+
+-- Digits found from the last one on: ds holds those found from place i + 1 on, and left is the number that is left to write.
+
+-- a number of two digits or more has one digit fewer without its last
+pub fewer : (i left : ℕ) → 10 ≤ left → left < 10 ^ (i + 1) → (1 ≤ i) × (left / 10 < 10 ^ (i - 1 + 1))
+fewer zero left h g = let z : ⊥ = omega arith in absurd z
+fewer (suc i) left h g =
+    let e : suc i - 1 + 1 ≡ suc i = omega arith in
+    let f : 10 ^ (suc i + 1) ≡ 10 ^ suc i * 10 = rw add-one (pow-suc 10 (suc i)) in
+    (omega arith, rw e (div-lt-iff-lt-mul (lit< tt) .1 (rw f at g)))
+
+-- the list from a place on, once that place is set
+found : (ds : List ℕ) (i d : ℕ) → i < length ds → drop i (set ds i d) ≡ unit d ++ drop (i + 1) ds
+found ds i d h =
+    drop-cons (set ds i d) i 0 (rw length-set h)
+    ∙ rw (getD-set-same ds i d 0 h, drop-set-lt (suc i) ds i d (omega arith), add-one)
+
+pub last-digit : (n left i : ℕ) (ds : List ℕ) → i < length ds → 1 ≤ i → 10 ≤ left
+    → decimal n ≡ decimal left ++ drop (i + 1) ds
+    → decimal n ≡ decimal (left / 10) ++ drop (i - 1 + 1) (set ds i (48 + left % 10))
+last-digit n left i ds h g k e =
+    let f : i - 1 + 1 ≡ i = omega arith in
+    rw (f, found ds i (48 + left % 10) h)
+    (e ∙ rw (decimal-high left k) (append-assoc (decimal (left / 10)) (unit (48 + left % 10)) (drop (i + 1) ds)))
+
+pub first-digit : (n left i : ℕ) (ds : List ℕ) → i < length ds → left < 10
+    → decimal n ≡ decimal left ++ drop (i + 1) ds → decimal n ≡ drop i (set ds i (48 + left))
+first-digit n left i ds h k e = rw (found ds i (48 + left) h) (e ∙ rw (decimal-low left k))

@@ -1,8 +1,11 @@
 -- Laws of writing: one text after another, lengths, and what is left of a loop's text. By induction on the text. Assumes nothing.
 use mathlib.Core.Path.{_≡_, refl, sym, _∙_}
 use mathlib.Core.List.{List, [], _∷_, _++_}
-use Prim.Native.Nat.{ℕ}
-use lib.ListN.{set, length, length-set}
+use Prim.Native.Nat.{ℕ, _+_, _<_}
+use native.Mathlib.Numerals.{add-one}
+use lib.ListN.{set, length, drop, getD, length-set}
+use lib.Seq.{drop-cons}
+use Rattle.text.specs.Bytes.{unit}
 use Rattle.text.specs.Text.{next, adv, put, Wrote}
 use Rattle.text.specs.declared.Text.{Text}
 
@@ -23,7 +26,8 @@ length-put l t [] = refl
 length-put l t (x ∷ a) = length-put (set l (t .at) x) (next t) a ∙ length-set l (t .at) x
 
 -- one text after another
-pub _⨾_ : {l : List ℕ} {t : Text} {a l₁ : List ℕ} {t₁ : Text} {b l₂ : List ℕ} {t₂ : Text} → Wrote l t a l₁ t₁ → Wrote l₁ t₁ b l₂ t₂ → Wrote l t (a ++ b) l₂ t₂
+pub _⨾_ : {l : List ℕ} {t : Text} {a l₁ : List ℕ} {t₁ : Text} {b l₂ : List ℕ} {t₂ : Text} → Wrote l t a l₁ t₁
+    → Wrote l₁ t₁ b l₂ t₂ → Wrote l t (a ++ b) l₂ t₂
 e ⨾ f = record {
   bytes = rw put-append (rw (← e .bytes, ← e .state) (f .bytes));
   state = rw adv-append (rw (← e .state) (f .state));
@@ -41,11 +45,16 @@ pub record Left (l : List ℕ) (t : Text) (s l₀ : List ℕ) (t₀ : Text) (s�
 pub left-all : {l : List ℕ} {t : Text} {s : List ℕ} → Left l t s l t s
 left-all = record { bytes = refl; state = refl }
 
-pub left-more : {l : List ℕ} {t : Text} {a b l₀ : List ℕ} {t₀ : Text} {s₀ l₁ : List ℕ} {t₁ : Text} → Left l t (a ++ b) l₀ t₀ s₀ → Wrote l t a l₁ t₁ → Left l₁ t₁ b l₀ t₀ s₀
+pub left-more : {l : List ℕ} {t : Text} {a b l₀ : List ℕ} {t₀ : Text} {s₀ l₁ : List ℕ} {t₁ : Text} → Left l t (a ++ b) l₀ t₀ s₀
+    → Wrote l t a l₁ t₁ → Left l₁ t₁ b l₀ t₀ s₀
 left-more {l} {t} {a} {b} f e = record {
   bytes = rw (e .bytes, e .state) (sym (put-append l t a b) ∙ f .bytes);
   state = rw (e .state) (sym (adv-append t a b) ∙ f .state);
 }
+
+-- a loop's turn: what is left of s from i on is its byte at i and what is left from i + 1 on
+pub drop-unit : (i : ℕ) (s : List ℕ) → i < length s → drop i s ≡ unit (getD s i 0) ++ drop (i + 1) s
+drop-unit i s h = rw (add-one, drop-cons s i 0)
 
 pub left-none : {l : List ℕ} {t : Text} {l₀ : List ℕ} {t₀ : Text} {s₀ : List ℕ} → Left l t [] l₀ t₀ s₀ → Wrote l₀ t₀ s₀ l t
 unfolding put adv

@@ -5,9 +5,13 @@ use Prim.Native.Nat.{ℕ, _+_, _-_, _^_, min}
 use lib.ListN.{set}
 use Rattle.text.specs.declared.Text.{Text}
 
+-- the state at a fill count
+abbrev pub textAt : ℕ → Text
+textAt n = record { at = n }
+
 -- one place on; a count stops at the largest usize
 unfoldable pub next : Text → Text
-next t = record { at = min (t .at + 1) (2 ^ 64 - 1) }
+next t = textAt (min (t .at + 1) (2 ^ 64 - 1))
 
 -- the state after a text
 unfoldable pub adv : Text → List ℕ → Text

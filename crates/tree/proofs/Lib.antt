@@ -1,3 +1,6 @@
 pub mod OtherLines
 pub mod WalkLaws
 pub mod SlotLaws
+pub mod TailLaws
+pub mod FieldLaws
+pub mod NodeLaws

@@ -1,16 +1,20 @@
 -- A line of one letter is no line of another: where a `match` leaves a letter out, its reader takes the other way.
 -- Assumes nothing.
 use mathlib.Core.Path.{_≡_, refl}
+use mathlib.Core.Bool.{false}
 use mathlib.Core.List.{[], _∷_}
 use Prim.Native.Nat.{ℕ}
+use native.Mathlib.Omega.{arith}
 use types.Run.{OneOf, miss}
 use denote.Enum.Declared.{tagOf}
 use Rattle.row.proofs.Line.{the-type}
 use Rattle.row.specs.Line.{asRoot, asNode, asParameter, asField, asGroup, asType, asScope, asUnbound, asValue, asWord}
+use Rattle.tree.specs.Read.{isField}
 use Rattle.row.specs.declared.Line.{Line}
 use Rattle.row.specs.declared.Line.the-variants.{Root, Node, Parameter, Field, Group, Typ, Scope, Unbound, Value, Word, Bad}
 
-pub not-root : {A : Type 0} (l : Line) (y : A) (z : A) → OneOf (1 ∷ 2 ∷ 3 ∷ 4 ∷ 5 ∷ 6 ∷ 7 ∷ 8 ∷ 9 ∷ 10 ∷ []) (tagOf the-type l) → asRoot l y z ≡ z
+pub not-root : {A : Type 0} (l : Line) (y : A) (z : A) → OneOf (1 ∷ 2 ∷ 3 ∷ 4 ∷ 5 ∷ 6 ∷ 7 ∷ 8 ∷ 9 ∷ 10 ∷ [])
+    (tagOf the-type l) → asRoot l y z ≡ z
 not-root Root y z h = absurd (miss (1 ∷ 2 ∷ 3 ∷ 4 ∷ 5 ∷ 6 ∷ 7 ∷ 8 ∷ 9 ∷ 10 ∷ []) 0 tt h)
 not-root (Node a b c d e f g) y z h = refl
 not-root Parameter y z h = refl
@@ -23,7 +27,8 @@ not-root (Value a b) y z h = refl
 not-root (Word a) y z h = refl
 not-root Bad y z h = refl
 
-pub not-node : {A : Type 0} (l : Line) (y : (ℕ → ℕ → ℕ → ℕ → ℕ → ℕ → ℕ → A)) (z : A) → OneOf (0 ∷ 2 ∷ 3 ∷ 4 ∷ 5 ∷ 6 ∷ 7 ∷ 8 ∷ 9 ∷ 10 ∷ []) (tagOf the-type l) → asNode l y z ≡ z
+pub not-node : {A : Type 0} (l : Line) (y : (ℕ → ℕ → ℕ → ℕ → ℕ → ℕ → ℕ → A)) (z : A) → OneOf
+    (0 ∷ 2 ∷ 3 ∷ 4 ∷ 5 ∷ 6 ∷ 7 ∷ 8 ∷ 9 ∷ 10 ∷ []) (tagOf the-type l) → asNode l y z ≡ z
 not-node Root y z h = refl
 not-node (Node a b c d e f g) y z h = absurd (miss (0 ∷ 2 ∷ 3 ∷ 4 ∷ 5 ∷ 6 ∷ 7 ∷ 8 ∷ 9 ∷ 10 ∷ []) 1 tt h)
 not-node Parameter y z h = refl
@@ -36,7 +41,8 @@ not-node (Value a b) y z h = refl
 not-node (Word a) y z h = refl
 not-node Bad y z h = refl
 
-pub not-parameter : {A : Type 0} (l : Line) (y : A) (z : A) → OneOf (0 ∷ 1 ∷ 3 ∷ 4 ∷ 5 ∷ 6 ∷ 7 ∷ 8 ∷ 9 ∷ 10 ∷ []) (tagOf the-type l) → asParameter l y z ≡ z
+pub not-parameter : {A : Type 0} (l : Line) (y : A) (z : A) → OneOf (0 ∷ 1 ∷ 3 ∷ 4 ∷ 5 ∷ 6 ∷ 7 ∷ 8 ∷ 9 ∷ 10 ∷ [])
+    (tagOf the-type l) → asParameter l y z ≡ z
 not-parameter Root y z h = refl
 not-parameter (Node a b c d e f g) y z h = refl
 not-parameter Parameter y z h = absurd (miss (0 ∷ 1 ∷ 3 ∷ 4 ∷ 5 ∷ 6 ∷ 7 ∷ 8 ∷ 9 ∷ 10 ∷ []) 2 tt h)
@@ -49,7 +55,8 @@ not-parameter (Value a b) y z h = refl
 not-parameter (Word a) y z h = refl
 not-parameter Bad y z h = refl
 
-pub not-field : {A : Type 0} (l : Line) (y : (ℕ → ℕ → ℕ → ℕ → A)) (z : A) → OneOf (0 ∷ 1 ∷ 2 ∷ 4 ∷ 5 ∷ 6 ∷ 7 ∷ 8 ∷ 9 ∷ 10 ∷ []) (tagOf the-type l) → asField l y z ≡ z
+pub not-field : {A : Type 0} (l : Line) (y : (ℕ → ℕ → ℕ → ℕ → A)) (z : A) → OneOf
+    (0 ∷ 1 ∷ 2 ∷ 4 ∷ 5 ∷ 6 ∷ 7 ∷ 8 ∷ 9 ∷ 10 ∷ []) (tagOf the-type l) → asField l y z ≡ z
 not-field Root y z h = refl
 not-field (Node a b c d e f g) y z h = refl
 not-field Parameter y z h = refl
@@ -62,7 +69,8 @@ not-field (Value a b) y z h = refl
 not-field (Word a) y z h = refl
 not-field Bad y z h = refl
 
-pub not-group : {A : Type 0} (l : Line) (y : (ℕ → ℕ → A)) (z : A) → OneOf (0 ∷ 1 ∷ 2 ∷ 3 ∷ 5 ∷ 6 ∷ 7 ∷ 8 ∷ 9 ∷ 10 ∷ []) (tagOf the-type l) → asGroup l y z ≡ z
+pub not-group : {A : Type 0} (l : Line) (y : (ℕ → ℕ → A)) (z : A) → OneOf (0 ∷ 1 ∷ 2 ∷ 3 ∷ 5 ∷ 6 ∷ 7 ∷ 8 ∷ 9 ∷ 10 ∷ [])
+    (tagOf the-type l) → asGroup l y z ≡ z
 not-group Root y z h = refl
 not-group (Node a b c d e f g) y z h = refl
 not-group Parameter y z h = refl
@@ -75,7 +83,8 @@ not-group (Value a b) y z h = refl
 not-group (Word a) y z h = refl
 not-group Bad y z h = refl
 
-pub not-type : {A : Type 0} (l : Line) (y : (ℕ → ℕ → ℕ → ℕ → A)) (z : A) → OneOf (0 ∷ 1 ∷ 2 ∷ 3 ∷ 4 ∷ 6 ∷ 7 ∷ 8 ∷ 9 ∷ 10 ∷ []) (tagOf the-type l) → asType l y z ≡ z
+pub not-type : {A : Type 0} (l : Line) (y : (ℕ → ℕ → ℕ → ℕ → A)) (z : A) → OneOf (0 ∷ 1 ∷ 2 ∷ 3 ∷ 4 ∷ 6 ∷ 7 ∷ 8 ∷ 9 ∷ 10 ∷ [])
+    (tagOf the-type l) → asType l y z ≡ z
 not-type Root y z h = refl
 not-type (Node a b c d e f g) y z h = refl
 not-type Parameter y z h = refl
@@ -88,7 +97,8 @@ not-type (Value a b) y z h = refl
 not-type (Word a) y z h = refl
 not-type Bad y z h = refl
 
-pub not-scope : {A : Type 0} (l : Line) (y : (ℕ → ℕ → ℕ → A)) (z : A) → OneOf (0 ∷ 1 ∷ 2 ∷ 3 ∷ 4 ∷ 5 ∷ 7 ∷ 8 ∷ 9 ∷ 10 ∷ []) (tagOf the-type l) → asScope l y z ≡ z
+pub not-scope : {A : Type 0} (l : Line) (y : (ℕ → ℕ → ℕ → A)) (z : A) → OneOf (0 ∷ 1 ∷ 2 ∷ 3 ∷ 4 ∷ 5 ∷ 7 ∷ 8 ∷ 9 ∷ 10 ∷ [])
+    (tagOf the-type l) → asScope l y z ≡ z
 not-scope Root y z h = refl
 not-scope (Node a b c d e f g) y z h = refl
 not-scope Parameter y z h = refl
@@ -101,7 +111,8 @@ not-scope (Value a b) y z h = refl
 not-scope (Word a) y z h = refl
 not-scope Bad y z h = refl
 
-pub not-unbound : {A : Type 0} (l : Line) (y : A) (z : A) → OneOf (0 ∷ 1 ∷ 2 ∷ 3 ∷ 4 ∷ 5 ∷ 6 ∷ 8 ∷ 9 ∷ 10 ∷ []) (tagOf the-type l) → asUnbound l y z ≡ z
+pub not-unbound : {A : Type 0} (l : Line) (y : A) (z : A) → OneOf (0 ∷ 1 ∷ 2 ∷ 3 ∷ 4 ∷ 5 ∷ 6 ∷ 8 ∷ 9 ∷ 10 ∷ [])
+    (tagOf the-type l) → asUnbound l y z ≡ z
 not-unbound Root y z h = refl
 not-unbound (Node a b c d e f g) y z h = refl
 not-unbound Parameter y z h = refl
@@ -114,7 +125,8 @@ not-unbound (Value a b) y z h = refl
 not-unbound (Word a) y z h = refl
 not-unbound Bad y z h = refl
 
-pub not-value : {A : Type 0} (l : Line) (y : (ℕ → ℕ → A)) (z : A) → OneOf (0 ∷ 1 ∷ 2 ∷ 3 ∷ 4 ∷ 5 ∷ 6 ∷ 7 ∷ 9 ∷ 10 ∷ []) (tagOf the-type l) → asValue l y z ≡ z
+pub not-value : {A : Type 0} (l : Line) (y : (ℕ → ℕ → A)) (z : A) → OneOf (0 ∷ 1 ∷ 2 ∷ 3 ∷ 4 ∷ 5 ∷ 6 ∷ 7 ∷ 9 ∷ 10 ∷ [])
+    (tagOf the-type l) → asValue l y z ≡ z
 not-value Root y z h = refl
 not-value (Node a b c d e f g) y z h = refl
 not-value Parameter y z h = refl
@@ -127,7 +139,8 @@ not-value (Value a b) y z h = absurd (miss (0 ∷ 1 ∷ 2 ∷ 3 ∷ 4 ∷ 5 ∷ 
 not-value (Word a) y z h = refl
 not-value Bad y z h = refl
 
-pub not-word : {A : Type 0} (l : Line) (y : (ℕ → A)) (z : A) → OneOf (0 ∷ 1 ∷ 2 ∷ 3 ∷ 4 ∷ 5 ∷ 6 ∷ 7 ∷ 8 ∷ 10 ∷ []) (tagOf the-type l) → asWord l y z ≡ z
+pub not-word : {A : Type 0} (l : Line) (y : (ℕ → A)) (z : A) → OneOf (0 ∷ 1 ∷ 2 ∷ 3 ∷ 4 ∷ 5 ∷ 6 ∷ 7 ∷ 8 ∷ 10 ∷ [])
+    (tagOf the-type l) → asWord l y z ≡ z
 not-word Root y z h = refl
 not-word (Node a b c d e f g) y z h = refl
 not-word Parameter y z h = refl
@@ -139,3 +152,21 @@ not-word Unbound y z h = refl
 not-word (Value a b) y z h = refl
 not-word (Word a) y z h = absurd (miss (0 ∷ 1 ∷ 2 ∷ 3 ∷ 4 ∷ 5 ∷ 6 ∷ 7 ∷ 8 ∷ 10 ∷ []) 9 tt h)
 not-word Bad y z h = refl
+
+-- a line that is neither F nor G
+pub not-a-field : (l : Line) → OneOf (0 ∷ 1 ∷ 2 ∷ 5 ∷ 6 ∷ 7 ∷ 8 ∷ 9 ∷ 10 ∷ []) (tagOf the-type l) → isField l ≡ false
+not-a-field Root h = refl
+not-a-field (Node a b c d e f g) h = refl
+not-a-field Parameter h = refl
+not-a-field (Field a b c d) h = absurd (miss (0 ∷ 1 ∷ 2 ∷ 5 ∷ 6 ∷ 7 ∷ 8 ∷ 9 ∷ 10 ∷ []) 3 tt h)
+not-a-field (Group a b) h = absurd (miss (0 ∷ 1 ∷ 2 ∷ 5 ∷ 6 ∷ 7 ∷ 8 ∷ 9 ∷ 10 ∷ []) 4 tt h)
+not-a-field (Typ a b c d) h = refl
+not-a-field (Scope a b c) h = refl
+not-a-field Unbound h = refl
+not-a-field (Value a b) h = refl
+not-a-field (Word a) h = refl
+not-a-field Bad h = refl
+
+-- from two numbers that are not equal, anything
+pub never : {A : Type 0} → _≡_ {A = ℕ} 0 1 → A
+never e = let z : ⊥ = omega arith in absurd z

@@ -1,5 +1,5 @@
 -- Laws of a slot's walk: its words, and its parts one after the other. Assumes nothing.
-use mathlib.Core.Path.{_≡_, refl, sym, ap, _∙_}
+use mathlib.Core.Path.{_≡_, refl, sym, _∙_}
 use mathlib.Core.Bool.{Bool, true, false}
 use mathlib.Core.List.{List, [], _∷_}
 use Prim.Native.Nat.{ℕ, zero, suc, _-_, _<_, _≤_}
@@ -11,19 +11,19 @@ use Rattle.row.proofs.Line.{the-type}
 use Rattle.row.specs.Rows.{restOf}
 use Rattle.row.specs.Line.{lineAt}
 use Rattle.row.specs.declared.Line.{Line}
-use Rattle.row.specs.declared.Line.the-variants as line
 use Rattle.tree.specs.Tree.{Ty, Value, Slot}
 use Rattle.tree.specs.Reader.{Rows, Reading, got, no, Reader, _then_, mapR, onWord}
 use Rattle.tree.specs.Read.{typeOf, valueOf, wordsUpTo, hasWords, wordsOf, slotOf}
 use Rattle.tree.specs.Walked.{passed}
 use Rattle.tree.proofs.OtherLines.{not-value, not-word}
 use Rattle.tree.proofs.WalkLaws.{passed-map, passed-then}
+use Rattle.row.specs.declared.Line.the-variants as line
 
 pub words-none : (n : ℕ) (rs : Rows) → n ≤ 0 → passed (wordsUpTo n rs) ≡ got tt rs
 unfolding wordsUpTo
 words-none n rs h = let z : n ≡ 0 = omega arith in rw z
 
-words-more : (n : ℕ) (rs : Rows) → 0 < n → wordsUpTo n rs ≡ onWord (λ w. mapR (w ∷_) (wordsUpTo (n - 1))) (got []) rs
+pub words-more : (n : ℕ) (rs : Rows) → 0 < n → wordsUpTo n rs ≡ onWord (λ w. mapR (w ∷_) (wordsUpTo (n - 1))) (got []) rs
 unfolding wordsUpTo
 words-more zero rs h = let z : ⊥ = omega arith in absurd z
 words-more (suc n) rs h = rw (sub-one (suc n))
@@ -32,7 +32,8 @@ words-more (suc n) rs h = rw (sub-one (suc n))
 afterType : ℕ → Reader (List ℕ)
 afterType e vs = valueOf vs then λ v. wordsOf (hasWords e (v .kind))
 
-slot-passed : (o e p : ℕ) (rs : Rows) → passed (slotOf o e p rs) ≡ (passed (typeOf 16 rs) then λ u vs. passed (afterType e vs))
+slot-passed : (o e p : ℕ) (rs : Rows) → passed (slotOf o e p rs) ≡
+    (passed (typeOf 16 rs) then λ u vs. passed (afterType e vs))
 unfolding slotOf afterType
 slot-passed o e p rs = passed-then (typeOf 16 rs) _ _ (λ t vs. go t (valueOf vs))
   where

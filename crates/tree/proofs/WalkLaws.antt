@@ -1,7 +1,7 @@
 -- Laws of walks: one turn of each walk over the rows of a type, said over plain rows, the first row's line and the rows after
 -- it. Assumes nothing.
-use mathlib.Core.Path.{_≡_, refl, sym, ap, _∙_}
-use mathlib.Core.List.{List, [], _∷_}
+use mathlib.Core.Path.{_≡_, refl, sym, _∙_}
+use mathlib.Core.List.{[], _∷_}
 use Prim.Native.Nat.{ℕ, zero, suc, _-_, _<_, _≤_}
 use native.Mathlib.Omega.{arith}
 use native.Mathlib.Numerals.{sub-one}
@@ -16,7 +16,7 @@ use Rattle.row.specs.Line.{lineAt}
 use Rattle.row.specs.declared.Line.{Line}
 use Rattle.row.specs.declared.Line.the-variants.{Typ, Scope, Unbound}
 use Rattle.tree.specs.Tree.{Ty, end, stop}
-use Rattle.tree.specs.Reader.{Rows, Reading, got, no, Reader, _then_, mapR, times, onType}
+use Rattle.tree.specs.Reader.{Rows, Reading, got, no, Reader, _then_, times, onType}
 use Rattle.tree.specs.Read.{bindingOf, scopeOf, typeFrom, typeOf}
 use Rattle.tree.specs.Walked.{passed, walked}
 use Rattle.tree.specs.declared.Walk.{Walk}

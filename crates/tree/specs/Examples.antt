@@ -20,7 +20,8 @@ use Rattle.tree.specs.Tree.{Value, Slot, Arm, slot, group, Field, Node, 
 use Rattle.tree.specs.Reader.{Rows, times}
 use Rattle.tree.specs.Read.{Admitted, sheet, refused, admitted}
 use Rattle.tree.specs.Read.{bindingOf, scopeOf, typeFrom, typeOf, valueOf, wordsUpTo, wordsOf, slotOf}
-use Rattle.tree.specs.Read.{among, fieldsUpTo, groupIds, paramsOf, membersOf, nodeOf, nodesOf, sheetOf}
+use Rattle.tree.specs.Read.{among, overlap, fieldOf, fieldsUpTo, fieldsOf, groupIds, paramsOf, membersOf, nodeOf}
+use Rattle.tree.specs.Read.{nodesOf, sheetOf}
 use Rattle.tree.specs.Print.{scopeCount, bindCount, typeRows, wordRows, fieldRows, paramRows, nodeRows, sheetRows}
 use Rattle.tree.specs.Print.{joined, printed}
 use Rattle.tree.specs.WellFormed.{every, distinct, typeFits, nodeIds, allGroupIds, wellFormed}
@@ -210,15 +211,16 @@ expected (c ∷ cs) = c .answer ∷ expected cs
 worked : answers table ≡ expected table
 unfolding answers expected table rich down groups worded bed7 lists typed freeTree field tree node freeAs free bed
     joined printed sheetRows nodeRows paramRows fieldRows wordRows typeRows bindCount scopeCount rowText columns padded decimal
-    admitted sheetOf nodesOf nodeOf membersOf paramsOf groupIds fieldsUpTo among slotOf wordsOf wordsUpTo valueOf
-    typeOf typeFrom scopeOf bindingOf times lineNo size newlines restOf onto rows textAt textOf textStart lineAt lineOf reader
+    admitted sheetOf nodesOf nodeOf membersOf paramsOf groupIds fieldsOf fieldsUpTo fieldOf overlap among slotOf wordsOf
+    wordsUpTo valueOf typeOf typeFrom scopeOf bindingOf times lineNo size newlines restOf onto rows
+    textAt textOf textStart lineAt lineOf reader
     rootLine nodeLine parameterLine fieldLine groupLine typeLine scopeLine unboundLine valueLine wordLine
     mostA mostB mostC mostCount mostBits columnOf unpadded digits trimmed isGraphicText isName all isGraphic isWord endsIn
 worked = refl
 
 -- the two trees with most in them are well-formed
 fit : (wellFormed freeTree ≡ true) × (wellFormed rich ≡ true)
-unfolding wellFormed every distinct typeFits nodeIds allGroupIds groupIds among mostBits isGraphicText isName all isGraphic isWord endsIn
+unfolding wellFormed every distinct typeFits nodeIds allGroupIds groupIds among mostBits isGraphicText isName all isGraphic isWord
     freeTree rich groups field tree node
     joined printed sheetRows nodeRows paramRows fieldRows wordRows typeRows bindCount scopeCount rowText columns padded decimal
 fit = (refl, refl)

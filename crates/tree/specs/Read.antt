@@ -8,6 +8,8 @@ use lib.Dec.{eqb, ltb}
 use lib.ListN.{length}
 use Rattle.text.specs.Bytes.{Str, unit, cond, both, either}
 use Rattle.row.specs.Rows.{rows, lineNo}
+use Rattle.row.specs.Line.{lineAt, asField, asGroup}
+use Rattle.row.specs.declared.Line.{Line}
 use Rattle.tree.specs.Tree.{Ty, plain, list, enum, struct, interface, anyPointer, parameter}
 use Rattle.tree.specs.Tree.{Scopes, end, inherit, bind, Binds, stop, unbound, bound}
 use Rattle.tree.specs.Tree.{Value, Slot, Arm, slot, group, Field, Node, Sheet}
@@ -75,24 +77,20 @@ unfoldable pub among : ℕ → List ℕ → Bool
 among i [] = false
 among i (x ∷ xs) = either (eqb x i) (among i xs)
 
--- a field of the tree, in front of those after it
-abbrev pub front : Str → ℕ → Arm → List Field → List Field
-front name d arm fs = record { name = name; discriminant = d; arm = arm } ∷ fs
+abbrev pub field : Str → ℕ → Arm → Field
+field name d arm = record { name = name; discriminant = d; arm = arm }
 
--- the F and G lines that stand there, each with what belongs to it, up to a bound; `seen`: the ids of all G lines before
-unfoldable pub fieldsUpTo : ℕ → List ℕ → Reader (List Field)
-fieldsUpTo zero seen rs = got [] rs
-fieldsUpTo (suc n) seen rs =
-    onField (λ o d e p name rest. slotOf o e p rest then λ sl. mapR (front name d (slot sl)) (fieldsUpTo n seen))
-    (onGroup (λ i d name. cond (among i seen) (λ rest. no 3 rs) (mapR (front name d (group i)) (fieldsUpTo n (seen ++ unit i))))
-    (got []))
-    rs
+-- whether a line is an F or a G
+abbrev pub isField : Line → Bool
+isField l = asField l (λ o d e p. true) (asGroup l (λ i d. true) false)
 
--- all of them: no more than there are rows
-abbrev pub fieldsOf : List ℕ → Reader (List Field)
-fieldsOf seen rs = fieldsUpTo (length rs) seen rs
+-- a field: an F line and what belongs to it, or a G line
+unfoldable pub fieldOf : Reader Field
+fieldOf =
+    onField (λ o d e p name. mapR (λ sl. field name d (slot sl)) (slotOf o e p))
+    (onGroup (λ i d name. got (field name d (group i))) (no 2))
 
--- the ids of the G lines among fields
+-- the group id of a G line
 abbrev pub groupId : Arm → List ℕ
 groupId (slot s) = []
 groupId (group i) = unit i
@@ -100,6 +98,29 @@ groupId (group i) = unit i
 unfoldable pub groupIds : List Field → List ℕ
 groupIds [] = []
 groupIds (f ∷ fs) = groupId (f .arm) ++ groupIds fs
+
+-- whether one of the first numbers stands among the second
+unfoldable pub overlap : List ℕ → List ℕ → Bool
+overlap [] seen = false
+overlap (i ∷ is) seen = either (among i seen) (overlap is seen)
+
+-- a field and those after it, which `more` reads, or none where another line stands; `seen`: the ids of all G lines before
+abbrev pub fieldsFrom : (List ℕ → Reader (List Field)) → List ℕ → Reader (List Field)
+fieldsFrom more seen rs =
+    cond {A = Reader (List Field)} (isField (lineAt rs))
+    (λ rs. fieldOf rs then λ f.
+    cond (overlap (groupId (f .arm)) seen) (λ rest. no 3 rs) (mapR (f ∷_) (more (seen ++ groupId (f .arm)))))
+    (got [])
+    rs
+
+-- the F and G lines that stand there, up to a bound
+unfoldable pub fieldsUpTo : ℕ → List ℕ → Reader (List Field)
+fieldsUpTo zero seen rs = got [] rs
+fieldsUpTo (suc n) seen rs = fieldsFrom (fieldsUpTo n) seen rs
+
+-- all of them: no more than there are rows
+unfoldable pub fieldsOf : List ℕ → Reader (List Field)
+fieldsOf seen rs = fieldsUpTo (length rs) seen rs
 
 -- the P lines that stand there
 unfoldable pub paramsOf : Reader (List Str)

@@ -50,7 +50,8 @@ pub fn typ(s: &[u8], at: usize, left: usize) -> Walk
 
 // So many scopes, whose bindings have so many levels left.
 pub fn scopes(s: &[u8], from: usize, left: usize, count: u64) -> Walk
-    ensures { λ r. ⌜ walked (now (s .entry)) r ≡ passed (times (scopeOf (typeOf left)) end count (rows (drop from (now (s .entry))))) ⌝ }
+    ensures { λ r. ⌜ walked (now (s .entry)) r
+        ≡ passed (times (scopeOf (typeOf left)) end count (rows (drop from (now (s .entry))))) ⌝ }
 {
     let mut at = from;
     let mut n = count;
@@ -88,7 +89,8 @@ pub fn scope(s: &[u8], at: usize, left: usize) -> Walk
 
 // So many bindings, whose types have so many levels left.
 pub fn binds(s: &[u8], from: usize, left: usize, count: u64) -> Walk
-    ensures { λ r. ⌜ walked (now (s .entry)) r ≡ passed (times (bindingOf (typeOf left)) stop count (rows (drop from (now (s .entry))))) ⌝ }
+    ensures { λ r. ⌜ walked (now (s .entry)) r
+        ≡ passed (times (bindingOf (typeOf left)) stop count (rows (drop from (now (s .entry))))) ⌝ }
 {
     let mut at = from;
     let mut n = count;

@@ -1,15 +1,14 @@
-use Rattle.column.proofs.Laws.{digits-below, digits-above, digits-over, digits-more, digits-end}
-use Rattle.column.specs.Number.{digits}
-use lib.ListN.{length, drop}
-use native.Mathlib.Omega.{arith}
-use Prim.Native.Nat.{_≤_, _-_}
+-- `column::digits` meets its contract. At each turn the number of the whole is that of `v` and the digits from `i` on.
+-- Assumes nothing.
 use mathlib.Core.Path.{_≡_, sym, _∙_}
+use Prim.Native.Nat.{_≤_, _-_}
+use native.Mathlib.Omega.{arith}
+use lib.ListN.{length, drop}
 use borrow.Author.Needs.{needs}
+use Rattle.column.specs.Number.{digits}
+use Rattle.column.proofs.Laws.{digits-below, digits-above, digits-over, digits-more, digits-end}
 use Rattle.column.proofs.digits.Statement.{statement}
 use Rattle.column.proofs.digits.Tie as tie
-use Rattle.column.proofs.digits.Reads as reads
-use Rattle.column.proofs.digits.Lts as lts
-use Rattle.column.proofs.wide.Reads as wide-reads
 
 abbrev Inv-loop : tie.InvT-loop
 Inv-loop t v₀ i₀ v i = (i ≤ length t) × (digits 0 t ≡ digits v (drop i t))
@@ -19,27 +18,43 @@ abbrev μ-loop : tie.MeasureT-loop
 
 returns : tie.Need-returns Inv-loop μ-loop
 returns c =
-    sym ((c .before .before .before .loop .inv .1) ∙ digits-below _ _ (c .before .before .loop-test .taken) _ (c .if1 .taken))
+    let turn = c .before .before in
+    sym (turn .before .loop .inv .1 ∙ digits-below _ _ (turn .loop-test .taken) _ (c .if1 .taken))
 
 returns-2 : tie.Need-returns-2 Inv-loop μ-loop
 returns-2 c =
-    sym ((c .before .before .before .before .loop .inv .1) ∙ digits-above _ _ (c .before .before .before .loop-test .taken) _ (c .before .if1 .left) (c .if2 .taken))
+    let turn = c .before .before .before in
+    sym (turn .before .loop .inv .1 ∙ digits-above _ _ (turn .loop-test .taken) _ (c .before .if1 .left) (c .if2 .taken))
 
 returns-3 : tie.Need-returns-3 Inv-loop μ-loop
 returns-3 c =
-    sym ((c .before .before .before .before .before .before .loop .inv .1) ∙ digits-over _ _ (c .before .before .before .before .before .loop-test .taken) _ (c .before .before .before .if1 .left) (c .before .before .if2 .left) (omega arith))
+    let digit = c .before .before in
+    let turn = digit .before .before .before in
+    sym (
+    turn .before .loop .inv .1
+    ∙ digits-over _ _ (turn .loop-test .taken) _ (digit .before .if1 .left) (digit .if2 .left) (omega arith))
 
 returns-4 : tie.Need-returns-4 Inv-loop μ-loop
 returns-4 c =
-    sym ((c .before .before .before .before .before .before .before .loop .inv .1) ∙ digits-over _ _ (c .before .before .before .before .before .before .loop-test .taken) _ (c .before .before .before .before .if1 .left) (c .before .before .before .if2 .left) (omega arith))
+    let digit = c .before .before .before in
+    let turn = digit .before .before .before in
+    sym (
+    turn .before .loop .inv .1
+    ∙ digits-over _ _ (turn .loop-test .taken) _ (digit .before .if1 .left) (digit .if2 .left) (omega arith))
 
 loop-again : tie.Need-loop-again Inv-loop μ-loop
 loop-again c =
-    (search needs, (c .before .before .before .before .before .before .before .loop .inv .1) ∙ digits-more _ _ (c .before .before .before .before .before .before .loop-test .taken) _ (c .before .before .before .before .if1 .left) (c .before .before .before .if2 .left) (omega arith) ∙ rw (c .before .before .wide .ensures))
+    let digit = c .before .before .before in
+    let turn = digit .before .before .before in (
+      search needs,
+      turn .before .loop .inv .1
+          ∙ digits-more _ _ (turn .loop-test .taken) _ (digit .before .if1 .left) (digit .if2 .left) (omega arith)
+          ∙ rw (c .before .before .wide .ensures),
+    )
 
 returns-5 : tie.Need-returns-5 Inv-loop μ-loop
 returns-5 c =
-    sym ((c .before .loop .inv .1) ∙ digits-end _ _ _ (c .loop-test .left))
+    sym (c .before .loop .inv .1 ∙ digits-end _ _ _ (c .loop-test .left))
 
 pub digits-spec : {M : Type 1} → statement M
 digits-spec =

@@ -1,13 +1,12 @@
-use Rattle.column.proofs.Laws.{ends-past, ends-not, graphic-none, graphic-over, graphic-is}
-use Rattle.column.specs.Texts.{isGraphicText}
+-- `column::ends_in_graphic` meets its contract. Each return: the space or the length is wrong, or else all bytes are tested.
+-- Assumes nothing.
+use mathlib.Core.Path.{sym, _∙_}
 use native.Mathlib.Omega.{arith}
-use mathlib.Core.Path.{_≡_, sym, _∙_}
 use borrow.Author.Needs.{needs}
+use Rattle.column.specs.Texts.{isGraphicText}
+use Rattle.column.proofs.Laws.{ends-past, ends-not, graphic-none, graphic-over, graphic-is}
 use Rattle.column.proofs.ends_in_graphic.Statement.{statement}
 use Rattle.column.proofs.ends_in_graphic.Tie as tie
-use Rattle.column.proofs.ends_in_graphic.Reads as reads
-use Rattle.column.proofs.ends_in_graphic.Lts as lts
-use Rattle.column.proofs.all_graphic.Reads as all-graphic-reads
 
 returns : tie.Need-returns
 returns c =
@@ -15,19 +14,25 @@ returns c =
 
 returns-2 : tie.Need-returns-2
 returns-2 c =
-    sym (ends-not _ _ (isGraphicText (c .before .before .before .before .args .most)) (c .if2 .taken))
+    let at-start = c .before .before .before .before in
+    sym (ends-not _ _ (isGraphicText (at-start .args .most)) (c .if2 .taken))
 
 returns-3 : tie.Need-returns-3
 returns-3 c =
-    sym (graphic-none _ _ (c .before .before .before .before .before .args .most) (c .before .if2 .left) (c .if3 .taken))
+    let at-start = c .before .before .before .before .before in
+    sym (graphic-none _ _ (at-start .args .most) (c .before .if2 .left) (c .if3 .taken))
 
 returns-4 : tie.Need-returns-4
 returns-4 c =
-    sym (graphic-over _ _ (c .before .before .before .before .before .before .args .most) (c .before .before .if2 .left) (omega arith) (c .if4 .taken))
+    let at-start = c .before .before .before .before .before .before in
+    sym (graphic-over _ _ (at-start .args .most) (c .before .before .if2 .left) (omega arith) (c .if4 .taken))
 
 returns-5 : tie.Need-returns-5
 returns-5 c =
-    (c .all-graphic .ensures) ∙ sym (graphic-is _ _ (c .before .before .before .before .before .before .before .before .args .most) (c .before .before .before .before .if2 .left) (omega arith) (c .before .before .if4 .left))
+    let at-if2 = c .before .before .before .before in
+    let at-start = at-if2 .before .before .before .before in
+    (c .all-graphic .ensures)
+    ∙ sym (graphic-is _ _ (at-start .args .most) (at-if2 .if2 .left) (omega arith) (c .before .before .if4 .left))
 
 pub ends-in-graphic-spec : {M : Type 1} → statement M
 ends-in-graphic-spec =

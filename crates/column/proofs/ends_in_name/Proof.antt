@@ -1,16 +1,12 @@
-use Rattle.column.proofs.Laws.{ends-past, ends-not, name-none, name-over, name-digit, name-is}
-use Rattle.column.specs.Texts.{isName}
-use lib.ListN.{length}
+-- `column::ends_in_name` meets its contract. Each return: the space, the length or the first byte is wrong, or else all bytes
+-- are tested. Assumes nothing.
+use mathlib.Core.Path.{sym, _∙_}
 use native.Mathlib.Omega.{arith}
-use Prim.Native.Nat.{_+_, _<_}
-use mathlib.Core.Path.{_≡_, sym, _∙_}
 use borrow.Author.Needs.{needs}
+use Rattle.column.specs.Texts.{isName}
+use Rattle.column.proofs.Laws.{ends-past, ends-not, name-none, name-over, name-digit, name-is}
 use Rattle.column.proofs.ends_in_name.Statement.{statement}
 use Rattle.column.proofs.ends_in_name.Tie as tie
-use Rattle.column.proofs.ends_in_name.Reads as reads
-use Rattle.column.proofs.ends_in_name.Lts as lts
-use Rattle.column.proofs.all_word.Reads as all-word-reads
-use Rattle.column.proofs.is_digit.Reads as is-digit-reads
 
 returns : tie.Need-returns
 returns c =
@@ -30,11 +26,16 @@ returns-4 c =
 
 returns-5 : tie.Need-returns-5
 returns-5 c =
-    sym (name-digit _ _ (c .before .before .before .before .before .if2 .left) (omega arith) (c .before .before .before .if4 .left) (sym (c .before .is-digit .ensures) ∙ (c .if5 .taken)))
+    let sized = c .before .before .before in
+    let digit = sym (c .before .is-digit .ensures) ∙ c .if5 .taken in
+    sym (name-digit _ _ (sized .before .before .if2 .left) (omega arith) (sized .if4 .left) digit)
 
 returns-6 : tie.Need-returns-6
 returns-6 c =
-    (c .all-word .ensures) ∙ sym (name-is _ _ (c .before .before .before .before .before .before .before .if2 .left) (omega arith) (c .before .before .before .before .before .if4 .left) (sym (c .before .before .before .is-digit .ensures) ∙ (c .before .before .if5 .left)))
+    let tested = c .before .before .before in
+    let sized = tested .before .before in
+    let no-digit = sym (tested .is-digit .ensures) ∙ c .before .before .if5 .left in
+    c .all-word .ensures ∙ sym (name-is _ _ (sized .before .before .if2 .left) (omega arith) (sized .if4 .left) no-digit)
 
 pub ends-in-name-spec : {M : Type 1} → statement M
 ends-in-name-spec =

@@ -1,11 +1,9 @@
-use Rattle.column.proofs.Laws.{between-below}
+-- `column::is_digit` meets its contract. By the two bounds. Assumes nothing.
+use mathlib.Core.Path.{sym}
 use borrow.Author.Tests.{le-leb}
-use mathlib.Core.Path.{_≡_, sym}
-use borrow.Author.Needs.{needs}
+use Rattle.column.proofs.Laws.{between-below}
 use Rattle.column.proofs.is_digit.Statement.{statement}
 use Rattle.column.proofs.is_digit.Tie as tie
-use Rattle.column.proofs.is_digit.Reads as reads
-use Rattle.column.proofs.is_digit.Lts as lts
 
 returns : tie.Need-returns
 returns c =

@@ -1,12 +1,10 @@
-use Rattle.column.proofs.Laws.{between-below}
-use Rattle.column.specs.Texts.{isGraphic}
+-- `column::is_graphic` meets its contract. By the two bounds. Assumes nothing.
+use mathlib.Core.Path.{sym}
 use borrow.Author.Tests.{le-leb}
-use mathlib.Core.Path.{_≡_, sym}
-use borrow.Author.Needs.{needs}
+use Rattle.column.specs.Texts.{isGraphic}
+use Rattle.column.proofs.Laws.{between-below}
 use Rattle.column.proofs.is_graphic.Statement.{statement}
 use Rattle.column.proofs.is_graphic.Tie as tie
-use Rattle.column.proofs.is_graphic.Reads as reads
-use Rattle.column.proofs.is_graphic.Lts as lts
 
 returns : tie.Need-returns
 unfolding isGraphic

@@ -1,13 +1,12 @@
-use Rattle.column.proofs.Laws.{trimmed-more, trimmed-stop, trimmed-end, rest-is}
-use Rattle.column.specs.Number.{trimmed}
-use lib.ListN.{length, drop}
-use Prim.Native.Nat.{_≤_, _-_}
+-- `column::trimmed` meets its contract. From `i` on the bytes after the spaces are those of the whole. Assumes nothing.
 use mathlib.Core.Path.{_≡_, sym, _∙_}
+use Prim.Native.Nat.{_≤_, _-_}
+use lib.ListN.{length, drop}
 use borrow.Author.Needs.{needs}
+use Rattle.column.specs.Number.{trimmed}
+use Rattle.column.proofs.Laws.{trimmed-more, trimmed-stop, trimmed-end, rest-is}
 use Rattle.column.proofs.trimmed.Statement.{statement}
 use Rattle.column.proofs.trimmed.Tie as tie
-use Rattle.column.proofs.trimmed.Reads as reads
-use Rattle.column.proofs.trimmed.Lts as lts
 
 abbrev Inv-loop : tie.InvT-loop
 Inv-loop t i₀ i = (i ≤ length t) × (trimmed t ≡ trimmed (drop i t))
@@ -17,15 +16,19 @@ abbrev μ-loop : tie.MeasureT-loop
 
 returns : tie.Need-returns Inv-loop μ-loop
 returns c =
-    rest-is (c .before .before .before .before .before .args .t .now) (c .before .before .before .before .loop .i) ∙ sym ((c .before .before .before .before .loop .inv .1) ∙ trimmed-stop _ _ (c .before .before .before .loop-test .taken) (c .before .if1 .taken))
+    let turn = c .before .before .before in
+    rest-is (turn .before .before .args .t .now) (turn .before .loop .i)
+    ∙ sym (turn .before .loop .inv .1 ∙ trimmed-stop _ _ (turn .loop-test .taken) (c .before .if1 .taken))
 
 loop-again : tie.Need-loop-again Inv-loop μ-loop
 loop-again c =
-    (search needs, (c .before .before .before .loop .inv .1) ∙ trimmed-more _ _ (c .before .before .loop-test .taken) (c .if1 .left))
+    let turn = c .before .before in
+    (search needs, turn .before .loop .inv .1 ∙ trimmed-more _ _ (turn .loop-test .taken) (c .if1 .left))
 
 returns-2 : tie.Need-returns-2 Inv-loop μ-loop
 returns-2 c =
-    rest-is (c .before .before .before .args .t .now) (c .before .before .loop .i) ∙ sym ((c .before .before .loop .inv .1) ∙ trimmed-end _ _ (c .before .loop-test .left))
+    rest-is (c .before .before .before .args .t .now) (c .before .before .loop .i)
+    ∙ sym (c .before .before .loop .inv .1 ∙ trimmed-end _ _ (c .before .loop-test .left))
 
 pub trimmed-spec : {M : Type 1} → statement M
 trimmed-spec =

@@ -1,11 +1,9 @@
-use Rattle.column.proofs.Laws.{unpadded-none, unpadded-digits, unpadded-zero, unpadded-more}
-use mathlib.Core.Path.{_≡_, sym, _∙_}
+-- `column::unpadded` meets its contract. By the length and the first byte. Assumes nothing.
+use mathlib.Core.Path.{sym, _∙_}
 use borrow.Author.Needs.{needs}
+use Rattle.column.proofs.Laws.{unpadded-none, unpadded-digits, unpadded-zero, unpadded-more}
 use Rattle.column.proofs.unpadded.Statement.{statement}
 use Rattle.column.proofs.unpadded.Tie as tie
-use Rattle.column.proofs.unpadded.Reads as reads
-use Rattle.column.proofs.unpadded.Lts as lts
-use Rattle.column.proofs.digits.Reads as digits-reads
 
 returns : tie.Need-returns
 returns c =

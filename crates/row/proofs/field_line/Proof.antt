@@ -1,15 +1,10 @@
-use borrow.Author.Tests.{eq-eqb, ne-eqb, lt-ltb, le-ltb, le-leb, lt-leb, not-true, not-false}
-use Rattle.row.specs.Line.{fieldLine}
+-- `row::field_line` meets its contract. Each return: the numbers read before it, then the number or the text that decides it.
+-- Assumes nothing.
+use borrow.Author.Tests.{not-true, not-false}
 use borrow.Author.Needs.{needs}
+use Rattle.row.specs.Line.{fieldLine}
 use Rattle.row.proofs.field_line.Statement.{statement}
 use Rattle.row.proofs.field_line.Tie as tie
-use Rattle.row.proofs.field_line.Reads as reads
-use Rattle.row.proofs.field_line.Lts as lts
-use Rattle.column.proofs.column.Reads as column-reads
-use Rattle.column.proofs.ends_in_name.Reads as ends-in-name-reads
-
-enum-told : tie.Need-enum-told
-enum-told c = search needs
 
 returns : tie.Need-returns
 unfolding fieldLine
@@ -22,9 +17,10 @@ returns c =
 returns-2 : tie.Need-returns-2
 unfolding fieldLine
 returns-2 c =
+    let at-offset = c .before .before .before .before in
     simp (
-      ← c .before .before .before .before .before .before .column .ensures,
-      c .before .before .before .before .offset .given .1,
+      ← at-offset .before .before .column .ensures,
+      at-offset .offset .given .1,
       ← c .before .before .column2 .ensures,
       c .enum-told2 .given .1,
     )
@@ -32,11 +28,13 @@ returns-2 c =
 returns-3 : tie.Need-returns-3
 unfolding fieldLine
 returns-3 c =
+    let at-discriminant = c .before .before .before .before in
+    let at-offset = at-discriminant .before .before .before .before in
     simp (
-      ← c .before .before .before .before .before .before .before .before .before .before .column .ensures,
-      c .before .before .before .before .before .before .before .before .offset .given .1,
-      ← c .before .before .before .before .before .before .column2 .ensures,
-      c .before .before .before .before .discriminant .given .1,
+      ← at-offset .before .before .column .ensures,
+      at-offset .offset .given .1,
+      ← at-discriminant .before .before .column2 .ensures,
+      at-discriminant .discriminant .given .1,
       ← c .before .before .column3 .ensures,
       c .enum-told3 .given .1,
     )
@@ -44,13 +42,16 @@ returns-3 c =
 returns-4 : tie.Need-returns-4
 unfolding fieldLine
 returns-4 c =
+    let at-explicit = c .before .before .before .before in
+    let at-discriminant = at-explicit .before .before .before .before in
+    let at-offset = at-discriminant .before .before .before .before in
     simp (
-      ← c .before .before .before .before .before .before .before .before .before .before .before .before .before .before .column .ensures,
-      c .before .before .before .before .before .before .before .before .before .before .before .before .offset .given .1,
-      ← c .before .before .before .before .before .before .before .before .before .before .column2 .ensures,
-      c .before .before .before .before .before .before .before .before .discriminant .given .1,
-      ← c .before .before .before .before .before .before .column3 .ensures,
-      c .before .before .before .before .explicit .given .1,
+      ← at-offset .before .before .column .ensures,
+      at-offset .offset .given .1,
+      ← at-discriminant .before .before .column2 .ensures,
+      at-discriminant .discriminant .given .1,
+      ← at-explicit .before .before .column3 .ensures,
+      at-explicit .explicit .given .1,
       ← c .before .before .column4 .ensures,
       c .enum-told4 .given .1,
     )
@@ -58,15 +59,19 @@ returns-4 c =
 returns-5 : tie.Need-returns-5
 unfolding fieldLine
 returns-5 c =
+    let at-option = c .before .before .before in
+    let at-explicit = at-option .before .before .before .before in
+    let at-discriminant = at-explicit .before .before .before .before in
+    let at-offset = at-discriminant .before .before .before .before in
     simp (
-      ← c .before .before .before .before .before .before .before .before .before .before .before .before .before .before .before .before .before .column .ensures,
-      c .before .before .before .before .before .before .before .before .before .before .before .before .before .before .before .offset .given .1,
-      ← c .before .before .before .before .before .before .before .before .before .before .before .before .before .column2 .ensures,
-      c .before .before .before .before .before .before .before .before .before .before .before .discriminant .given .1,
-      ← c .before .before .before .before .before .before .before .before .before .column3 .ensures,
-      c .before .before .before .before .before .before .before .explicit .given .1,
-      ← c .before .before .before .before .before .column4 .ensures,
-      c .before .before .before .option .given .1,
+      ← at-offset .before .before .column .ensures,
+      at-offset .offset .given .1,
+      ← at-discriminant .before .before .column2 .ensures,
+      at-discriminant .discriminant .given .1,
+      ← at-explicit .before .before .column3 .ensures,
+      at-explicit .explicit .given .1,
+      ← at-option .before .before .column4 .ensures,
+      at-option .option .given .1,
       ← c .before .ends-in-name .ensures,
       not-true (c .before .ends-in-name .result) (c .if1 .taken),
     )
@@ -74,15 +79,19 @@ returns-5 c =
 returns-6 : tie.Need-returns-6
 unfolding fieldLine
 returns-6 c =
+    let at-option = c .before .before .before in
+    let at-explicit = at-option .before .before .before .before in
+    let at-discriminant = at-explicit .before .before .before .before in
+    let at-offset = at-discriminant .before .before .before .before in
     simp (
-      ← c .before .before .before .before .before .before .before .before .before .before .before .before .before .before .before .before .before .column .ensures,
-      c .before .before .before .before .before .before .before .before .before .before .before .before .before .before .before .offset .given .1,
-      ← c .before .before .before .before .before .before .before .before .before .before .before .before .before .column2 .ensures,
-      c .before .before .before .before .before .before .before .before .before .before .before .discriminant .given .1,
-      ← c .before .before .before .before .before .before .before .before .before .column3 .ensures,
-      c .before .before .before .before .before .before .before .explicit .given .1,
-      ← c .before .before .before .before .before .column4 .ensures,
-      c .before .before .before .option .given .1,
+      ← at-offset .before .before .column .ensures,
+      at-offset .offset .given .1,
+      ← at-discriminant .before .before .column2 .ensures,
+      at-discriminant .discriminant .given .1,
+      ← at-explicit .before .before .column3 .ensures,
+      at-explicit .explicit .given .1,
+      ← at-option .before .before .column4 .ensures,
+      at-option .option .given .1,
       ← c .before .ends-in-name .ensures,
       not-false (c .before .ends-in-name .result) (c .if1 .left),
     )
@@ -93,7 +102,7 @@ field-line-spec =
     (tie.spec
     (λ c κs. search needs)
     (λ c. search needs)
-    enum-told
+    (λ c. search needs)
     returns
     (λ c κs. search needs)
     (λ c. search needs)

@@ -1,15 +1,10 @@
-use borrow.Author.Tests.{eq-eqb, ne-eqb, lt-ltb, le-ltb, le-leb, lt-leb, not-true, not-false}
-use Rattle.row.specs.Line.{groupLine}
+-- `row::group_line` meets its contract. Each return: the numbers read before it, then the number or the text that decides it.
+-- Assumes nothing.
+use borrow.Author.Tests.{not-true, not-false}
 use borrow.Author.Needs.{needs}
+use Rattle.row.specs.Line.{groupLine}
 use Rattle.row.proofs.group_line.Statement.{statement}
 use Rattle.row.proofs.group_line.Tie as tie
-use Rattle.row.proofs.group_line.Reads as reads
-use Rattle.row.proofs.group_line.Lts as lts
-use Rattle.column.proofs.column.Reads as column-reads
-use Rattle.column.proofs.ends_in_name.Reads as ends-in-name-reads
-
-enum-told : tie.Need-enum-told
-enum-told c = search needs
 
 returns : tie.Need-returns
 unfolding groupLine
@@ -22,9 +17,10 @@ returns c =
 returns-2 : tie.Need-returns-2
 unfolding groupLine
 returns-2 c =
+    let at-id = c .before .before .before .before in
     simp (
-      ← c .before .before .before .before .before .before .column .ensures,
-      c .before .before .before .before .id .given .1,
+      ← at-id .before .before .column .ensures,
+      at-id .id .given .1,
       ← c .before .before .column2 .ensures,
       c .enum-told2 .given .1,
     )
@@ -32,11 +28,13 @@ returns-2 c =
 returns-3 : tie.Need-returns-3
 unfolding groupLine
 returns-3 c =
+    let at-discriminant = c .before .before .before in
+    let at-id = at-discriminant .before .before .before .before in
     simp (
-      ← c .before .before .before .before .before .before .before .before .before .column .ensures,
-      c .before .before .before .before .before .before .before .id .given .1,
-      ← c .before .before .before .before .before .column2 .ensures,
-      c .before .before .before .discriminant .given .1,
+      ← at-id .before .before .column .ensures,
+      at-id .id .given .1,
+      ← at-discriminant .before .before .column2 .ensures,
+      at-discriminant .discriminant .given .1,
       ← c .before .ends-in-name .ensures,
       not-true (c .before .ends-in-name .result) (c .if1 .taken),
     )
@@ -44,11 +42,13 @@ returns-3 c =
 returns-4 : tie.Need-returns-4
 unfolding groupLine
 returns-4 c =
+    let at-discriminant = c .before .before .before in
+    let at-id = at-discriminant .before .before .before .before in
     simp (
-      ← c .before .before .before .before .before .before .before .before .before .column .ensures,
-      c .before .before .before .before .before .before .before .id .given .1,
-      ← c .before .before .before .before .before .column2 .ensures,
-      c .before .before .before .discriminant .given .1,
+      ← at-id .before .before .column .ensures,
+      at-id .id .given .1,
+      ← at-discriminant .before .before .column2 .ensures,
+      at-discriminant .discriminant .given .1,
       ← c .before .ends-in-name .ensures,
       not-false (c .before .ends-in-name .result) (c .if1 .left),
     )
@@ -59,7 +59,7 @@ group-line-spec =
     (tie.spec
     (λ c κs. search needs)
     (λ c. search needs)
-    enum-told
+    (λ c. search needs)
     returns
     (λ c κs. search needs)
     (λ c. search needs)

@@ -1,17 +1,16 @@
-use Rattle.row.proofs.Laws.{lineNo-at, newline-here, newline-not}
-use Rattle.row.specs.Rows.{newlines}
-use lib.Seq.{take-all}
-use lib.ListN.{length, take}
-use native.Mathlib.Omega.{arith}
-use Prim.Native.Nat.{ℕ, suc, _+_, _-_, _≤_}
+-- `row::line_number` meets its contract. The count is that of the bytes 10 passed, and one. Assumes nothing.
 use mathlib.Core.Logic.{⊎-elim}
 use mathlib.Core.List.{List}
 use mathlib.Core.Path.{_≡_, refl, sym, ap, _∙_}
+use Prim.Native.Nat.{ℕ, suc, _+_, _-_, _≤_}
+use native.Mathlib.Omega.{arith}
+use lib.Seq.{take-all}
+use lib.ListN.{length, take}
 use borrow.Author.Needs.{needs}
+use Rattle.row.specs.Rows.{newlines}
+use Rattle.row.proofs.Laws.{lineNo-at, newline-here, newline-not}
 use Rattle.row.proofs.line_number.Statement.{statement}
 use Rattle.row.proofs.line_number.Tie as tie
-use Rattle.row.proofs.line_number.Reads as reads
-use Rattle.row.proofs.line_number.Lts as lts
 
 abbrev Inv-loop : tie.InvT-loop
 Inv-loop s at n₀ i₀ n i = (i ≤ length s) × (i ≤ at) × (n ≡ suc (newlines (take i s))) × (n ≤ i + 1)
@@ -26,15 +25,27 @@ loop-holds c =
 
 returns : tie.Need-returns Inv-loop μ-loop
 returns c =
-    let e : (c .before .before .loop .i) ≡ (c .before .before .before .args .at) = omega arith in (c .before .before .loop .inv .2) ∙ ap (λ (k : ℕ). suc (newlines (take k (c .before .before .before .args .s .now)))) e ∙ sym (lineNo-at (c .before .before .before .args .s .now) (c .before .before .before .args .at))
+    let l = c .before .before .loop in
+    let a = c .before .before .before .args in
+    let e : l .i ≡ a .at = omega arith in
+    l .inv .2 ∙ ap (λ (k : ℕ). suc (newlines (take k (a .s .now)))) e ∙ sym (lineNo-at (a .s .now) (a .at))
 
 loop-again : tie.Need-loop-again Inv-loop μ-loop
 loop-again c =
-    let l = (c .before .before .before .before .loop) in let s = (c .before .before .before .before .before .args .s .now) in let h = (c .before .before .before .loop-test .taken) in ⊎-elim (λ w. (omega arith, omega arith, omega (arith, newline-here s (l .i) h (w .0 .taken), w), omega (arith, w))) (λ w. (omega arith, omega arith, omega (arith, newline-not s (l .i) h (w .0 .left), w), omega (arith, w))) (c .if2 .came)
+    let turn = c .before .before .before in
+    let i = turn .before .loop .i in
+    let s = turn .before .before .args .s .now in
+    let h = turn .loop-test .taken in
+    ⊎-elim
+    (λ w. (omega arith, omega arith, omega (arith, newline-here s i h (w .0 .taken), w), omega (arith, w)))
+    (λ w. (omega arith, omega arith, omega (arith, newline-not s i h (w .0 .left), w), omega (arith, w)))
+    (c .if2 .came)
 
 returns-2 : tie.Need-returns-2 Inv-loop μ-loop
 returns-2 c =
-    (c .before .loop .inv .2) ∙ ap (λ (t : List ℕ). suc (newlines t)) (take-all _ _ (c .loop-test .left) ∙ sym (take-all (c .before .before .args .at) _ (omega arith))) ∙ sym (lineNo-at (c .before .before .args .s .now) (c .before .before .args .at))
+    let a = c .before .before .args in
+    let all = take-all _ _ (c .loop-test .left) ∙ sym (take-all (a .at) (a .s .now) (omega arith)) in
+    c .before .loop .inv .2 ∙ ap (λ (t : List ℕ). suc (newlines t)) all ∙ sym (lineNo-at (a .s .now) (a .at))
 
 pub line-number-spec : {M : Type 1} → statement M
 line-number-spec =

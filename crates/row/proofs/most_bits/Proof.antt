@@ -1,12 +1,11 @@
-use Rattle.row.specs.Line.{widths, mostBits}
-use Rattle.column.specs.Number.{most}
+-- `row::most_bits` meets its contract. The table holds, for each width, the greatest number of so many bits. Assumes nothing.
+use mathlib.Core.Path.{sym, ap}
 use lib.ListN.{List·getD-map, List·getD-eq-default}
-use mathlib.Core.Path.{_≡_, sym, ap}
 use borrow.Author.Needs.{needs}
+use Rattle.column.specs.Number.{most}
+use Rattle.row.specs.Line.{widths, mostBits}
 use Rattle.row.proofs.most_bits.Statement.{statement}
 use Rattle.row.proofs.most_bits.Tie as tie
-use Rattle.row.proofs.most_bits.Reads as reads
-use Rattle.row.proofs.most_bits.Lts as lts
 
 returns : tie.Need-returns
 unfolding mostBits

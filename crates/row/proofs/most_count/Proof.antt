@@ -1,10 +1,8 @@
-use borrow.Author.Tests.{eq-eqb, ne-eqb, lt-ltb, le-ltb, le-leb, lt-leb, not-true, not-false}
+-- `row::most_count` meets its contract. Each return: the tests that led there. Assumes nothing.
+use borrow.Author.Tests.{eq-eqb, ne-eqb}
 use Rattle.row.specs.Line.{mostCount}
-use borrow.Author.Needs.{needs}
 use Rattle.row.proofs.most_count.Statement.{statement}
 use Rattle.row.proofs.most_count.Tie as tie
-use Rattle.row.proofs.most_count.Reads as reads
-use Rattle.row.proofs.most_count.Lts as lts
 
 returns : tie.Need-returns
 unfolding mostCount

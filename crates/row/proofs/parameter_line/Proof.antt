@@ -1,11 +1,9 @@
-use borrow.Author.Tests.{eq-eqb, ne-eqb, lt-ltb, le-ltb, le-leb, lt-leb, not-true, not-false}
-use Rattle.row.specs.Line.{parameterLine}
+-- `row::parameter_line` meets its contract, by its one test. Assumes nothing.
+use borrow.Author.Tests.{not-true, not-false}
 use borrow.Author.Needs.{needs}
+use Rattle.row.specs.Line.{parameterLine}
 use Rattle.row.proofs.parameter_line.Statement.{statement}
 use Rattle.row.proofs.parameter_line.Tie as tie
-use Rattle.row.proofs.parameter_line.Reads as reads
-use Rattle.row.proofs.parameter_line.Lts as lts
-use Rattle.column.proofs.ends_in_name.Reads as ends-in-name-reads
 
 returns : tie.Need-returns
 unfolding parameterLine

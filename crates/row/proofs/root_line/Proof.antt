@@ -1,11 +1,9 @@
-use borrow.Author.Tests.{eq-eqb, ne-eqb, lt-ltb, le-ltb, le-leb, lt-leb, not-true, not-false}
-use Rattle.row.specs.Line.{rootLine}
+-- `row::root_line` meets its contract, by its one test. Assumes nothing.
+use borrow.Author.Tests.{not-true, not-false}
 use borrow.Author.Needs.{needs}
+use Rattle.row.specs.Line.{rootLine}
 use Rattle.row.proofs.root_line.Statement.{statement}
 use Rattle.row.proofs.root_line.Tie as tie
-use Rattle.row.proofs.root_line.Reads as reads
-use Rattle.row.proofs.root_line.Lts as lts
-use Rattle.column.proofs.ends_in_graphic.Reads as ends-in-graphic-reads
 
 returns : tie.Need-returns
 unfolding rootLine

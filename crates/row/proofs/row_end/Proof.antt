@@ -1,14 +1,14 @@
-use Rattle.row.proofs.Laws.{rowLen-here, rowLen-more, rowLen-end}
-use Rattle.row.specs.Rows.{rowLen}
-use lib.ListN.{length, drop}
-use native.Mathlib.Omega.{arith}
-use Prim.Native.Nat.{_+_, _-_, _≤_}
+-- `row::row_end` meets its contract. At each turn the row from the start ends where the row from `i` on ends.
+-- Assumes nothing.
 use mathlib.Core.Path.{_≡_}
+use Prim.Native.Nat.{_+_, _-_, _≤_}
+use native.Mathlib.Omega.{arith}
+use lib.ListN.{length, drop}
 use borrow.Author.Needs.{needs}
+use Rattle.row.specs.Rows.{rowLen}
+use Rattle.row.proofs.Laws.{rowLen-here, rowLen-more, rowLen-end}
 use Rattle.row.proofs.row_end.Statement.{statement}
 use Rattle.row.proofs.row_end.Tie as tie
-use Rattle.row.proofs.row_end.Reads as reads
-use Rattle.row.proofs.row_end.Lts as lts
 
 abbrev Inv-loop : tie.InvT-loop
 Inv-loop s from i₀ i = (from ≤ i) × (from + rowLen (drop from s) ≡ i + rowLen (drop i s))
@@ -18,11 +18,15 @@ abbrev μ-loop : tie.MeasureT-loop
 
 returns : tie.Need-returns Inv-loop μ-loop
 returns c =
-    omega (arith, rowLen-here (c .before .before .before .before .args .s .now) (c .before .before .before .loop .i) (c .before .before .loop-test .taken) (c .if1 .taken))
+    let turn = c .before .before in
+    let i = turn .before .loop .i in
+    omega (arith, rowLen-here (turn .before .before .args .s .now) i (turn .loop-test .taken) (c .if1 .taken))
 
 loop-again : tie.Need-loop-again Inv-loop μ-loop
 loop-again c =
-    omega (arith, rowLen-more (c .before .before .before .before .args .s .now) (c .before .before .before .loop .i) (c .before .before .loop-test .taken) (c .if1 .left))
+    let turn = c .before .before in
+    let i = turn .before .loop .i in
+    omega (arith, rowLen-more (turn .before .before .args .s .now) i (turn .loop-test .taken) (c .if1 .left))
 
 returns-2 : tie.Need-returns-2 Inv-loop μ-loop
 returns-2 c =

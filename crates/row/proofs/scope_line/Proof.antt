@@ -1,15 +1,10 @@
-use borrow.Author.Tests.{eq-eqb, ne-eqb, lt-ltb, le-ltb, le-leb, lt-leb, not-true, not-false}
-use Rattle.row.specs.Line.{scopeLine}
+-- `row::scope_line` meets its contract. Each return: the numbers read before it, then the number or the text that decides it.
+-- Assumes nothing.
+use borrow.Author.Tests.{eq-eqb, ne-eqb}
 use borrow.Author.Needs.{needs}
+use Rattle.row.specs.Line.{scopeLine}
 use Rattle.row.proofs.scope_line.Statement.{statement}
 use Rattle.row.proofs.scope_line.Tie as tie
-use Rattle.row.proofs.scope_line.Reads as reads
-use Rattle.row.proofs.scope_line.Lts as lts
-use Rattle.column.proofs.column.Reads as column-reads
-use Rattle.row.proofs.most_count.Reads as most-count-reads
-
-enum-told : tie.Need-enum-told
-enum-told c = search needs
 
 returns : tie.Need-returns
 unfolding scopeLine
@@ -22,9 +17,10 @@ returns c =
 returns-2 : tie.Need-returns-2
 unfolding scopeLine
 returns-2 c =
+    let at-id = c .before .before .before .before in
     simp (
-      ← c .before .before .before .before .before .before .column .ensures,
-      c .before .before .before .before .id .given .1,
+      ← at-id .before .before .column .ensures,
+      at-id .id .given .1,
       ← c .before .before .column2 .ensures,
       c .enum-told2 .given .1,
     )
@@ -32,12 +28,15 @@ returns-2 c =
 returns-3 : tie.Need-returns-3
 unfolding scopeLine
 returns-3 c =
+    let at-most-count = c .before .before .before in
+    let at-column2 = at-most-count .before .before .before .before in
+    let at-column = at-column2 .before .before .before .before in
     simp (
-      ← c .before .before .before .before .before .before .before .before .before .before .before .column .ensures,
-      c .before .before .before .before .before .before .before .before .before .id .given .1,
-      ← c .before .before .before .before .before .before .before .column2 .ensures,
-      c .before .before .before .before .before .bind .given .1,
-      ← c .before .before .before .most-count .ensures,
+      ← at-column .column .ensures,
+      at-column2 .before .before .id .given .1,
+      ← at-column2 .column2 .ensures,
+      at-most-count .before .before .bind .given .1,
+      ← at-most-count .most-count .ensures,
       ← c .before .before .column3 .ensures,
       c .enum-told3 .given .1,
     )
@@ -45,13 +44,16 @@ returns-3 c =
 returns-4 : tie.Need-returns-4
 unfolding scopeLine
 returns-4 c =
+    let at-column3 = c .before .before .before .before in
+    let at-bind = at-column3 .before .before .before in
+    let at-id = at-bind .before .before .before .before in
     simp (
-      ← c .before .before .before .before .before .before .before .before .before .before .before .before .before .column .ensures,
-      c .before .before .before .before .before .before .before .before .before .before .before .id .given .1,
-      ← c .before .before .before .before .before .before .before .before .before .column2 .ensures,
-      c .before .before .before .before .before .before .before .bind .given .1,
-      ← c .before .before .before .before .before .most-count .ensures,
-      ← c .before .before .before .before .column3 .ensures,
+      ← at-id .before .before .column .ensures,
+      at-id .id .given .1,
+      ← at-bind .before .before .column2 .ensures,
+      at-bind .bind .given .1,
+      ← at-column3 .before .most-count .ensures,
+      ← at-column3 .column3 .ensures,
       c .before .before .count .given .1,
       ne-eqb _ _ (c .if1 .taken),
     )
@@ -59,13 +61,16 @@ returns-4 c =
 returns-5 : tie.Need-returns-5
 unfolding scopeLine
 returns-5 c =
+    let at-column3 = c .before .before .before .before in
+    let at-bind = at-column3 .before .before .before in
+    let at-id = at-bind .before .before .before .before in
     simp (
-      ← c .before .before .before .before .before .before .before .before .before .before .before .before .before .column .ensures,
-      c .before .before .before .before .before .before .before .before .before .before .before .id .given .1,
-      ← c .before .before .before .before .before .before .before .before .before .column2 .ensures,
-      c .before .before .before .before .before .before .before .bind .given .1,
-      ← c .before .before .before .before .before .most-count .ensures,
-      ← c .before .before .before .before .column3 .ensures,
+      ← at-id .before .before .column .ensures,
+      at-id .id .given .1,
+      ← at-bind .before .before .column2 .ensures,
+      at-bind .bind .given .1,
+      ← at-column3 .before .most-count .ensures,
+      ← at-column3 .column3 .ensures,
       c .before .before .count .given .1,
       eq-eqb _ _ (c .if1 .left),
     )
@@ -76,7 +81,7 @@ scope-line-spec =
     (tie.spec
     (λ c κs. search needs)
     (λ c. search needs)
-    enum-told
+    (λ c. search needs)
     returns
     (λ c κs. search needs)
     (λ c. search needs)

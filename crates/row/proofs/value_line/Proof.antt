@@ -1,15 +1,10 @@
-use borrow.Author.Tests.{eq-eqb, ne-eqb, lt-ltb, le-ltb, le-leb, lt-leb, not-true, not-false}
-use Rattle.row.specs.Line.{valueLine}
+-- `row::value_line` meets its contract. Each return: the numbers read before it, then the number or the text that decides it.
+-- Assumes nothing.
+use borrow.Author.Tests.{eq-eqb, ne-eqb}
 use borrow.Author.Needs.{needs}
+use Rattle.row.specs.Line.{valueLine}
 use Rattle.row.proofs.value_line.Statement.{statement}
 use Rattle.row.proofs.value_line.Tie as tie
-use Rattle.row.proofs.value_line.Reads as reads
-use Rattle.row.proofs.value_line.Lts as lts
-use Rattle.column.proofs.column.Reads as column-reads
-use Rattle.row.proofs.most_bits.Reads as most-bits-reads
-
-enum-told : tie.Need-enum-told
-enum-told c = search needs
 
 returns : tie.Need-returns
 unfolding valueLine
@@ -22,10 +17,12 @@ returns c =
 returns-2 : tie.Need-returns-2
 unfolding valueLine
 returns-2 c =
+    let at-most-bits = c .before .before .before in
+    let at-column = at-most-bits .before .before .before .before in
     simp (
-      ← c .before .before .before .before .before .before .before .column .ensures,
-      c .before .before .before .before .before .kind .given .1,
-      ← c .before .before .before .most-bits .ensures,
+      ← at-column .column .ensures,
+      at-most-bits .before .before .kind .given .1,
+      ← at-most-bits .most-bits .ensures,
       ← c .before .before .column2 .ensures,
       c .enum-told2 .given .1,
     )
@@ -33,11 +30,13 @@ returns-2 c =
 returns-3 : tie.Need-returns-3
 unfolding valueLine
 returns-3 c =
+    let at-column2 = c .before .before .before .before in
+    let at-kind = at-column2 .before .before .before in
     simp (
-      ← c .before .before .before .before .before .before .before .before .before .column .ensures,
-      c .before .before .before .before .before .before .before .kind .given .1,
-      ← c .before .before .before .before .before .most-bits .ensures,
-      ← c .before .before .before .before .column2 .ensures,
+      ← at-kind .before .before .column .ensures,
+      at-kind .kind .given .1,
+      ← at-column2 .before .most-bits .ensures,
+      ← at-column2 .column2 .ensures,
       c .before .before .bits .given .1,
       ne-eqb _ _ (c .if1 .taken),
     )
@@ -45,11 +44,13 @@ returns-3 c =
 returns-4 : tie.Need-returns-4
 unfolding valueLine
 returns-4 c =
+    let at-column2 = c .before .before .before .before in
+    let at-kind = at-column2 .before .before .before in
     simp (
-      ← c .before .before .before .before .before .before .before .before .before .column .ensures,
-      c .before .before .before .before .before .before .before .kind .given .1,
-      ← c .before .before .before .before .before .most-bits .ensures,
-      ← c .before .before .before .before .column2 .ensures,
+      ← at-kind .before .before .column .ensures,
+      at-kind .kind .given .1,
+      ← at-column2 .before .most-bits .ensures,
+      ← at-column2 .column2 .ensures,
       c .before .before .bits .given .1,
       eq-eqb _ _ (c .if1 .left),
     )
@@ -60,7 +61,7 @@ value-line-spec =
     (tie.spec
     (λ c κs. search needs)
     (λ c. search needs)
-    enum-told
+    (λ c. search needs)
     returns
     (λ c κs. search needs)
     (λ c κs. search needs)

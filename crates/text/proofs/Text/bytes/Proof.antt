@@ -1,49 +1,26 @@
--- `text::Text::bytes` meets its contract. The loop's invariant: what is left of `s`, put now, makes what the whole makes from the start.
--- Assumes nothing.
+-- `text::Text::bytes` meets its contract, by the test that chose the way. Assumes nothing.
 use borrow.Author.Needs.{needs}
-use mathlib.Core.Path.{_≡_, refl}
-use mathlib.Core.List.{List, _++_}
-use Prim.Native.Nat.{ℕ, _+_, _-_, _≤_, _<_}
-use native.Mathlib.Numerals.{add-one}
 use native.Mathlib.Omega.{arith}
-use lib.ListN.{length, drop, getD, drop-of-length-le}
-use lib.Seq.{drop-cons}
 use denote.Ref.{now}
-use Rattle.text.specs.Bytes.{unit}
-use Rattle.text.proofs.Laws.{Left, left-all, left-more, left-none}
+use Rattle.text.proofs.Places.{counted}
 use Rattle.text.proofs.Text.bytes.Statement.{statement}
 use Rattle.text.proofs.Text.bytes.Tie as tie
 
-abbrev Inv-loop : tie.InvT-loop
-Inv-loop buf₀ s t₀ i₀ buf t i = (i ≤ length s) × (length buf ≡ length buf₀) × Left buf t (drop i s) buf₀ t₀ s
-
-abbrev μ-loop : tie.MeasureT-loop
-μ-loop buf₀ s t₀ i₀ buf t i = length s - i
-
-turn : (i : ℕ) (s : List ℕ) → i < length s → drop i s ≡ unit (getD s i 0) ++ drop (i + 1) s
-turn i s h = rw (add-one, drop-cons s i 0)
-
-loop-again : tie.Need-loop-again Inv-loop μ-loop
-loop-again c =
-    let a = c .before .before .before .before .before in
-    (omega arith, omega arith, left-more (rw (turn _ _ (a .loop-test .taken)) at (a .before .loop .inv .2)) (c .before .before .byte .ensures))
-
-returns : tie.Need-returns Inv-loop μ-loop
+returns : tie.Need-returns
 returns c =
-    left-none
-    (rw (drop-of-length-le (now (c .before .before .before .before .args .s)) (c .loop-test .left)) at (c .before .loop .inv .2))
+    let a = c .before .before .before .before .args in
+    rw (c .past .ensures) (counted (now (a .buf)) (a .self) (now (a .s)) (omega arith) (omega arith))
 
 pub bytes-spec : {M : Type 1} → statement M
 bytes-spec =
     tie.close
     (tie.spec
-    Inv-loop
-    μ-loop
-    (λ c. (omega arith, refl, left-all))
+    (λ c κs. search needs)
+    returns
     (λ c. search needs)
     (λ c κs. search needs)
-    (λ c. omega arith)
-    (λ c. omega arith)
-    loop-again
     (λ c. search needs)
-    returns)
+    (λ c. search needs)
+    (λ c κs. search needs)
+    (λ c. search needs)
+    (λ c. search needs))

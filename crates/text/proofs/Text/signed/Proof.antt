@@ -1,16 +1,12 @@
 -- `text::Text::signed` meets its contract. Assumes nothing.
 use borrow.Author.Needs.{needs}
-use mathlib.Core.Path.{_≡_, ap}
-use Prim.Native.Nat.{ℕ, _+_, _-_, _≤_, _<_}
+use mathlib.Core.Path.{_≡_}
+use Prim.Native.Nat.{ℕ, _+_, _-_, _≤_}
 use native.Mathlib.Omega.{arith}
 use Rattle.text.proofs.Laws.{_⨾_}
 use Rattle.text.proofs.DecimalLaws.{signed-low, signed-high}
 use Rattle.text.proofs.Text.signed.Statement.{statement}
 use Rattle.text.proofs.Text.signed.Tie as tie
-use Rattle.text.proofs.Text.signed.Reads as reads
-use Rattle.text.proofs.Text.signed.Lts as lts
-use Rattle.text.proofs.Text.byte.Reads as byte-reads
-use Rattle.text.proofs.Text.number.Reads as number-reads
 
 turned : (h n : ℕ) → h ≤ n → h - (n - h) ≡ h + h - n
 turned h n l = omega arith

@@ -1,0 +1,45 @@
+-- `codegen::set_number` meets its contract. Assumes nothing.
+use Rattle.text.specs.Bytes.{ascii}
+use Rattle.calls.specs.Calls.{setDataField}
+use Rattle.calls.specs.Mask.{maskText}
+use Rattle.codegen.specs.Default.{value, primDefault}
+use Rattle.codegen.specs.Primitive.{primitiveText}
+use native.Mathlib.Omega.{arith}
+use Rattle.codegen.proofs.Laws.{counted, given-wrote}
+use borrow.Author.Needs.{needs}
+use Rattle.codegen.proofs.set_number.Statement.{statement}
+use Rattle.codegen.proofs.set_number.Tie as tie
+
+array-share-prefix-bytes : tie.Need-array-share-prefix-bytes
+array-share-prefix-bytes c =
+    let c1 = c .before .before .before in
+    omega (arith, (c1 .primitive .ensures .full), (c1 .primitive .ensures .fits))
+
+slice-aggregate-set-data-field : tie.Need-slice-aggregate-set-data-field
+slice-aggregate-set-data-field c =
+    let c1 = c .before .before .before .before in
+    counted _ _ (c1 .primitive .ensures)
+
+returns : tie.Need-returns
+returns c =
+    let c4 = c .before .before in
+    let c3 = c4 .before .before .before .before in
+    let c2 = c3 .before .before in
+    let c1 = c2 .before .before in
+    given-wrote (setDataField (primitiveText (c1 .args .kind)) (c1 .args .offset) (ascii "value"))
+    (maskText (c3 .prim-default .result))
+    (primDefault (value (c1 .args .default) (c1 .args .bits))) (c3 .prim-default .ensures)
+    (rw (c2 .primitive .ensures .bytes) at (c4 .set-data-field .ensures))
+
+pub set-number-spec : {M : Type 1} → statement M
+set-number-spec =
+    tie.close
+    (tie.spec
+    (λ c κs. search needs)
+    (λ c κs. search needs)
+    array-share-prefix-bytes
+    slice-aggregate-set-data-field
+    (λ c. search needs)
+    (λ c κs. search needs)
+    (λ c. search needs)
+    returns)

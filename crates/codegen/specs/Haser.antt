@@ -1,0 +1,36 @@
+-- `generate_haser` of codegen.rs for a slot. Assumes nothing.
+use Prim.Native.Nat.{ℕ}
+use mathlib.Core.Bool.{Bool}
+use mathlib.Core.List.{[], _++_}
+use lib.Dec.{eqb}
+use Rattle.text.specs.Bytes.{Str, ascii, cond}
+use Rattle.text.specs.Lines.{FormattedText, FormattedTexts, Branch, Line, none, _&_, stringify}
+use Rattle.names.specs.Names.{camelToSnakeCase}
+use Rattle.tree.specs.Tree.{Slot}
+use Rattle.codegen_types.specs.TypeString.{isPointer}
+use Rattle.calls.specs.Calls.{notNull, tagTest}
+use Rattle.codegen.specs.Function.{function}
+
+-- the test of the tag, where the field has a discriminant
+abbrev pub tagTests : Bool → ℕ → ℕ → FormattedTexts → FormattedTexts
+tagTests isReader tagOffset discriminant more =
+    cond (eqb discriminant 65535) more (Line (tagTest isReader tagOffset discriminant) & more)
+
+unfoldable pub generateHaser : ℕ → Str → ℕ → Slot → Bool → FormattedText
+generateHaser tagOffset styledName discriminant s isReader =
+    cond (isPointer (s .ty))
+    (Branch (
+    function (ascii "pub fn has_" ++ styledName ++ ascii "(&self) -> bool {")
+    (tagTests isReader tagOffset discriminant (Line (notNull isReader (s .offset)) & none))
+    none))
+    (Branch none)
+
+-- the test of the tag as it is written: a line, or nothing
+abbrev pub tagTestLine : Bool → ℕ → ℕ → Str
+tagTestLine isReader tagOffset discriminant =
+    cond (eqb discriminant 65535) [] (ascii "    " ++ tagTest isReader tagOffset discriminant ++ ascii "\n")
+
+-- the text of a haser's request
+unfoldable pub haserRequest : ℕ → Str → ℕ → Slot → Bool → Str
+haserRequest tagOffset name discriminant s isReader =
+    stringify (generateHaser tagOffset (camelToSnakeCase name) discriminant s isReader)

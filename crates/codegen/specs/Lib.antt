@@ -1,0 +1,9 @@
+pub mod Given
+pub mod Primitive
+pub mod Default
+pub mod WordArray
+pub mod Function
+pub mod Getter
+pub mod Haser
+pub mod Setter
+pub mod Starred

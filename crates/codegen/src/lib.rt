@@ -1,0 +1,217 @@
+// The parts of accessors' texts that need no look into the sheet: codegen.rs of capnpc, its slot part.
+use calls::Mask;
+use text::Text;
+ghost use mathlib.Core.Path.{_≡_};
+ghost use mathlib.Core.Option.{some};
+ghost use lib.Dec.{eqb, leb};
+ghost use mathlib.Core.Bool.{true, false};
+ghost use Rattle.text.specs.Bytes.{ascii, cond, both};
+ghost use Rattle.text.specs.Text.{Wrote};
+ghost use Rattle.tree.specs.Tree as tree;
+ghost use Rattle.calls.specs.Calls.{getDataField, setBoolField, setDataField};
+ghost use Rattle.calls.specs.Mask.{maskText};
+ghost use Rattle.codegen.specs.Default.{value, integer, floatZero, primDefault, getterMask};
+ghost use Rattle.codegen.specs.Given.{Given};
+ghost use Rattle.codegen.specs.Haser.{haserRequest, tagTestLine};
+ghost use Rattle.codegen.specs.Primitive.{primitiveText, Holds};
+
+// The name of a primitive type, held by value.
+pub struct TypeName {
+    bytes: [u8; 4],
+    len: usize,
+}
+
+fn held(bytes: [u8; 4], len: usize) -> TypeName
+    ensures { λ r. ⌜ (r .bytes ≡ bytes) × (r .len ≡ len) ⌝ }
+{
+    TypeName { bytes, len }
+}
+
+// The text of the type of this kind: Void to Float64; any other kind has none.
+pub fn primitive(kind: u64) -> TypeName
+    ensures { λ r. ⌜ Holds r (primitiveText kind) ⌝ }
+{
+    match kind {
+        0 => held(*b"()  ", 2),
+        1 => held(*b"bool", 4),
+        2 => held(*b"i8  ", 2),
+        3 => held(*b"i16 ", 3),
+        4 => held(*b"i32 ", 3),
+        5 => held(*b"i64 ", 3),
+        6 => held(*b"u8  ", 2),
+        7 => held(*b"u16 ", 3),
+        8 => held(*b"u32 ", 3),
+        9 => held(*b"u64 ", 3),
+        10 => held(*b"f32 ", 3),
+        11 => held(*b"f64 ", 3),
+        _ => held(*b"    ", 0),
+    }
+}
+
+// A number in decimal: signed for Int8 to Int64, otherwise as its bits.
+fn integer(kind: u64, bits: u64) -> Mask
+    ensures { λ r. ⌜ maskText r ≡ some (integer (value kind bits)) ⌝ }
+{
+    if kind == 2 {
+        return Mask::Signed { half: 0x80, bits };
+    }
+    if kind == 3 {
+        return Mask::Signed { half: 0x8000, bits };
+    }
+    if kind == 4 {
+        return Mask::Signed {
+            half: 0x8000_0000,
+            bits,
+        };
+    }
+    if kind == 5 {
+        return Mask::Signed {
+            half: 0x8000_0000_0000_0000,
+            bits,
+        };
+    }
+    Mask::Plain(bits)
+}
+
+// The mask of a getter: the default's bits, looked at as a number.
+pub fn getter_mask(kind: u64, bits: u64) -> Mask
+    ensures { λ r. ⌜ maskText r ≡ getterMask (value kind bits) ⌝ }
+{
+    if bits == 0 {
+        return Mask::None;
+    }
+    if kind == 1 {
+        return Mask::True;
+    }
+    integer(kind, bits)
+}
+
+// Whether a float is 0.0 or -0.0: its bits are 0, or its sign's bit alone.
+fn is_float_zero(sign: u64, bits: u64) -> bool
+    ensures { λ r. ⌜ r ≡ floatZero sign bits ⌝ }
+{
+    if bits == 0 {
+        return true;
+    }
+    bits == sign
+}
+
+// The mask of a setter of a Bool or a number.
+pub fn prim_default(kind: u64, bits: u64) -> Mask
+    ensures { λ r. ⌜ Given (primDefault (value kind bits)) (λ mask. maskText r ≡ mask) ⌝ }
+{
+    if kind == 10 {
+        if is_float_zero(0x8000_0000, bits) {
+            return Mask::None;
+        }
+        return Mask::U32(bits);
+    }
+    if kind == 11 {
+        if is_float_zero(0x8000_0000_0000_0000, bits) {
+            return Mask::None;
+        }
+        return Mask::U64(bits);
+    }
+    getter_mask(kind, bits)
+}
+
+// The text of a primitive type.
+pub fn type_name(t: Text, buf: &mut [u8], kind: u64) -> Text
+    ensures { λ r. ⌜ Wrote (now (buf .entry)) t (primitiveText kind) (now (buf .exit)) r ⌝ }
+{
+    let name = primitive(kind);
+    let bytes = name.bytes;
+    let len = name.len;
+    t.bytes(buf, &bytes[..len])
+}
+
+// The get of a number, masked by its default.
+pub fn get_number(
+    t: Text,
+    buf: &mut [u8],
+    is_reader: bool,
+    kind: u64,
+    offset: u64,
+    bits: u64,
+) -> Text
+    ensures { λ r. ⌜ Wrote (now (buf .entry)) t
+        (getDataField «is_reader» (primitiveText kind) offset (getterMask (value kind bits))) (now (buf .exit)) r ⌝ }
+{
+    let name = primitive(kind);
+    let bytes = name.bytes;
+    let len = name.len;
+    let mask = getter_mask(kind, bits);
+    calls::get_data_field(t, buf, is_reader, &bytes[..len], offset, mask)
+}
+
+// The set of a Bool, masked by the default of any primitive kind.
+pub fn set_bool(t: Text, buf: &mut [u8], offset: u64, default: u64, bits: u64) -> Text
+    ensures { λ r. ⌜ Given (primDefault (value default bits)) (λ mask. Wrote (now (buf .entry)) t
+        (setBoolField offset (ascii "value") mask) (now (buf .exit)) r) ⌝ }
+{
+    let mask = prim_default(default, bits);
+    calls::set_bool_field(t, buf, offset, b"value", mask)
+}
+
+// The set of a number, masked by the default of any primitive kind.
+pub fn set_number(t: Text, buf: &mut [u8], kind: u64, offset: u64, default: u64, bits: u64) -> Text
+    ensures { λ r. ⌜ Given (primDefault (value default bits)) (λ mask. Wrote (now (buf .entry)) t
+        (setDataField (primitiveText kind) offset (ascii "value") mask) (now (buf .exit)) r) ⌝ }
+{
+    let name = primitive(kind);
+    let bytes = name.bytes;
+    let len = name.len;
+    let mask = prim_default(default, bits);
+    calls::set_data_field(t, buf, &bytes[..len], offset, b"value", mask)
+}
+
+// Whether a type of this kind is a pointer.
+pub fn is_pointer(kind: u64) -> bool
+    ensures { λ r. ⌜ r ≡ both (leb 12 kind) (cond (eqb kind 15) false true) ⌝ }
+{
+    if kind < 12 {
+        return false;
+    }
+    if kind == 15 {
+        return false;
+    }
+    true
+}
+
+// A haser's line that tests the tag, where the field has a discriminant.
+fn tag_test_line(t: Text, buf: &mut [u8], is_reader: bool, tag: u64, discriminant: u64) -> Text
+    ensures { λ r. ⌜ Wrote (now (buf .entry)) t (tagTestLine «is_reader» tag discriminant) (now (buf .exit)) r ⌝ }
+{
+    if discriminant == 65535 {
+        return t;
+    }
+    let t = t.bytes(buf, b"    ");
+    let t = calls::tag_test(t, buf, is_reader, tag, discriminant);
+    t.bytes(buf, b"\n")
+}
+
+// `generate_haser` of a slot: of its type and offset, and of the name, the tag's offset and the discriminant of its field.
+pub fn haser(
+    t: Text,
+    buf: &mut [u8],
+    name: &[u8],
+    kind: u64,
+    offset: u64,
+    tag: u64,
+    discriminant: u64,
+    is_reader: bool,
+) -> Text
+    ensures { λ r. ⌜ ((s : tree.Slot) → tree.kind (s .ty) ≡ kind → s .offset ≡ offset → Wrote (now (buf .entry)) t
+        (haserRequest tag (now (name .entry)) discriminant s «is_reader») (now (buf .exit)) r) ⌝ }
+{
+    if !is_pointer(kind) {
+        return t.no_lines(buf);
+    }
+    let t = t.bytes(buf, b"#[inline]\npub fn has_");
+    let t = names::snake_name(t, buf, name);
+    let t = t.bytes(buf, b"(&self) -> bool {\n");
+    let t = tag_test_line(t, buf, is_reader, tag, discriminant);
+    let t = t.bytes(buf, b"    ");
+    let t = calls::not_null(t, buf, is_reader, offset);
+    t.bytes(buf, b"\n}\n")
+}

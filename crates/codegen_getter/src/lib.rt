@@ -1,0 +1,245 @@
+// The code of a slot's getter, and the declaration of its default: what `getter_text` of codegen.rs writes after the result type.
+use slot::Slot;
+use text::Text;
+ghost use mathlib.Core.Path.{_≡_};
+ghost use mathlib.Core.Bool.{true, false};
+ghost use lib.Dec.{eqb};
+ghost use Rattle.text.specs.Bytes.{cond};
+ghost use Rattle.text.specs.Lines.{stringify};
+ghost use Rattle.text.specs.Text.{Wrote};
+ghost use Rattle.tree.specs.Tree as tree;
+ghost use Rattle.slot.specs.Slot.{SlotIs};
+ghost use Rattle.codegen.specs.Primitive.{primitiveText};
+ghost use Rattle.codegen.specs.Getter.{void, pointerDefault, fromPointer, capability, untyped};
+ghost use Rattle.codegen.specs.Getter.{isFallible, fragmentOf, getterCode};
+ghost use Rattle.codegen_getter.specs.Parts.{fromPointerHead, capabilityHead, anyPointerHead};
+ghost use Rattle.codegen_getter.specs.Parts.{nullHead, absent, someEnd};
+
+fn void(t: Text, buf: &mut [u8], is_fn: bool) -> Text
+    ensures { λ r. ⌜ Wrote (now (buf .entry)) t (void «is_fn») (now (buf .exit)) r ⌝ }
+{
+    if is_fn {
+        return t;
+    }
+    t.bytes(buf, b"()")
+}
+
+// The default of a pointer: its constant, if it is explicit.
+fn pointer_default(t: Text, buf: &mut [u8], explicit: u64, name: &[u8]) -> Text
+    ensures { λ r. ⌜ Wrote (now (buf .entry)) t (pointerDefault explicit (now (name .entry))) (now (buf .exit)) r ⌝ }
+{
+    if explicit == 1 {
+        let t = t.bytes(buf, b"::core::option::Option::Some(&_private::");
+        let t = names::default_name(t, buf, name);
+        return t.bytes(buf, b"[..])");
+    }
+    t.bytes(buf, b"::core::option::Option::None")
+}
+
+fn from_pointer_head(t: Text, buf: &mut [u8], is_reader: bool) -> Text
+    ensures { λ r. ⌜ Wrote (now (buf .entry)) t (fromPointerHead «is_reader») (now (buf .exit)) r ⌝ }
+{
+    if is_reader {
+        return t.bytes(
+            buf,
+            b"::traits::FromPointerReader::get_from_pointer(&self.reader.get_pointer_field(",
+        );
+    }
+    t.bytes(
+        buf,
+        b"::traits::FromPointerBuilder::get_from_pointer(self.builder.get_pointer_field(",
+    )
+}
+
+// The value of a pointer field, with its default.
+fn from_pointer(
+    t: Text,
+    buf: &mut [u8],
+    root: &[u8],
+    is_reader: bool,
+    offset: u64,
+    explicit: u64,
+    name: &[u8],
+) -> Text
+    ensures { λ r. ⌜ Wrote (now (buf .entry)) t
+        (fromPointer (now (root .entry)) «is_reader» offset (pointerDefault explicit (now (name .entry)))) (now (buf .exit)) r ⌝ }
+{
+    let t = t.bytes(buf, root);
+    let t = from_pointer_head(t, buf, is_reader);
+    let t = t.number(buf, offset);
+    let t = t.bytes(buf, b"), ");
+    let t = pointer_default(t, buf, explicit, name);
+    t.bytes(buf, b")")
+}
+
+fn capability_head(t: Text, buf: &mut [u8], is_reader: bool) -> Text
+    ensures { λ r. ⌜ Wrote (now (buf .entry)) t (capabilityHead «is_reader») (now (buf .exit)) r ⌝ }
+{
+    if is_reader {
+        return t.bytes(buf, b"match self.reader.get_pointer_field(");
+    }
+    t.bytes(buf, b"match self.builder.get_pointer_field(")
+}
+
+// The capability of an interface field.
+fn capability(t: Text, buf: &mut [u8], root: &[u8], is_reader: bool, offset: u64) -> Text
+    ensures { λ r. ⌜ Wrote (now (buf .entry)) t (capability (now (root .entry)) «is_reader» offset) (now (buf .exit)) r ⌝ }
+{
+    let t = capability_head(t, buf, is_reader);
+    let t = t.number(buf, offset);
+    let t = t.bytes(
+        buf,
+        b").get_capability() { ::core::result::Result::Ok(c) => ::core::result::Result::Ok(",
+    );
+    let t = t.bytes(buf, root);
+    t.bytes(
+        buf,
+        b"::capability::FromClientHook::new(c)), ::core::result::Result::Err(e) => ::core::result::Result::Err(e)}",
+    )
+}
+
+fn any_pointer_head(t: Text, buf: &mut [u8], is_reader: bool) -> Text
+    ensures { λ r. ⌜ Wrote (now (buf .entry)) t (anyPointerHead «is_reader») (now (buf .exit)) r ⌝ }
+{
+    if is_reader {
+        return t.bytes(
+            buf,
+            b"::any_pointer::Reader::new(self.reader.get_pointer_field(",
+        );
+    }
+    t.bytes(
+        buf,
+        b"::any_pointer::Builder::new(self.builder.get_pointer_field(",
+    )
+}
+
+// The value of an AnyPointer field: of a parameter's type, or untyped.
+fn untyped(
+    t: Text,
+    buf: &mut [u8],
+    root: &[u8],
+    is_reader: bool,
+    parameter: bool,
+    offset: u64,
+) -> Text
+    ensures { λ r. ⌜ Wrote (now (buf .entry)) t (untyped (now (root .entry)) «is_reader» parameter offset) (now (buf .exit)) r ⌝ }
+{
+    if parameter {
+        return from_pointer(t, buf, root, is_reader, offset, 0, b"");
+    }
+    let t = t.bytes(buf, root);
+    let t = any_pointer_head(t, buf, is_reader);
+    let t = t.number(buf, offset);
+    t.bytes(buf, b"))")
+}
+
+// getter_fragment of a slot whose default is of its type.
+fn fragment(
+    t: Text,
+    buf: &mut [u8],
+    root: &[u8],
+    name: &[u8],
+    slot: Slot,
+    is_reader: bool,
+    is_fn: bool,
+) -> Text
+    ensures { λ r. ⌜ ((s : tree.Slot) → SlotIs slot s → s .default .kind ≡ tree.kind (s .ty) → Wrote (now (buf .entry)) t
+        (fragmentOf (now (root .entry)) (now (name .entry)) s «is_reader» «is_fn» (primitiveText (slot .kind)))
+        (now (buf .exit)) r) ⌝ }
+{
+    let kind = slot.kind;
+    let bits = slot.bits;
+    if kind == 0 {
+        return void(t, buf, is_fn);
+    }
+    if kind == 1 {
+        let mask = codegen::getter_mask(kind, bits);
+        return calls::get_bool_field(t, buf, is_reader, slot.offset, mask);
+    }
+    if kind <= 11 {
+        return codegen::get_number(t, buf, is_reader, kind, slot.offset, bits);
+    }
+    if kind == 15 {
+        let mask = codegen::getter_mask(kind, bits);
+        return calls::get_enum_field(t, buf, is_reader, slot.offset, mask);
+    }
+    if kind == 17 {
+        return capability(t, buf, root, is_reader, slot.offset);
+    }
+    if kind == 18 {
+        return untyped(t, buf, root, is_reader, slot.id != 0, slot.offset);
+    }
+    from_pointer(t, buf, root, is_reader, slot.offset, slot.explicit, name)
+}
+
+// is_fallible, of a slot with an option: only AnyPointer is not, and a parameter is.
+fn is_fallible(slot: Slot) -> bool
+    ensures { λ r. ⌜ ((s : tree.Slot) → SlotIs slot s → r ≡ isFallible (s .ty)) ⌝ }
+{
+    let kind = slot.kind;
+    if kind == 18 {
+        return slot.id != 0;
+    }
+    11 < kind
+}
+
+fn null_head(t: Text, buf: &mut [u8], is_reader: bool) -> Text
+    ensures { λ r. ⌜ Wrote (now (buf .entry)) t (nullHead «is_reader») (now (buf .exit)) r ⌝ }
+{
+    if is_reader {
+        return t.bytes(buf, b"if self.reader.is_pointer_field_null(");
+    }
+    t.bytes(buf, b"if self.builder.is_pointer_field_null(")
+}
+
+// The line for a pointer that is null, and the start of the other.
+fn absent(t: Text, buf: &mut [u8], fallible: bool) -> Text
+    ensures { λ r. ⌜ Wrote (now (buf .entry)) t (absent fallible) (now (buf .exit)) r ⌝ }
+{
+    if fallible {
+        return t.bytes(
+            buf,
+            b") {\n    core::result::Result::Ok(core::option::Option::None)\n} else {\n    ",
+        );
+    }
+    t.bytes(
+        buf,
+        b") {\n    ::core::option::Option::None\n} else {\n    ::core::option::Option::Some(",
+    )
+}
+
+fn some_end(t: Text, buf: &mut [u8], fallible: bool) -> Text
+    ensures { λ r. ⌜ Wrote (now (buf .entry)) t (someEnd fallible) (now (buf .exit)) r ⌝ }
+{
+    if fallible {
+        return t.bytes(buf, b".map(::core::option::Option::Some)\n}\n");
+    }
+    t.bytes(buf, b")\n}\n")
+}
+
+// The code of a slot whose default is of its type: the fragment, or with an option the test and both answers.
+pub fn code(
+    t: Text,
+    buf: &mut [u8],
+    root: &[u8],
+    name: &[u8],
+    slot: Slot,
+    is_reader: bool,
+    is_fn: bool,
+) -> Text
+    ensures { λ r. ⌜ ((s : tree.Slot) → SlotIs slot s → s .default .kind ≡ tree.kind (s .ty) → Wrote (now (buf .entry)) t
+        (stringify (getterCode s «is_reader» (cond (eqb (s .option) 0) false true)
+        (fragmentOf (now (root .entry)) (now (name .entry)) s «is_reader» «is_fn» (primitiveText (slot .kind)))))
+        (now (buf .exit)) r) ⌝ }
+{
+    if slot.option == 0 {
+        let t = fragment(t, buf, root, name, slot, is_reader, is_fn);
+        return t.byte(buf, b'\n');
+    }
+    let fallible = is_fallible(slot);
+    let t = null_head(t, buf, is_reader);
+    let t = t.number(buf, slot.offset);
+    let t = absent(t, buf, fallible);
+    let t = fragment(t, buf, root, name, slot, is_reader, is_fn);
+    some_end(t, buf, fallible)
+}

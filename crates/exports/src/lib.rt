@@ -1,0 +1,120 @@
+// The static library's boundary, for the comparison with the Rust. A slice passes as pointer then length:
+//
+//     size_t kitlubas_number(size_t at, uint8_t *buf, size_t buf_len, uint64_t n);
+//     size_t kitlubas_signed(size_t at, uint8_t *buf, size_t buf_len, uint32_t width, uint64_t n);
+//     size_t kitlubas_line(size_t at, uint8_t *buf, size_t buf_len, size_t indent, const uint8_t *line, size_t line_len);
+//     size_t kitlubas_blank_line(size_t at, uint8_t *buf, size_t buf_len);
+//     size_t kitlubas_no_lines(size_t at, uint8_t *buf, size_t buf_len);
+//     size_t kitlubas_snake(size_t at, uint8_t *buf, size_t buf_len, const uint8_t *name, size_t name_len);
+//     size_t kitlubas_default_name(size_t at, uint8_t *buf, size_t buf_len, const uint8_t *name, size_t name_len);
+//     size_t kitlubas_module_name(size_t at, uint8_t *buf, size_t buf_len, const uint8_t *name, size_t name_len);
+//     uint64_t kitlubas_admit(const uint8_t *s, size_t s_len, size_t *line);
+//
+// The writers put their text at the fill count `at` and answer the new one. Bytes past the end of the buffer are counted and
+// not written. What is not taken writes nothing and answers 18446744073709551615.
+use sheet::Answer;
+use text::Text;
+ghost use Rattle.tree.specs.Read.{admitted};
+ghost use Rattle.names.specs.Names.{camelToSnakeCase, defaultName, moduleName};
+ghost use Rattle.text.specs.Decimal.{decimal};
+ghost use Rattle.text.specs.Lines.{Line, BlankLine, Branch, none, toLines, stringify, ended};
+ghost use Rattle.exports.specs.Boundary.{Filled, Named, Signed, Told};
+
+#[no_mangle]
+pub extern "C" fn kitlubas_number(at: usize, buf: &mut [u8], n: u64) -> usize
+    ensures { λ r. ⌜ Filled (now (buf .entry)) at (decimal n) (now (buf .exit)) r ⌝ }
+{
+    let t = Text::at(at).number(buf, n);
+    t.fill()
+}
+
+// Bits past the width are dropped. A width is taken that is 8, 16, 32 or 64.
+#[no_mangle]
+pub extern "C" fn kitlubas_signed(at: usize, buf: &mut [u8], width: u32, n: u64) -> usize
+    ensures { λ r. ⌜ Signed (now (buf .entry)) at width n (now (buf .exit)) r ⌝ }
+{
+    let t = Text::at(at);
+    match width {
+        8 => t.signed8(buf, (n % 0x100) as u8).fill(),
+        16 => t.signed16(buf, (n % 0x1_0000) as u16).fill(),
+        32 => t.signed32(buf, (n % 0x1_0000_0000) as u32).fill(),
+        64 => t.signed64(buf, n).fill(),
+        _ => 18446744073709551615,
+    }
+}
+
+#[no_mangle]
+pub extern "C" fn kitlubas_line(at: usize, buf: &mut [u8], indent: usize, line: &[u8]) -> usize
+    ensures { λ r. ⌜ Filled (now (buf .entry)) at (ended (toLines (Line (now (line .entry))) indent)) (now (buf .exit)) r ⌝ }
+{
+    let t = Text::at(at).line(buf, indent, line);
+    t.fill()
+}
+
+#[no_mangle]
+pub extern "C" fn kitlubas_blank_line(at: usize, buf: &mut [u8]) -> usize
+    ensures { λ r. ⌜ Filled (now (buf .entry)) at (ended (toLines BlankLine 0)) (now (buf .exit)) r ⌝ }
+{
+    let t = Text::at(at).blank_line(buf);
+    t.fill()
+}
+
+#[no_mangle]
+pub extern "C" fn kitlubas_no_lines(at: usize, buf: &mut [u8]) -> usize
+    ensures { λ r. ⌜ Filled (now (buf .entry)) at (stringify (Branch none)) (now (buf .exit)) r ⌝ }
+{
+    let t = Text::at(at).no_lines(buf);
+    t.fill()
+}
+
+#[no_mangle]
+pub extern "C" fn kitlubas_snake(at: usize, buf: &mut [u8], name: &[u8]) -> usize
+    ensures { λ r. ⌜ Named (now (buf .entry)) at camelToSnakeCase (now (name .entry)) (now (buf .exit)) r ⌝ }
+{
+    if !names::takes(name) {
+        return 18446744073709551615;
+    }
+    let t = names::snake_name(Text::at(at), buf, name);
+    t.fill()
+}
+
+#[no_mangle]
+pub extern "C" fn kitlubas_default_name(at: usize, buf: &mut [u8], name: &[u8]) -> usize
+    ensures { λ r. ⌜ Named (now (buf .entry)) at defaultName (now (name .entry)) (now (buf .exit)) r ⌝ }
+{
+    if !names::takes(name) {
+        return 18446744073709551615;
+    }
+    let t = names::default_name(Text::at(at), buf, name);
+    t.fill()
+}
+
+#[no_mangle]
+pub extern "C" fn kitlubas_module_name(at: usize, buf: &mut [u8], name: &[u8]) -> usize
+    ensures { λ r. ⌜ Named (now (buf .entry)) at moduleName (now (name .entry)) (now (buf .exit)) r ⌝ }
+{
+    if !names::takes(name) {
+        return 18446744073709551615;
+    }
+    let t = names::module_name(Text::at(at), buf, name);
+    t.fill()
+}
+
+// The number of the sheet's refusal, 0 for a sheet that is admitted; `line` becomes the refusal's line, or 0.
+#[no_mangle]
+pub extern "C" fn kitlubas_admit(s: &[u8], line: &mut usize) -> u64
+    ensures { λ r. ⌜ Told (admitted (now (s .entry))) r (now (line .exit)) ⌝ }
+{
+    let admission = sheet::admit(s);
+    let answer = admission.answer;
+    match answer {
+        Answer::Sheet => {
+            *line = 0;
+            0
+        }
+        Answer::Refused { number, line: at } => {
+            *line = at;
+            number
+        }
+    }
+}

@@ -1,0 +1,77 @@
+-- A haser's text, run, is its tests. Assumes nothing.
+use mathlib.Core.Path.{_≡_, refl, _∙_}
+use mathlib.Core.Bool.{Bool, true, false}
+use mathlib.Core.Option.{Option, none, some}
+use mathlib.Core.List.{List, [], _∷_, _++_}
+use Prim.Native.Nat.{ℕ}
+use lib.Dec.{eqb}
+use Rattle.text.specs.Bytes.{Str, cond}
+use Rattle.text.specs.Lines.{spaces}
+use Rattle.calls.specs.Calls.{notNull, tagTest}
+use Rattle.record.specs.Lines.{Tag, haserText}
+use Rattle.record.specs.Record.{Record, get, null}
+use Rattle.record.specs.Types.{tagPlace}
+use Rattle.record.proofs.RecordLaws.{get-inside}
+use Rattle.meaning.specs.Reading.{bindO}
+use Rattle.meaning.specs.Claims.{HaserHolds, TagHolds}
+use Rattle.meaning.specs.Meaning as meaning
+use Rattle.meaning.specs.Meaning.{Test, nullTest, whole, testsOf, runTests, runHaser}
+use Rattle.meaning.proofs.CallLaws.{tests-null, tests-tag}
+use Rattle.meaning.proofs.LineLaws.{Wholes, whole-null, whole-tag, indented}
+use Rattle.meaning.proofs.SetLaws.{function-inner}
+
+-- the lines of a haser's body, and their tests
+abbrev haserLines : Bool → Option Tag → ℕ → List Str
+haserLines isReader none i = notNull isReader i ∷ []
+haserLines isReader (some t) i = tagTest isReader (t .0) (t .1) ∷ notNull isReader i ∷ []
+
+abbrev testsFor : Option Tag → ℕ → List Test
+testsFor none i = nullTest (record { 0 = i }) ∷ []
+testsFor (some t) i = meaning.tagTest (t .0) (t .1) ∷ nullTest (record { 0 = i }) ∷ []
+
+wholes-haser : (isReader : Bool) (tag : Option Tag) (i : ℕ) → Wholes (haserLines isReader tag i)
+wholes-haser isReader none i = Wholes.add (notNull isReader i) (whole-null isReader i) Wholes.nil
+wholes-haser isReader (some t) i =
+    Wholes.add (tagTest isReader (t .0) (t .1)) (whole-tag isReader (t .0) (t .1))
+    (Wholes.add (notNull isReader i) (whole-null isReader i) Wholes.nil)
+
+tests-of-null : (isReader : Bool) (i : ℕ)
+    → testsOf (indented 4 (notNull isReader i ∷ [])) ≡ some (nullTest (record { 0 = i }) ∷ [])
+unfolding testsOf notNull
+tests-of-null true i = rw (tests-null true i)
+tests-of-null false i = rw (tests-null false i)
+
+tests-of-tag : (isReader : Bool) (o n : ℕ) (more : List Str) (ts : List Test) → testsOf more ≡ some ts
+    → testsOf ((spaces 4 ++ tagTest isReader o n) ∷ more) ≡ some (meaning.tagTest o n ∷ ts)
+unfolding testsOf tagTest
+tests-of-tag true o n more ts e = rw (tests-tag true o n, e)
+tests-of-tag false o n more ts e = rw (tests-tag false o n, e)
+
+tests-of : (isReader : Bool) (tag : Option Tag) (i : ℕ) → testsOf (indented 4 (haserLines isReader tag i)) ≡ some (testsFor tag i)
+tests-of isReader none i = tests-of-null isReader i
+tests-of isReader (some t) i =
+    tests-of-tag isReader (t .0) (t .1) (indented 4 (notNull isReader i ∷ [])) (testsFor none i) (tests-of-null isReader i)
+
+pub haser-holds : HaserHolds
+unfolding runHaser runTests
+haser-holds opening isReader none i r h =
+    rw (function-inner opening (haserLines isReader none i) h (wholes-haser isReader none i), tests-of isReader none i)
+haser-holds opening isReader (some t) i r h =
+    let w = wholes-haser isReader (some t) i in
+    rw (function-inner opening (haserLines isReader (some t) i) h w, tests-of isReader (some t) i)
+
+-- where both answers are false, the test does not matter
+either-false : (o : Option ℕ) (n v : ℕ) → o ≡ some v → bindO o (λ x. cond (eqb x n) (some false) (some false)) ≡ some false
+either-false o n v e = rw e (go (eqb v n))
+  where
+    go : (b : Bool) → cond {A = Option Bool} b (some false) (some false) ≡ some false
+    go true = refl
+    go false = refl
+
+-- a pointer that is null: false, if the tag can be read
+pub haser-null : (opening : Str) → whole opening ≡ true → (isReader : Bool) (tag : Option Tag) (i : ℕ) (r : Record)
+    → TagHolds tag r → null (record { 0 = i }) r ≡ some true → runHaser (haserText opening isReader tag i) r ≡ some false
+haser-null opening h isReader none i r t e = haser-holds opening isReader none i r h ∙ rw e
+haser-null opening h isReader (some x) i r t e =
+    haser-holds opening isReader (some x) i r h
+    ∙ rw e (either-false (get (tagPlace (x .0)) 0 r) (x .1) _ (get-inside (tagPlace (x .0)) 0 r t))

@@ -1,0 +1,33 @@
+-- `RUST_KEYWORDS` of codegen.rs, all 53. Assumes nothing.
+use mathlib.Core.Bool.{Bool, false}
+use mathlib.Core.List.{List, [], _∷_, _++_, map}
+use Prim.Native.Nat.{ℕ, zero, suc}
+use Rattle.text.specs.Bytes.{Str, ascii, unit, either, same}
+
+abbrev pub rustKeywords : List Str
+rustKeywords =
+    map ascii
+    ("abstract" ∷ "alignof" ∷ "as" ∷ "be" ∷ "become" ∷ "box" ∷ "break" ∷ "const" ∷ "continue" ∷ "crate"
+    ∷ "do" ∷ "else" ∷ "enum" ∷ "extern" ∷ "false" ∷ "final" ∷ "fn" ∷ "for" ∷ "if" ∷ "impl" ∷ "in" ∷ "let"
+    ∷ "loop" ∷ "macro" ∷ "match" ∷ "mod" ∷ "move" ∷ "mut" ∷ "offsetof" ∷ "once" ∷ "override" ∷ "priv" ∷ "proc"
+    ∷ "pub" ∷ "pure" ∷ "ref" ∷ "return" ∷ "self" ∷ "sizeof" ∷ "static" ∷ "struct" ∷ "super" ∷ "trait" ∷ "true"
+    ∷ "type" ∷ "typeof" ∷ "unsafe" ∷ "unsized" ∷ "use" ∷ "virtual" ∷ "where" ∷ "while" ∷ "yield" ∷ [])
+
+-- whether s is one of the words
+unfoldable pub among : Str → List Str → Bool
+among s [] = false
+among s (w ∷ ws) = either (same s w) (among s ws)
+
+-- `RUST_KEYWORDS.contains(name)`
+unfoldable pub isKeyword : Str → Bool
+isKeyword name = among name rustKeywords
+
+-- the words of n bytes that stand in a byte string one after the other, each with one byte after it; k bytes are left of the
+-- word that begins with w
+abbrev pub cut : ℕ → ℕ → Str → Str → List Str
+cut n k w [] = []
+cut n zero w (c ∷ cs) = w ∷ cut n n [] cs
+cut n (suc k) w (c ∷ cs) = cut n k (w ++ unit c) cs
+
+unfoldable pub wordsOf : ℕ → Str → List Str
+wordsOf n s = cut n n [] s

@@ -1,0 +1,185 @@
+// Names in generated code: a field's name in snake case, its default's constant and a module's name.
+pub mod keywords;
+
+use crate::keywords::is_keyword;
+use text::Text;
+ghost use mathlib.Core.Path.{_≡_};
+ghost use mathlib.Core.Bool.{true};
+ghost use mathlib.Core.List.{map};
+ghost use Prim.Native.Nat.{min};
+ghost use Rattle.text.specs.Text.{Wrote};
+ghost use Rattle.names.specs.Keywords.{isKeyword};
+ghost use Rattle.names.specs.Names.{isUppercase, toAsciiLowercase, toAsciiUppercase, taken, snakeChar, snakeFrom};
+ghost use Rattle.names.specs.Names.{camelToSnakeCase, defaultName, moduleName, Snaked, nameOf};
+
+// A snake name, held whole: its bytes, then zeros.
+pub struct Snake {
+    bytes: [u8; 128],
+    len: usize,
+}
+
+// Rust's tests and changes of a char, for ASCII.
+fn is_uppercase(c: u8) -> bool
+    ensures { λ r. ⌜ r ≡ isUppercase c ⌝ }
+{
+    if c < b'A' {
+        return false;
+    }
+    c <= b'Z'
+}
+
+fn to_ascii_lowercase(c: u8) -> u8
+    ensures { λ r. ⌜ r ≡ toAsciiLowercase c ⌝ }
+{
+    if c < b'A' {
+        return c;
+    }
+    if c <= b'Z' { c + 32 } else { c }
+}
+
+fn to_ascii_uppercase(c: u8) -> u8
+    ensures { λ r. ⌜ r ≡ toAsciiUppercase c ⌝ }
+{
+    if c < b'a' {
+        return c;
+    }
+    if c <= b'z' { c - 32 } else { c }
+}
+
+// Whether a name is taken: at most 64 bytes, all of them ASCII.
+pub fn takes(name: &[u8]) -> bool
+    ensures { λ r. ⌜ r ≡ taken (now (name .entry)) ⌝ }
+{
+    if name.len() > 64 {
+        return false;
+    }
+    let mut i = 0;
+    while i < name.len() {
+        if name[i] >= 128 {
+            return false;
+        }
+        i += 1;
+    }
+    true
+}
+
+// One char of a name, in lower case, after an underscore where it is a capital that is not the first.
+fn snake_char(t: Text, buf: &mut [u8], first: bool, c: u8) -> Text
+    ensures { λ r. ⌜ Wrote (now (buf .entry)) t (snakeChar first c) (now (buf .exit)) r ⌝ }
+{
+    if first {
+        return t.byte(buf, to_ascii_lowercase(c));
+    }
+    if !is_uppercase(c) {
+        return t.byte(buf, to_ascii_lowercase(c));
+    }
+    let t = t.byte(buf, b'_');
+    t.byte(buf, to_ascii_lowercase(c))
+}
+
+// All chars of a name.
+fn snake_chars(t: Text, buf: &mut [u8], name: &[u8]) -> Text
+    ensures { λ r. ⌜ Wrote (now (buf .entry)) t (snakeFrom true (now (name .entry))) (now (buf .exit)) r ⌝ }
+{
+    let mut t = t;
+    let mut i = 0;
+    while i < name.len() {
+        t = snake_char(t, buf, i == 0, name[i]);
+        i += 1;
+    }
+    t
+}
+
+// The snake name of a name; the empty one for a name that is not taken.
+pub fn camel_to_snake_case(name: &[u8]) -> Snake
+    ensures { λ r. ⌜ Snaked (now (name .entry)) r ⌝ }
+{
+    let mut bytes = [0u8; 128];
+    if !takes(name) {
+        return Snake { bytes, len: 0 };
+    }
+    let t = snake_chars(Text::at(0), &mut bytes, name);
+    Snake {
+        bytes,
+        len: t.fill(),
+    }
+}
+
+impl Snake {
+    // the name's length, at most the array's
+    fn size(self) -> usize
+        ensures { λ r. ⌜ r ≡ min (self .len) 128 ⌝ }
+    {
+        let len = self.len;
+        if len < 128 { len } else { 128 }
+    }
+
+    // the name
+    pub fn write(self, t: Text, buf: &mut [u8]) -> Text
+        ensures { λ r. ⌜ Wrote (now (buf .entry)) t (nameOf self) (now (buf .exit)) r ⌝ }
+    {
+        let len = self.size();
+        let bytes = self.bytes;
+        t.bytes(buf, &bytes[..len])
+    }
+
+    // the name in capitals
+    pub fn write_capitals(self, t: Text, buf: &mut [u8]) -> Text
+        ensures { λ r. ⌜ Wrote (now (buf .entry)) t (map toAsciiUppercase (nameOf self)) (now (buf .exit)) r ⌝ }
+    {
+        let len = self.size();
+        let bytes = self.bytes;
+        capitals(t, buf, &bytes[..len])
+    }
+
+    // whether the name is one of `RUST_KEYWORDS`
+    pub fn is_keyword(self) -> bool
+        ensures { λ r. ⌜ r ≡ isKeyword (nameOf self) ⌝ }
+    {
+        let len = self.size();
+        let bytes = self.bytes;
+        is_keyword(&bytes[..len])
+    }
+}
+
+// A text in capitals.
+fn capitals(t: Text, buf: &mut [u8], s: &[u8]) -> Text
+    ensures { λ r. ⌜ Wrote (now (buf .entry)) t (map toAsciiUppercase (now (s .entry))) (now (buf .exit)) r ⌝ }
+{
+    let mut t = t;
+    let mut i = 0;
+    while i < s.len() {
+        t = t.byte(buf, to_ascii_uppercase(s[i]));
+        i += 1;
+    }
+    t
+}
+
+// A name in snake case.
+pub fn snake_name(t: Text, buf: &mut [u8], name: &[u8]) -> Text
+    ensures { λ r. ⌜ Wrote (now (buf .entry)) t (camelToSnakeCase (now (name .entry))) (now (buf .exit)) r ⌝ }
+{
+    let snake = camel_to_snake_case(name);
+    snake.write(t, buf)
+}
+
+// The name of the constant that holds a field's default.
+pub fn default_name(t: Text, buf: &mut [u8], name: &[u8]) -> Text
+    ensures { λ r. ⌜ Wrote (now (buf .entry)) t (defaultName (now (name .entry))) (now (buf .exit)) r ⌝ }
+{
+    let snake = camel_to_snake_case(name);
+    let t = t.bytes(buf, b"DEFAULT_");
+    snake.write_capitals(t, buf)
+}
+
+// A module's name: a keyword gets an underscore at its end.
+pub fn module_name(t: Text, buf: &mut [u8], name: &[u8]) -> Text
+    ensures { λ r. ⌜ Wrote (now (buf .entry)) t (moduleName (now (name .entry))) (now (buf .exit)) r ⌝ }
+{
+    let snake = camel_to_snake_case(name);
+    let t = snake.write(t, buf);
+    if snake.is_keyword() {
+        return t.byte(buf, b'_');
+    }
+    t
+}

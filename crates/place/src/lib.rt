@@ -1,0 +1,168 @@
+// A node's fields by their places, and what the rows of a node and of a field say. Every function is total, and says of the tree
+// what it finds.
+use find::Found;
+use row::Line;
+use tree::Walk;
+ghost use mathlib.Core.Path.{_≡_};
+ghost use mathlib.Core.List.{List};
+ghost use Prim.Native.Nat.{ℕ};
+ghost use lib.ListN.{drop};
+ghost use Rattle.row.specs.Rows.{rows};
+ghost use Rattle.tree.specs.Read.{fieldOf, fieldsOf};
+ghost use Rattle.tree.specs.Walked.{passed, walked};
+ghost use Rattle.tree.specs.Index.{On, nodeHere};
+ghost use Rattle.place.specs.Place.{nth, Finds, FieldAt, nodeLine, SaysField};
+
+// The numbers of an N row.
+pub struct NodeLine {
+    pub id: u64,
+    pub parent: u64,
+    pub scope: u64,
+    pub is_struct: u64,
+    pub generic: u64,
+    pub tag_count: u64,
+    pub tag_offset: u64,
+}
+
+// The numbers of an F row and the position of its type; or those of a G row.
+pub enum FieldLine {
+    Slot {
+        offset: u64,
+        discriminant: u64,
+        explicit: u64,
+        option: u64,
+        ty: usize,
+    },
+    Group {
+        id: u64,
+        discriminant: u64,
+    },
+    Nothing,
+}
+
+// The numbers of the node at a position.
+pub fn node_line(s: &[u8], at: usize) -> NodeLine
+    ensures { λ r. ⌜ On (nodeHere (rows (drop at (now (s .entry))))) (λ n. r ≡ nodeLine n) ⌝ }
+{
+    let g = row::next(s, at);
+    let l = g.line;
+    match l {
+        Line::Node {
+            id,
+            parent,
+            scope,
+            is_struct,
+            generic,
+            tag_count,
+            tag_offset,
+        } => NodeLine {
+            id,
+            parent,
+            scope,
+            is_struct,
+            generic,
+            tag_count,
+            tag_offset,
+        },
+        _ => NodeLine {
+            id: 0,
+            parent: 0,
+            scope: 0,
+            is_struct: 0,
+            generic: 0,
+            tag_count: 0,
+            tag_offset: 0,
+        },
+    }
+}
+
+// Past a field: an F row and what belongs to it, or a G row.
+pub fn after_field(s: &[u8], at: usize) -> Walk
+    ensures { λ r. ⌜ walked (now (s .entry)) r ≡ passed (fieldOf (rows (drop at (now (s .entry))))) ⌝ }
+{
+    let g = row::next(s, at);
+    let l = g.line;
+    let e = g.next;
+    match l {
+        Line::Field {
+            offset: _,
+            discriminant: _,
+            explicit,
+            option: _,
+        } => tree::slot(s, e, explicit),
+        Line::Group {
+            id: _,
+            discriminant: _,
+        } => Walk::Next { at: e },
+        _ => Walk::Refused { number: 2, at },
+    }
+}
+
+// The position of the F or G row with a number among those that stand there.
+fn nth_field(s: &[u8], from: usize, k: u64) -> Found
+    ensures { λ r. ⌜ ((seen : List ℕ) → On (fieldsOf seen (rows (drop from (now (s .entry)))))
+        (λ fs. Finds (FieldAt (now (s .entry))) r (nth k fs))) ⌝ }
+{
+    let mut at = from;
+    let mut n = k;
+    while 0 < n {
+        match after_field(s, at) {
+            Walk::Next { at: q } => {
+                at = q;
+            }
+            Walk::Refused { number: _, at: _ } => {
+                return Found::Nothing;
+            }
+        }
+        n -= 1;
+    }
+    let g = row::next(s, at);
+    let l = g.line;
+    match l {
+        Line::Field {
+            offset: _,
+            discriminant: _,
+            explicit: _,
+            option: _,
+        } => Found::At(at),
+        Line::Group {
+            id: _,
+            discriminant: _,
+        } => Found::At(at),
+        _ => Found::Nothing,
+    }
+}
+
+// The position of a node's field by its place, from 0, among the node's F and G rows.
+pub fn field(s: &[u8], at: usize, place: u64) -> Found
+    ensures { λ r. ⌜ On (nodeHere (rows (drop at (now (s .entry)))))
+        (λ n. Finds (FieldAt (now (s .entry))) r (nth place (n .fields))) ⌝ }
+{
+    let g = row::next(s, at);
+    nth_field(s, sheet::params(s, g.next), place)
+}
+
+// What the F or G row at a position says.
+pub fn field_line(s: &[u8], at: usize) -> FieldLine
+    ensures { λ r. ⌜ On (fieldOf (rows (drop at (now (s .entry))))) (λ f. SaysField (now (s .entry)) r f) ⌝ }
+{
+    let g = row::next(s, at);
+    let l = g.line;
+    let e = g.next;
+    match l {
+        Line::Field {
+            offset,
+            discriminant,
+            explicit,
+            option,
+        } => FieldLine::Slot {
+            offset,
+            discriminant,
+            explicit,
+            option,
+            ty: e,
+        },
+        Line::Group { id, discriminant } => FieldLine::Group { id, discriminant },
+        _ => FieldLine::Nothing,
+    }
+}

@@ -1,0 +1,5 @@
+pub mod BitLaws
+pub mod SectionLaws
+pub mod ByteLaws
+pub mod OperationLaws
+pub mod RecordLaws

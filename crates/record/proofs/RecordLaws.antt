@@ -1,0 +1,183 @@
+-- Records: a set and then a get, what a set leaves alone, sets in either order, clears. Every law is over a place, whatever its
+-- width. A bit of the section lies in a place or not, and the laws of writes settle both. Assumes nothing.
+use mathlib.Core.Path.{_≡_, refl, sym, ap, _∙_, subst}
+use mathlib.Core.Bool.{Bool, true, false, not}
+use mathlib.Core.Option.{some}
+use mathlib.Core.Logic.{_⊎_, inl, inr, _≢_}
+use mathlib.Core.List.{List, [], _∷_}
+use Prim.Native.Nat.{ℕ, _+_, _-_, _*_, _^_, _≤_, _<_}
+use native.Mathlib.Omega.{arith}
+use lib.Bits.{bitXor, xor-lt}
+use lib.Dec.{eqb}
+use lib.ListN.{length, getD}
+use lib.Seq.{drop-cons, ext-getD}
+use Rattle.record.specs.Bits.{bit}
+use Rattle.record.specs.Offsets.{Place, from, size, pointerAddress}
+use Rattle.record.specs.Record.{Record, read, write, masked, coded, getBits, putBits, nullFlag, clearFlag, get, put}
+use Rattle.record.specs.Record.{null, clear, Has, Clear, Holds, HoldsPointer, Same}
+use Rattle.record.specs.declared.PointerOffset.{PointerOffset}
+use Rattle.record.proofs.BitLaws.{length-xors, of-to, xors-twice, xors-xor}
+use Rattle.record.proofs.SectionLaws.{length-write, read-write, write-at, write-out, where?, found-ext, found-inside}
+use Rattle.record.proofs.SectionLaws.{stored-inside}
+
+-- the record with the value v, under mask m, put at p
+unfoldable pub after : Place → ℕ → ℕ → Record → Record
+after p v m r = record { bits = write (from p) (coded p v m) (r .bits); pointers = r .pointers }
+
+pub coded-size : (p : Place) (v m : ℕ) → length (coded p v m) ≡ size p
+coded-size p v m = length-xors (size p) v m
+
+pub get-inside : (p : Place) (k : ℕ) (r : Record) → Holds p r → get p k r ≡ some (masked p k (read (from p) (size p) (r .bits)))
+unfolding getBits
+get-inside p k r h = rw (found-inside (from p) (size p) (r .bits) h)
+
+-- ---- one set
+
+module _ (p : Place) (v m : ℕ) (r : Record) (h : Holds p r) where
+  fits : from p + length (coded p v m) ≤ length (r .bits)
+  fits = rw (coded-size p v m) h
+
+  pub put-inside : put p v m r ≡ some (after p v m r)
+  unfolding after putBits
+  put-inside = rw (stored-inside (from p) (coded p v m) (r .bits) fits)
+
+  pub after-length : length (after p v m r .bits) ≡ length (r .bits)
+  unfolding after
+  after-length = length-write (from p) (coded p v m) (r .bits) fits
+
+  -- a bit of the place: the same whatever stood in the record
+  pub after-at : (b : ℕ) → Has p b → getD (after p v m r .bits) b false ≡ getD (coded p v m) (b - from p) false
+  unfolding after
+  after-at b x = write-at (from p) (coded p v m) (r .bits) fits b (x .0) (rw (coded-size p v m) (x .1))
+
+  -- a bit outside the place stays
+  pub after-out : (b : ℕ) → (Has p b → ⊥) → getD (after p v m r .bits) b false ≡ getD (r .bits) b false
+  unfolding after
+  after-out b k = write-out (from p) (coded p v m) (r .bits) fits b (λ x. k (x .0, rw (coded-size p v m) at (x .1)))
+
+  -- nothing but the place changes: lengths, pointers and every other bit stay
+  pub after-same : Same (Has p) r (after p v m r)
+  unfolding after
+  after-same = record { length-same = after-length; bits-same = after-out; pointers-same = refl }
+
+  after-read : read (from p) (size p) (after p v m r .bits) ≡ coded p v m
+  unfolding after
+  after-read =
+      subst (λ (n : ℕ). read (from p) n (write (from p) (coded p v m) (r .bits)) ≡ coded p v m) (coded-size p v m)
+      (read-write (from p) (coded p v m) (r .bits) fits)
+
+  get-coded : (k : ℕ) → get p k (after p v m r) ≡ some (masked p k (coded p v m))
+  get-coded k = get-inside p k (after p v m r) (rw after-length h) ∙ ap (λ (bs : List Bool). some (masked p k bs)) after-read
+
+  -- A SET AND THEN A GET: the value, exclusive or both masks
+  pub get-after : (k : ℕ) → v < 2 ^ size p → m < 2 ^ size p → k < 2 ^ size p
+      → get p k (after p v m r) ≡ some (bitXor (bitXor v m) k)
+  get-after k hv hm hk =
+      let n : ℕ = size p in
+      get-coded k
+      ∙ ap some (rw (xors-xor n v m, xors-xor n (bitXor v m) k)
+      (of-to n (bitXor (bitXor v m) k) (xor-lt n (bitXor v m) k (xor-lt n v m hv hm) hk)))
+
+  -- the masks agree: the value
+  pub get-set : v < 2 ^ size p → get p m (after p v m r) ≡ some v
+  get-set l = get-coded m ∙ ap some (rw (xors-twice (size p) v m) (of-to (size p) v l))
+
+-- two sections that agree on a place's bits give it the same value, if any
+pub get-ext : (p : Place) (k : ℕ) (r s : Record) → length (s .bits) ≡ length (r .bits)
+    → ((b : ℕ) → Has p b → getD (s .bits) b false ≡ getD (r .bits) b false) → get p k s ≡ get p k r
+unfolding getBits
+get-ext p k r s e f = rw (found-ext (from p) (size p) (r .bits) (s .bits) e f)
+
+-- a set does not disturb the get of a place with no bit in common
+pub get-other : (p : Place) (v m : ℕ) (r : Record) → Holds p r → (q : Place) (k : ℕ) → Clear p q
+    → get q k (after p v m r) ≡ get q k r
+get-other p v m r h q k c = get-ext q k r (after p v m r) (after-length p v m r h) (λ b x. after-out p v m r h b (λ y. c b y x))
+
+-- ---- two sets
+
+-- two records with the same bits and pointers are the same
+pub by-bits : (r s : Record) → length (r .bits) ≡ length (s .bits) → r .pointers ≡ s .pointers
+    → ((b : ℕ) → getD (r .bits) b false ≡ getD (s .bits) b false) → r ≡ s
+by-bits r s e f g = both (ext-getD false (r .bits) (s .bits) e (λ b _. g b)) f
+  where
+    both : r .bits ≡ s .bits → r .pointers ≡ s .pointers → r ≡ s
+    both x y = λ i. record { bits = x i; pointers = y i }
+
+-- sets of places with no bit in common commute
+module _ (p q : Place) (v m w k : ℕ) (r : Record) (c : Clear p q) (hp : Holds p r) (hq : Holds q r) where
+  hp′ : Holds p (after q w k r)
+  hp′ = rw (after-length q w k r hq) hp
+
+  hq′ : Holds q (after p v m r)
+  hq′ = rw (after-length p v m r hp) hq
+
+  pub after-comm : after q w k (after p v m r) ≡ after p v m (after q w k r)
+  after-comm =
+      by-bits (after q w k (after p v m r)) (after p v m (after q w k r))
+      (after-length q w k (after p v m r) hq′ ∙ after-length p v m r hp
+      ∙ sym (after-length p v m (after q w k r) hp′ ∙ after-length q w k r hq))
+      (unfold after in refl)
+      (λ b. go b (where? (from p) (size p) b) (where? (from q) (size q) b))
+    where
+      out : (t : Place) (b : ℕ) → (b < from t) ⊎ (from t + size t ≤ b) → Has t b → ⊥
+      out t b (inl x) y = omega arith
+      out t b (inr x) y = omega arith
+
+      go : (b : ℕ) → Has p b ⊎ ((b < from p) ⊎ (from p + size p ≤ b)) → Has q b ⊎ ((b < from q) ⊎ (from q + size q ≤ b))
+          → getD (after q w k (after p v m r) .bits) b false ≡ getD (after p v m (after q w k r) .bits) b false
+      go b (inl x) _ =
+          after-out q w k (after p v m r) hq′ b (λ y. c b x y) ∙ after-at p v m r hp b x
+          ∙ sym (after-at p v m (after q w k r) hp′ b x)
+      go b (inr x) (inl y) =
+          after-at q w k (after p v m r) hq′ b y ∙ sym (after-at q w k r hq b y)
+          ∙ sym (after-out p v m (after q w k r) hp′ b (out p b x))
+      go b (inr x) (inr y) =
+          after-out q w k (after p v m r) hq′ b (out q b y) ∙ after-out p v m r hp b (out p b x)
+          ∙ sym (after-out q w k r hq b (out q b y)) ∙ sym (after-out p v m (after q w k r) hp′ b (out p b x))
+
+-- ---- clears
+
+-- the record with pointer i null
+unfoldable pub cleared : PointerOffset → Record → Record
+cleared i r = record { bits = r .bits; pointers = write (pointerAddress i) (false ∷ []) (r .pointers) }
+
+module _ (i : PointerOffset) (r : Record) (h : HoldsPointer i r) where
+  one-inside : pointerAddress i + 1 ≤ length (r .pointers)
+  one-inside = omega arith
+
+  pub clear-inside : clear i r ≡ some (cleared i r)
+  unfolding clearFlag cleared
+  clear-inside = rw (stored-inside (pointerAddress i) (false ∷ []) (r .pointers) one-inside)
+
+  -- a clear changes no data bit and no number of pointers
+  pub cleared-bits : cleared i r .bits ≡ r .bits
+  unfolding cleared
+  cleared-bits = refl
+
+  pub cleared-length : length (cleared i r .pointers) ≡ length (r .pointers)
+  unfolding cleared
+  cleared-length = length-write (pointerAddress i) (false ∷ []) (r .pointers) one-inside
+
+  -- what it clears is null, every other pointer is as before
+  pub cleared-at : getD (cleared i r .pointers) (pointerAddress i) false ≡ false
+  unfolding cleared
+  cleared-at =
+      let z : pointerAddress i - pointerAddress i ≡ 0 = omega arith in
+      write-at (pointerAddress i) (false ∷ []) (r .pointers) one-inside (pointerAddress i) (omega arith) (omega arith)
+      ∙ ap (λ (j : ℕ). getD (false ∷ []) j false) z
+
+  pub cleared-other : (j : ℕ) → j ≢ pointerAddress i → getD (cleared i r .pointers) j false ≡ getD (r .pointers) j false
+  unfolding cleared
+  cleared-other j n = write-out (pointerAddress i) (false ∷ []) (r .pointers) one-inside j (λ x. n (omega arith))
+
+-- a null test says whether the flag is down
+pub null-flag : (i : PointerOffset) (r : Record) → HoldsPointer i r
+    → null i r ≡ some (not (getD (r .pointers) (pointerAddress i) false))
+unfolding nullFlag
+null-flag i r h =
+    rw (found-inside (pointerAddress i) 1 (r .pointers) (omega arith), drop-cons (r .pointers) (pointerAddress i) false h)
+    (ap some (down (getD (r .pointers) (pointerAddress i) false)))
+  where
+    down : (b : Bool) → eqb (bit b + 2 * 0) 0 ≡ not b
+    down true = refl
+    down false = refl

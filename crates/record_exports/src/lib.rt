@@ -1,0 +1,215 @@
+// The static library's boundary for records, on numbers and byte slices. A slice passes as pointer then length:
+//
+//     bool kitlubas_get_bool(const uint8_t *section, size_t len, uint32_t offset, uint64_t *value);
+//     bool kitlubas_get_bool_mask(const uint8_t *section, size_t len, uint32_t offset, bool mask, uint64_t *value);
+//     bool kitlubas_set_bool(uint8_t *section, size_t len, uint32_t offset, bool value);
+//     bool kitlubas_set_bool_mask(uint8_t *section, size_t len, uint32_t offset, bool value, bool mask);
+//     bool kitlubas_get_data(const uint8_t *section, size_t len, uint32_t width, uint32_t offset, uint64_t *value);
+//     bool kitlubas_get_data_mask(const uint8_t *section, size_t len, uint32_t width, uint32_t offset, uint64_t mask,
+//                                 uint64_t *value);
+//     bool kitlubas_set_data(uint8_t *section, size_t len, uint32_t width, uint32_t offset, uint64_t value);
+//     bool kitlubas_set_data_mask(uint8_t *section, size_t len, uint32_t width, uint32_t offset, uint64_t value, uint64_t mask);
+//     uint8_t kitlubas_tag_is(const uint8_t *section, size_t len, uint32_t offset, uint16_t member);
+//     uint8_t kitlubas_is_pointer_null(const uint8_t *pointers, size_t len, uint32_t offset);
+//     bool kitlubas_clear(uint8_t *pointers, size_t len, uint32_t offset);
+//
+// A get says whether it found a value, and puts it into `value`. A set or a clear says whether it has a meaning. A width is 1, 2,
+// 4 or 8 bytes; of any other nothing is found or set. A test answers 0 for false, 1 for true, 2 past the section.
+use record::BitOffset;
+use record::ElementOffset;
+use record::Get;
+use record::PointerOffset;
+use record::Set;
+use record::Test;
+use record::Width;
+ghost use mathlib.Core.Path.{_≡_};
+ghost use Rattle.record.specs.Bits.{bit, sectionBits, flags};
+ghost use Rattle.record.specs.Record.{tagIs, nullFlag, clearFlag};
+ghost use Rattle.record_exports.specs.Boundary.{getBool, putBool, elements, pointerAt, widthOf, getOf};
+ghost use Rattle.record_exports.specs.Boundary.{isDone, numberOf, Gave, Left};
+ghost use Rattle.record_exports.specs.Boundary.{putOf, testNumber};
+
+// What a number of bytes is as a width.
+enum Bytes {
+    Are(Width),
+    No,
+}
+
+fn width_of(width: u32) -> Bytes
+    ensures { λ r. ⌜ r ≡ widthOf width ⌝ }
+{
+    match width {
+        1 => Bytes::Are(Width::One),
+        2 => Bytes::Are(Width::Two),
+        4 => Bytes::Are(Width::Four),
+        8 => Bytes::Are(Width::Eight),
+        _ => Bytes::No,
+    }
+}
+
+// whether a set or a clear has a meaning
+fn done(s: Set) -> bool
+    ensures { λ r. ⌜ r ≡ isDone s ⌝ }
+{
+    match s {
+        Set::Done => true,
+        Set::NoMeaning => false,
+    }
+}
+
+fn number(t: Test) -> u8
+    ensures { λ r. ⌜ r ≡ numberOf t ⌝ }
+{
+    match t {
+        Test::True => 1,
+        Test::False => 0,
+        Test::None => 2,
+    }
+}
+
+#[no_mangle]
+pub extern "C" fn kitlubas_get_bool_mask(
+    section: &[u8],
+    offset: u32,
+    mask: bool,
+    value: &mut u64,
+) -> bool
+    ensures { λ r. ⌜ Gave (getBool offset (bit mask) (now (section .entry))) (now (value .entry)) (now (value .exit)) r ⌝ }
+{
+    match record::get_bool_field_mask(section, BitOffset(offset), mask) {
+        Get::Value(v) => {
+            *value = v;
+            true
+        }
+        Get::None => false,
+    }
+}
+
+#[no_mangle]
+pub extern "C" fn kitlubas_get_bool(section: &[u8], offset: u32, value: &mut u64) -> bool
+    ensures { λ r. ⌜ Gave (getBool offset 0 (now (section .entry))) (now (value .entry)) (now (value .exit)) r ⌝ }
+{
+    match record::get_bool_field(section, BitOffset(offset)) {
+        Get::Value(v) => {
+            *value = v;
+            true
+        }
+        Get::None => false,
+    }
+}
+
+#[no_mangle]
+pub extern "C" fn kitlubas_set_bool_mask(
+    section: &mut [u8],
+    offset: u32,
+    value: bool,
+    mask: bool,
+) -> bool
+    ensures { λ r. ⌜ Left (putBool offset (bit value) (bit mask) (now (section .entry)))
+        (sectionBits (now (section .entry))) (sectionBits (now (section .exit))) r ⌝ }
+{
+    done(record::set_bool_field_mask(section, BitOffset(offset), value, mask))
+}
+
+#[no_mangle]
+pub extern "C" fn kitlubas_set_bool(section: &mut [u8], offset: u32, value: bool) -> bool
+    ensures { λ r. ⌜ Left (putBool offset (bit value) 0 (now (section .entry)))
+        (sectionBits (now (section .entry))) (sectionBits (now (section .exit))) r ⌝ }
+{
+    done(record::set_bool_field(section, BitOffset(offset), value))
+}
+
+#[no_mangle]
+pub extern "C" fn kitlubas_get_data_mask(
+    section: &[u8],
+    width: u32,
+    offset: u32,
+    mask: u64,
+    value: &mut u64,
+) -> bool
+    ensures { λ r. ⌜ Gave (getOf (widthOf width) (elements offset) mask (sectionBits (now (section .entry))))
+        (now (value .entry)) (now (value .exit)) r ⌝ }
+{
+    let Bytes::Are(w) = width_of(width) else {
+        return false;
+    };
+    match record::get_data_field_mask(section, w, ElementOffset(offset), mask) {
+        Get::Value(v) => {
+            *value = v;
+            true
+        }
+        Get::None => false,
+    }
+}
+
+#[no_mangle]
+pub extern "C" fn kitlubas_get_data(
+    section: &[u8],
+    width: u32,
+    offset: u32,
+    value: &mut u64,
+) -> bool
+    ensures { λ r. ⌜ Gave (getOf (widthOf width) (elements offset) 0 (sectionBits (now (section .entry))))
+        (now (value .entry)) (now (value .exit)) r ⌝ }
+{
+    let Bytes::Are(w) = width_of(width) else {
+        return false;
+    };
+    match record::get_data_field(section, w, ElementOffset(offset)) {
+        Get::Value(v) => {
+            *value = v;
+            true
+        }
+        Get::None => false,
+    }
+}
+
+#[no_mangle]
+pub extern "C" fn kitlubas_set_data_mask(
+    section: &mut [u8],
+    width: u32,
+    offset: u32,
+    value: u64,
+    mask: u64,
+) -> bool
+    ensures { λ r. ⌜ Left (putOf (widthOf width) (elements offset) value mask (sectionBits (now (section .entry))))
+        (sectionBits (now (section .entry))) (sectionBits (now (section .exit))) r ⌝ }
+{
+    let Bytes::Are(w) = width_of(width) else {
+        return false;
+    };
+    done(record::set_data_field_mask(section, w, ElementOffset(offset), value, mask))
+}
+
+#[no_mangle]
+pub extern "C" fn kitlubas_set_data(section: &mut [u8], width: u32, offset: u32, value: u64) -> bool
+    ensures { λ r. ⌜ Left (putOf (widthOf width) (elements offset) value 0 (sectionBits (now (section .entry))))
+        (sectionBits (now (section .entry))) (sectionBits (now (section .exit))) r ⌝ }
+{
+    let Bytes::Are(w) = width_of(width) else {
+        return false;
+    };
+    done(record::set_data_field(section, w, ElementOffset(offset), value))
+}
+
+#[no_mangle]
+pub extern "C" fn kitlubas_tag_is(section: &[u8], offset: u32, member: u16) -> u8
+    ensures { λ r. ⌜ r ≡ testNumber (tagIs (elements offset) member (sectionBits (now (section .entry)))) ⌝ }
+{
+    number(record::tag_is(section, ElementOffset(offset), member))
+}
+
+#[no_mangle]
+pub extern "C" fn kitlubas_is_pointer_null(pointers: &[u8], offset: u32) -> u8
+    ensures { λ r. ⌜ r ≡ testNumber (nullFlag (pointerAt offset) (flags (now (pointers .entry)))) ⌝ }
+{
+    number(record::is_pointer_field_null(pointers, PointerOffset(offset)))
+}
+
+#[no_mangle]
+pub extern "C" fn kitlubas_clear(pointers: &mut [u8], offset: u32) -> bool
+    ensures { λ r. ⌜ Left (clearFlag (pointerAt offset) (flags (now (pointers .entry))))
+        (flags (now (pointers .entry))) (flags (now (pointers .exit))) r ⌝ }
+{
+    done(record::clear(pointers, PointerOffset(offset)))
+}

@@ -1,0 +1,95 @@
+// Replays answers of the Rust: reads cases from standard input, one a line, and writes the answer to each. The files stdin and
+// stdout beside src/ are written by the comparison in oracle/, which says how. A case is a letter and, after a space, what it
+// is about:
+//
+//     s, c, m   a name: in snake case, its default's constant, as a module
+//     u         a number, as 16 hex digits
+//     h i j k   the bits of a signed number, as 2, 4, 8 and 16 hex digits
+//     0 to 9    a line's text, at that indent
+//     b, z      nothing: a blank line, and no lines at all
+//
+// Each answer ends with byte 10.
+use libc::STDIN_FILENO;
+use text::Text;
+ghost use Prim.Native.Nat.{_<_};
+
+// What a hex digit counts; 0 for any other byte.
+fn hex_digit(b: u8) -> u64
+    ensures { λ r. ⌜ r < 16 ⌝ }
+{
+    match b {
+        b'0'..=b'9' => (b - b'0') as u64,
+        b'a'..=b'f' => (b - b'a' + 10) as u64,
+        _ => 0,
+    }
+}
+
+// The number of the last 16 hex digits.
+fn hex(digits: &[u8]) -> u64 {
+    let mut n: u64 = 0;
+    let mut i = 0;
+    while i < digits.len() {
+        n = n % 0x1000_0000_0000_0000 * 16 + hex_digit(digits[i]);
+        i += 1;
+    }
+    n
+}
+
+// A name or a number.
+fn leaf(t: Text, buf: &mut [u8], letter: u8, about: &[u8]) -> Text {
+    match letter {
+        b's' => names::snake_name(t, buf, about),
+        b'c' => names::default_name(t, buf, about),
+        b'm' => names::module_name(t, buf, about),
+        b'u' => t.number(buf, hex(about)),
+        b'h' => t.signed8(buf, (hex(about) % 0x100) as u8),
+        b'i' => t.signed16(buf, (hex(about) % 0x1_0000) as u16),
+        b'j' => t.signed32(buf, (hex(about) % 0x1_0000_0000) as u32),
+        b'k' => t.signed64(buf, hex(about)),
+        _ => t,
+    }
+}
+
+fn answer(t: Text, buf: &mut [u8], letter: u8, about: &[u8]) -> Text {
+    match letter {
+        b'0'..=b'9' => t.line(buf, (letter - b'0') as usize, about),
+        b'b' => t.blank_line(buf),
+        b'z' => t.no_lines(buf),
+        _ => {
+            let t = leaf(t, buf, letter, about);
+            t.byte(buf, b'\n')
+        }
+    }
+}
+
+fn print_answer(buf: &mut [u8], letter: u8, about: &[u8]) {
+    let t = answer(Text::at(0), buf, letter, about);
+    programs::print(t, buf);
+}
+
+fn print_case(buf: &mut [u8], case: &[u8]) {
+    if case.len() == 0 {
+        return;
+    }
+    if case.len() == 1 {
+        print_answer(buf, case[0], b"");
+        return;
+    }
+    print_answer(buf, case[0], &case[2..]);
+}
+
+fn replay(buf: &mut [u8], cases: &[u8]) {
+    let mut at = 0;
+    while at < cases.len() {
+        let end = programs::line_end(cases, at);
+        print_case(buf, &cases[at..end]);
+        at = end + 1;
+    }
+}
+
+fn main() {
+    let mut cases = io::large_buffer();
+    let n = io::read_full(STDIN_FILENO, &mut cases);
+    let mut buf = io::buffer();
+    replay(&mut buf, &cases[..n]);
+}

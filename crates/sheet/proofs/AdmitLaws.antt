@@ -1,0 +1,83 @@
+-- Laws of `admit`: its answer in each of its cases. Assumes nothing.
+use mathlib.Core.Path.{_≡_, refl, _∙_}
+use mathlib.Core.List.{List, [], _∷_}
+use Prim.Native.Nat.{ℕ, _≤_, _<_}
+use native.Mathlib.Omega.{arith}
+use borrow.Author.Tests.{lt-ltb, le-ltb}
+use lib.ListN.{length, drop, length-drop}
+use types.Run.{OneOf}
+use denote.Enum.Declared.{tagOf}
+use Rattle.text.specs.Bytes.{Str}
+use Rattle.row.proofs.Line.{the-type}
+use Rattle.row.proofs.Laws.{size-rows}
+use Rattle.row.specs.Rows.{rows, restOf, size, lineNo}
+use Rattle.row.specs.Line.{lineAt, textAt}
+use Rattle.row.specs.declared.Line.{Line}
+use Rattle.tree.specs.Tree.{Node, Sheet}
+use Rattle.tree.specs.Reader.{Rows, Reading, got, no, Reader, _then_}
+use Rattle.tree.specs.Read.{nodesOf, sheetOf, Admitted, numbered, admitted}
+use Rattle.tree.specs.Walked.{passed}
+use Rattle.tree.specs.Index.{On}
+use Rattle.tree.specs.declared.Walk.{Walk}
+use Rattle.tree.specs.declared.Walk.the-variants.{Next, Refused}
+use Rattle.tree.proofs.OtherLines.{never, not-root}
+use Rattle.sheet.specs.Admission.{verdict, IndexFor, IndexOf, NodesRead}
+use Rattle.sheet.specs.declared.Answer.{Answer}
+use Rattle.sheet.specs.declared.Index.{Index}
+use Rattle.row.specs.declared.Line.the-variants as line
+use Rattle.sheet.specs.declared.Answer.the-variants as answer
+
+-- an answer with its index, of what is admitted
+abbrev Says : Str → Admitted → Answer → Index → Type 0
+Says s a r x = (r ≡ verdict a) × IndexOf s a x
+
+pub too-long : (s : Str) (x : Index) → 65536 < length s → Says s (admitted s) (answer.Refused 1 0) x
+unfolding admitted
+too-long s x h = rw (admitted, lt-ltb 65536 (length s) h) (refl, tt)
+
+-- what is left after the first row is not too long either
+pub rest-fits : (s : Str) (e : ℕ) → length s ≤ 65536 → size (rows (drop e s)) ≤ 65536
+rest-fits s e h = omega (arith, size-rows (drop e s), length-drop e s)
+
+-- a sheet that is not too long, and its first row's line
+module _ (s : Str) (short : length s ≤ 65536) (l : Line) (here : l ≡ lineAt (rows s)) (x : Index) where
+  fits : admitted s ≡ numbered s (sheetOf (rows s))
+  unfolding admitted
+  fits = rw (admitted, le-ltb 65536 (length s) short)
+
+  pub no-root :
+      (n : ℕ) → OneOf (1 ∷ 2 ∷ 3 ∷ 4 ∷ 5 ∷ 6 ∷ 7 ∷ 8 ∷ 9 ∷ 10 ∷ []) (tagOf the-type l) → n ≡ lineNo s (rows s)
+      → Says s (admitted s) (answer.Refused 2 n) x
+  unfolding sheetOf
+  no-root n o e = rw (fits, ← here, not-root {A = Reader _} l _ _ o, ← e) (refl, tt)
+
+  module _ (is : l ≡ line.Root) (rest : Rows) (after : rest ≡ restOf (rows s)) (w : Walk)
+      (read : NodesRead s w x (nodesOf 64 [] [] rest)) where
+    made : List Node → Sheet
+    made ns = record { root = textAt (rows s); nodes = ns }
+
+    nodes-read : admitted s ≡ numbered s (nodesOf 64 [] [] rest then λ ns. got (made ns))
+    unfolding sheetOf made
+    nodes-read = fits ∙ rw (← here, is, ← after)
+
+    pub whole-sheet : (q : ℕ) → w ≡ Next q → Says s (admitted s) answer.Sheet x
+    unfolding made
+    whole-sheet q e = rw nodes-read (go (nodesOf 64 [] [] rest) (rw e at (read .walk)) (read .index))
+      where
+        go : (g : Reading (List Node)) → got tt (rows (drop q s)) ≡ passed g
+            → On g (λ ns. IndexFor s ns x)
+            → Says s (numbered s (g then λ ns. got (made ns))) answer.Sheet x
+        go (got ns us) h d = (refl, d)
+        go (no k us) h d = never cc
+
+    pub bad-line :
+        (k q n : ℕ) → w ≡ Refused k q → n ≡ lineNo s (rows (drop q s)) → Says s (admitted s) (answer.Refused k n) x
+    bad-line k q n e f = rw nodes-read (go (nodesOf 64 [] [] rest) (rw e at (read .walk)))
+      where
+        go : (g : Reading (List Node)) → no k (rows (drop q s)) ≡ passed g
+            → Says s (numbered s (g then λ ns. got (made ns))) (answer.Refused k n) x
+        go (got ns us) h = never cc
+        go (no j us) h =
+            let a : j ≡ k = cc in
+            let b : us ≡ rows (drop q s) = cc in
+            rw (a, b, ← f) (refl, tt)

@@ -1,0 +1,5 @@
+pub mod FieldsLaws
+pub mod RoomLaws
+pub mod NodesLaws
+pub mod IndexLaws
+pub mod AdmitLaws

@@ -1,0 +1,57 @@
+-- What the code's answers say of a sheet and its tree. Assumes nothing.
+use mathlib.Core.Path.{_≡_}
+use mathlib.Core.List.{List, [], _∷_, _++_}
+use Prim.Native.Nat.{ℕ}
+use lib.ListN.{drop, take}
+use Rattle.text.specs.Bytes.{Str}
+use Rattle.row.specs.Rows.{rows, size}
+use Rattle.tree.specs.Tree.{Field, Node, Sheet}
+use Rattle.tree.specs.Reader.{Reading, got, no, Reader, mapR}
+use Rattle.tree.specs.Read.{fieldsOf, groupIds, nodeOf, Admitted, sheet, refused}
+use Rattle.tree.specs.Walked.{passed, walked}
+use Rattle.tree.specs.Index.{On, Indexed}
+use Rattle.tree.specs.declared.Walk.{Walk}
+use Rattle.tree.specs.declared.Walk.the-variants.{Next, Refused}
+use Rattle.sheet.specs.declared.Answer.{Answer}
+use Rattle.sheet.specs.declared.Answer.the-variants as answer
+use Rattle.sheet.specs.declared.Index.{Index}
+
+-- document 01's answer for what is admitted: a sheet, or the number and the line of its refusal
+abbrev pub verdict : Admitted → Answer
+verdict (sheet sh) = answer.Sheet
+verdict (refused k l) = answer.Refused k l
+
+-- the index of some nodes: the first `count` of its ids and positions
+abbrev pub IndexFor : Str → List Node → Index → Type 0
+IndexFor s ns x = Indexed s ns (take (x .count) (x .ids)) (take (x .count) (x .ats))
+
+-- the index holds the nodes of the tree, if there is one
+abbrev pub IndexOf : Str → Admitted → Index → Type 0
+IndexOf s (sheet sh) x = IndexFor s (sh .nodes) x
+IndexOf s (refused k l) x = Unit {0}
+
+-- a walk that also gives something
+abbrev pub told : {A : Type 0} → Str → Walk → A → Reading A
+told s (Next at) a = got a (rows (drop at s))
+told s (Refused k at) a = no k (rows (drop at s))
+
+-- the group ids seen after a node's fields
+abbrev pub groupsAfter : List ℕ → Reader (List ℕ)
+groupsAfter seen = mapR (λ fs. seen ++ groupIds fs) (fieldsOf seen)
+
+-- how many bytes are left after a walk
+abbrev pub leftAfter : Str → Walk → ℕ
+leftAfter s (Next at) = size (rows (drop at s))
+leftAfter s (Refused k at) = 0
+
+-- a node's id, and the group ids seen after it
+abbrev pub seenAfter : List ℕ → Node → ℕ × List ℕ
+seenAfter seen n = (n .id, seen ++ groupIds (n .fields))
+
+abbrev pub nodeAfter : List ℕ → List ℕ → Reader (ℕ × List ℕ)
+nodeAfter ids seen = mapR (seenAfter seen) (nodeOf ids seen)
+
+-- what a walk over nodes says of their reading: where it came to, and the index
+pub record NodesRead (s : Str) (w : Walk) (x : Index) (g : Reading (List Node)) : Type 0 where
+  pub walk : walked s w ≡ passed g
+  pub index : On g (λ ns. IndexFor s ns x)

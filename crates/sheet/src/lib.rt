@@ -1,0 +1,273 @@
+// A sheet, read once: admitted, with the index of its nodes, or refused at its first bad line.
+use row::Line;
+use tree::Walk;
+ghost use mathlib.Core.Path.{_≡_};
+ghost use mathlib.Core.List.{[]};
+ghost use Prim.Native.Nat.{_+_, _*_, _≤_};
+ghost use lib.ListN.{length, drop, take};
+ghost use Rattle.row.specs.Rows.{rows, size};
+ghost use Rattle.tree.specs.Reader.{got};
+ghost use Rattle.tree.specs.Read.{among, paramsOf, nodesOf, admitted};
+ghost use Rattle.tree.specs.Walked.{passed, walked};
+ghost use Rattle.tree.specs.Index.{On, Indexed};
+ghost use Rattle.sheet.specs.Admission.{verdict, IndexOf, told, groupsAfter, leftAfter, nodeAfter, NodesRead};
+
+// The ids of the nodes and the positions of their N rows, in the sheet's order: the first `count` of each.
+pub struct Index {
+    pub ids: [u64; 64],
+    pub ats: [usize; 64],
+    pub count: usize,
+}
+
+// What a sheet is: one that document 01 admits, or one with a refusal at a line.
+pub enum Answer {
+    Sheet,
+    Refused { number: u64, line: usize },
+}
+
+pub struct Admission {
+    pub answer: Answer,
+    pub index: Index,
+}
+
+// A walk, and how many ids are held after it.
+pub struct Run {
+    pub walk: Walk,
+    pub count: usize,
+}
+
+// A walk over one node, its id, and how many group ids are held after it.
+struct NodeRun {
+    walk: Walk,
+    id: u64,
+    count: usize,
+}
+
+// A walk over the nodes, and their index.
+struct IndexRun {
+    walk: Walk,
+    index: Index,
+}
+
+// Whether an id is one of the first `count`.
+fn seen(ids: &[u64], count: usize, id: u64) -> bool
+    requires { ⌜ count ≤ length (now ids) ⌝ }
+    ensures { λ r. ⌜ r ≡ among id (take count (now (ids .entry))) ⌝ }
+{
+    let mut i = 0;
+    while i < count {
+        if ids[i] == id {
+            return true;
+        }
+        i += 1;
+    }
+    false
+}
+
+// The position after the P rows that stand there.
+pub fn params(s: &[u8], from: usize) -> usize
+    ensures { λ r. ⌜ got tt (rows (drop r (now (s .entry)))) ≡ passed (paramsOf (rows (drop from (now (s .entry))))) ⌝ }
+{
+    let mut at = from;
+    loop {
+        let g = row::next(s, at);
+        let l = g.line;
+        let e = g.next;
+        let Line::Parameter = l else {
+            return at;
+        };
+        at = e;
+    }
+}
+
+// The fields of a node: F rows with what belongs to them, and G rows. The ids of all G rows before stand in `groups`, and
+// those of this node are put after them. A G row has 44 bytes or more, so there is room for all of a sheet.
+fn fields(s: &[u8], from: usize, groups: &mut [u64], count: usize) -> Run
+    requires { ⌜ (length (now groups) ≡ 1489) × (44 * count + size (rows (drop from (now s))) ≤ 65536) ⌝ }
+    ensures read { λ r. ⌜ told (now (s .entry)) (r .walk) (take (r .count) (now (groups .exit)))
+        ≡ groupsAfter (take count (now (groups .entry))) (rows (drop from (now (s .entry)))) ⌝ }
+    ensures room { λ r. ⌜ 44 * r .count + leftAfter (now (s .entry)) (r .walk) ≤ 65536 ⌝ }
+{
+    let mut at = from;
+    let mut n = count;
+    loop {
+        let g = row::next(s, at);
+        let l = g.line;
+        let e = g.next;
+        match l {
+            Line::Field {
+                offset: _,
+                discriminant: _,
+                explicit,
+                option: _,
+            } => match tree::slot(s, e, explicit) {
+                Walk::Next { at: q } => {
+                    at = q;
+                    continue;
+                }
+                Walk::Refused { number, at: q } => {
+                    return Run {
+                        walk: Walk::Refused { number, at: q },
+                        count: n,
+                    };
+                }
+            },
+            Line::Group {
+                id,
+                discriminant: _,
+            } => {
+                if seen(groups, n, id) {
+                    return Run {
+                        walk: Walk::Refused { number: 3, at },
+                        count: n,
+                    };
+                }
+                groups[n] = id;
+                n += 1;
+                at = e;
+                continue;
+            }
+            _ => {
+                return Run {
+                    walk: Walk::Next { at },
+                    count: n,
+                };
+            }
+        }
+    }
+}
+
+// One node: an N row whose id is none of the first `known` of `ids`, its P rows, its F and G rows.
+fn node(s: &[u8], at: usize, ids: &[u64], known: usize, groups: &mut [u64], count: usize) -> NodeRun
+    requires { ⌜ (known ≤ length (now ids)) × (length (now groups) ≡ 1489)
+        × (44 * count + size (rows (drop at (now s))) ≤ 65536) ⌝ }
+    ensures read { λ r. ⌜ told (now (s .entry)) (r .walk) (r .id, take (r .count) (now (groups .exit)))
+        ≡ nodeAfter (take known (now (ids .entry))) (take count (now (groups .entry))) (rows (drop at (now (s .entry)))) ⌝ }
+    ensures room { λ r. ⌜ 44 * r .count + leftAfter (now (s .entry)) (r .walk) ≤ 65536 ⌝ }
+{
+    let g = row::next(s, at);
+    let l = g.line;
+    let e = g.next;
+    let Line::Node {
+        id,
+        parent: _,
+        scope: _,
+        is_struct: _,
+        generic: _,
+        tag_count: _,
+        tag_offset: _,
+    } = l
+    else {
+        return NodeRun {
+            walk: Walk::Refused { number: 2, at },
+            id: 0,
+            count,
+        };
+    };
+    if seen(ids, known, id) {
+        return NodeRun {
+            walk: Walk::Refused { number: 3, at },
+            id,
+            count,
+        };
+    }
+    let f = fields(s, params(s, e), groups, count);
+    let walk = f.walk;
+    NodeRun {
+        walk,
+        id,
+        count: f.count,
+    }
+}
+
+// Nodes up to the end of the sheet, 1 to 64 of them.
+fn nodes(s: &[u8], from: usize) -> IndexRun
+    requires { ⌜ size (rows (drop from (now s))) ≤ 65536 ⌝ }
+    ensures { λ r. ⌜ NodesRead (now (s .entry)) (r .walk) (r .index) (nodesOf 64 [] [] (rows (drop from (now (s .entry))))) ⌝ }
+{
+    let mut ids = [0u64; 64];
+    let mut ats = [0usize; 64];
+    let mut groups = [0u64; 1489];
+    let mut n: usize = 0;
+    let mut count: usize = 0;
+    let mut at = from;
+    while count < 64 {
+        let m = node(s, at, &ids, count, &mut groups, n);
+        let w = m.walk;
+        match w {
+            Walk::Next { at: q } => {
+                ids[count] = m.id;
+                ats[count] = at;
+                count += 1;
+                if s.len() <= q {
+                    return IndexRun {
+                        walk: Walk::Next { at: q },
+                        index: Index { ids, ats, count },
+                    };
+                }
+                n = m.count;
+                at = q;
+            }
+            Walk::Refused { number, at: q } => {
+                return IndexRun {
+                    walk: Walk::Refused { number, at: q },
+                    index: Index { ids, ats, count },
+                };
+            }
+        }
+    }
+    IndexRun {
+        walk: Walk::Refused { number: 2, at },
+        index: Index { ids, ats, count },
+    }
+}
+
+// The index of a sheet that has none.
+fn no_index() -> Index {
+    Index {
+        ids: [0u64; 64],
+        ats: [0usize; 64],
+        count: 0,
+    }
+}
+
+// Whether a sheet is admitted, and its index: one R row, then the nodes.
+pub fn admit(s: &[u8]) -> Admission
+    ensures answer { λ r. ⌜ r .answer ≡ verdict (admitted (now (s .entry))) ⌝ }
+    ensures index { λ r. ⌜ IndexOf (now (s .entry)) (admitted (now (s .entry))) (r .index) ⌝ }
+{
+    if 65536 < s.len() {
+        return Admission {
+            answer: Answer::Refused { number: 1, line: 0 },
+            index: no_index(),
+        };
+    }
+    let g = row::next(s, 0);
+    let l = g.line;
+    let e = g.next;
+    let Line::Root = l else {
+        return Admission {
+            answer: Answer::Refused {
+                number: 2,
+                line: row::line_number(s, 0),
+            },
+            index: no_index(),
+        };
+    };
+    let n = nodes(s, e);
+    let w = n.walk;
+    let index = n.index;
+    match w {
+        Walk::Next { at: _ } => Admission {
+            answer: Answer::Sheet,
+            index,
+        },
+        Walk::Refused { number, at } => {
+            let line = row::line_number(s, at);
+            Admission {
+                answer: Answer::Refused { number, line },
+                index,
+            }
+        }
+    }
+}

@@ -1,0 +1,130 @@
+//! The functions of Kitlubas' static library, as crates/exports has them. Every `unsafe` of this package is here.
+//! A slice passes as its pointer and its length; `at` is a fill count, and the answer is the new one.
+
+#[cfg(has_leaves)]
+pub mod leaves {
+    #[link(name = "exports", kind = "static")]
+    extern "C" {
+        fn kitlubas_number(at: usize, buf: *mut u8, len: usize, n: u64) -> usize;
+        fn kitlubas_signed(at: usize, buf: *mut u8, len: usize, width: u32, n: u64) -> usize;
+        fn kitlubas_line(at: usize, buf: *mut u8, len: usize, indent: usize, line: *const u8, line_len: usize)
+            -> usize;
+        fn kitlubas_blank_line(at: usize, buf: *mut u8, len: usize) -> usize;
+        fn kitlubas_no_lines(at: usize, buf: *mut u8, len: usize) -> usize;
+        fn kitlubas_snake(at: usize, buf: *mut u8, len: usize, name: *const u8, name_len: usize) -> usize;
+        fn kitlubas_default_name(at: usize, buf: *mut u8, len: usize, name: *const u8, name_len: usize) -> usize;
+        fn kitlubas_module_name(at: usize, buf: *mut u8, len: usize, name: *const u8, name_len: usize) -> usize;
+    }
+
+    pub fn number(at: usize, buf: &mut [u8], n: u64) -> usize {
+        unsafe { kitlubas_number(at, buf.as_mut_ptr(), buf.len(), n) }
+    }
+
+    pub fn signed(at: usize, buf: &mut [u8], width: u32, n: u64) -> usize {
+        unsafe { kitlubas_signed(at, buf.as_mut_ptr(), buf.len(), width, n) }
+    }
+
+    pub fn line(at: usize, buf: &mut [u8], indent: usize, line: &[u8]) -> usize {
+        unsafe { kitlubas_line(at, buf.as_mut_ptr(), buf.len(), indent, line.as_ptr(), line.len()) }
+    }
+
+    pub fn blank_line(at: usize, buf: &mut [u8]) -> usize {
+        unsafe { kitlubas_blank_line(at, buf.as_mut_ptr(), buf.len()) }
+    }
+
+    pub fn no_lines(at: usize, buf: &mut [u8]) -> usize {
+        unsafe { kitlubas_no_lines(at, buf.as_mut_ptr(), buf.len()) }
+    }
+
+    pub fn snake(at: usize, buf: &mut [u8], name: &[u8]) -> usize {
+        unsafe { kitlubas_snake(at, buf.as_mut_ptr(), buf.len(), name.as_ptr(), name.len()) }
+    }
+
+    pub fn default_name(at: usize, buf: &mut [u8], name: &[u8]) -> usize {
+        unsafe { kitlubas_default_name(at, buf.as_mut_ptr(), buf.len(), name.as_ptr(), name.len()) }
+    }
+
+    pub fn module_name(at: usize, buf: &mut [u8], name: &[u8]) -> usize {
+        unsafe { kitlubas_module_name(at, buf.as_mut_ptr(), buf.len(), name.as_ptr(), name.len()) }
+    }
+}
+
+#[cfg(has_admit)]
+pub mod admit {
+    use crate::sheet::read::Refusal;
+
+    #[link(name = "exports", kind = "static")]
+    extern "C" {
+        /// 0 for an admitted sheet, else the refusal's number; `line` becomes its line.
+        fn kitlubas_admit(sheet: *const u8, len: usize, line: *mut usize) -> u64;
+    }
+
+    pub fn admit(sheet: &[u8]) -> Result<(), Refusal> {
+        let mut line = usize::MAX;
+        match unsafe { kitlubas_admit(sheet.as_ptr(), sheet.len(), &mut line) } {
+            0 => Ok(()),
+            number => Err(Refusal { number, line: line as u64 }),
+        }
+    }
+}
+
+#[cfg(has_answer)]
+pub mod answer {
+    use crate::answer::Request;
+    use crate::sheet::read::Refusal;
+
+    #[link(name = "exports", kind = "static")]
+    extern "C" {
+        /// 0 where the text was written and `fill` moved past it, else the refusal's number; `line` becomes its line.
+        fn kitlubas_answer(
+            sheet: *const u8,
+            sheet_len: usize,
+            node: u64,
+            place: u64,
+            request: u64,
+            leaf: u64,
+            fill: *mut usize,
+            line: *mut usize,
+            buf: *mut u8,
+            len: usize,
+        ) -> u64;
+    }
+
+    /// The number of a request at the boundary; the leaf goes beside it.
+    fn number(request: Request) -> u64 {
+        match request {
+            Request::Type { .. } => 0,
+            Request::Getter { reader: true, function: false } => 1,
+            Request::Getter { reader: false, function: false } => 2,
+            Request::Getter { reader: true, function: true } => 3,
+            Request::Getter { reader: false, function: true } => 4,
+            Request::Setter => 5,
+            Request::Haser { reader: true } => 6,
+            Request::Haser { reader: false } => 7,
+            Request::Zero => 8,
+        }
+    }
+
+    /// The answer; `fill` is the fill count before and after.
+    pub fn answer(
+        sheet: &[u8],
+        node: u64,
+        place: u64,
+        request: Request,
+        fill: &mut usize,
+        buf: &mut [u8],
+    ) -> Result<(), Refusal> {
+        let leaf = if let Request::Type { leaf } = request { leaf } else { 0 };
+        let (sheet_at, sheet_len) = (sheet.as_ptr(), sheet.len());
+        let (buf_at, len) = (buf.as_mut_ptr(), buf.len());
+        let request = number(request);
+        let mut line = usize::MAX;
+        let number = unsafe {
+            kitlubas_answer(sheet_at, sheet_len, node, place, request, leaf, fill, &mut line, buf_at, len)
+        };
+        match number {
+            0 => Ok(()),
+            number => Err(Refusal { number, line: line as u64 }),
+        }
+    }
+}

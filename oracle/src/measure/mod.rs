@@ -1,0 +1,192 @@
+//! Work to be measured: one case done many times, by capnpc's functions or by the static library. The script bench/run
+//! counts its instructions, with and without the work, so that what comes before it falls out.
+
+mod leaves;
+mod sheets;
+
+use crate::answer::{answer, text_of_field, Request};
+use crate::context::context;
+use crate::generate::corners::{node, slot};
+use crate::program::accessors;
+use crate::sheet::print::print;
+use crate::sheet::read::read;
+use crate::sheet::{Binding, Scope, Sheet, Slot, Type};
+use std::hint::black_box;
+use std::time::{Duration, Instant};
+
+/// The room for an answer.
+const BUFFER: usize = 65_536;
+
+/// One round of a case.
+pub type Round = Box<dyn FnMut()>;
+
+/// Who does the work.
+#[derive(Clone, Copy, PartialEq)]
+pub enum Side {
+    /// capnpc's function alone, on a tree that was read before.
+    Rust,
+    /// The same from the sheet's bytes: read, context, function, buffer.
+    RustFromBytes,
+    Kitlubas,
+}
+
+impl Side {
+    pub fn of(name: &str) -> Option<Side> {
+        match name {
+            "rust" => Some(Side::Rust),
+            "rust-from-bytes" => Some(Side::RustFromBytes),
+            "kitlubas" => Some(Side::Kitlubas),
+            _ => None,
+        }
+    }
+}
+
+/// Requests by the names of their cases.
+const REQUESTS: [(&str, Request); 8] = [
+    ("type-owned", Request::Type { leaf: 4 }),
+    ("type-reader", Request::Type { leaf: 0 }),
+    ("getter-reader", Request::Getter { reader: true, function: false }),
+    ("getter-builder", Request::Getter { reader: false, function: true }),
+    ("setter", Request::Setter),
+    ("haser-reader", Request::Haser { reader: true }),
+    ("haser-builder", Request::Haser { reader: false }),
+    ("zero", Request::Zero),
+];
+
+/// Slots by the names of their cases.
+const SLOTS: [(&str, fn() -> Slot); 9] = [
+    ("bool", || slot("isFree", Type::Plain(1)).default(1, 1, true)),
+    ("int8", || slot("rankInWard", Type::Plain(2)).default(2, 251, true)),
+    ("float64", || slot("weight", Type::Plain(11)).default(11, 1.5f64.to_bits(), true).tagged(3)),
+    ("enum", || slot("bedStatus", Type::Enum(2, Vec::new())).default(15, 2, true)),
+    ("text", || slot("wardName", Type::Plain(12)).default(12, 0, true).option()),
+    ("list", || slot("beds", Type::List(Box::new(Type::Struct(3, Vec::new()))))),
+    ("struct", || slot("ward", Type::Struct(3, vec![bound()]))),
+    ("interface", || slot("planner", Type::Interface(3, vec![Scope { id: 3, bindings: None }]))),
+    ("parameter", || slot("owner", Type::Parameter { scope_id: 3, index: 1 })),
+];
+
+fn bound() -> Scope {
+    let list = Type::List(Box::new(Type::Plain(12)));
+    Scope { id: 3, bindings: Some(vec![Binding::Unbound, Binding::Type(list)]) }
+}
+
+/// The names of all cases, as `work` takes them.
+pub fn names() -> Vec<String> {
+    let mut names: Vec<String> = leaves::NAMES.iter().map(|name| format!("leaf {name}")).collect();
+    names.extend(sheets::admitted().iter().map(|(name, _)| format!("admit {name}")));
+    for (request, _) in REQUESTS.iter().take(7) {
+        names.extend(SLOTS.iter().map(|(slot, _)| format!("{request} {slot}")));
+    }
+    names.push("zero group".to_string());
+    names.extend(sheets::WHOLE.iter().map(|(name, _)| format!("accessors {name}")));
+    names
+}
+
+/// What one round of a case does; none where there is no such case or its side is not built.
+pub fn work(name: &str, side: Side) -> Option<Round> {
+    match name.split_once(' ')? {
+        ("leaf", name) => leaves::work(name, side),
+        ("admit", sheet) => admission(sheets::admitted().into_iter().find(|(name, _)| name == sheet)?.1(), side),
+        ("accessors", sheet) => program(sheets::WHOLE.iter().find(|(name, _)| *name == sheet)?.1, side),
+        ("zero", "group") => request(sheets::group_sheet(), Request::Zero, side),
+        (request_name, slot) => {
+            let (_, asked) = REQUESTS.iter().find(|(name, _)| *name == request_name)?;
+            let (_, slot) = SLOTS.iter().find(|(name, _)| *name == slot)?;
+            request(slot_sheet(slot()), *asked, side)
+        }
+    }
+}
+
+/// Makes the compiler believe that a result is used.
+fn discard<T>(result: T) {
+    black_box(result);
+}
+
+/// A sheet of four nodes; the slot is the first field of node 1.
+fn slot_sheet(slot: Slot) -> Sheet {
+    let nodes = vec![
+        node(4, 0, "crate::ward_capnp", &[]),
+        node(2, 4, "crate::ward_capnp::Status", &[]),
+        node(3, 4, "crate::ward_capnp::ward", &["Bed", "Place"]),
+        node(1, 4, "crate::ward_capnp::bed", &[]).slots([slot]),
+    ];
+    Sheet::of(nodes)
+}
+
+/// The answer to a request on the first field of node 1.
+fn request(sheet: Sheet, request: Request, side: Side) -> Option<Round> {
+    let bytes = print(&sheet);
+    let mut buffer = vec![0; BUFFER];
+    match side {
+        Side::Rust => {
+            let sheet: &'static Sheet = Box::leak(Box::new(sheet));
+            let ctx = context(sheet);
+            let node = sheet.nodes.iter().find(|node| node.id == 1)?;
+            Some(Box::new(move || discard(text_of_field(&ctx, node, &node.fields[0], request))))
+        }
+        Side::RustFromBytes => {
+            Some(Box::new(move || discard(answer(black_box(&bytes), 1, 0, request, 0, &mut buffer))))
+        }
+        Side::Kitlubas => kitlubas_answer(bytes, request),
+    }
+}
+
+/// capnpc reads no sheets: the reader of this package stands beside Kitlubas for orientation only.
+fn admission(bytes: Vec<u8>, side: Side) -> Option<Round> {
+    match side {
+        Side::Rust => None,
+        Side::RustFromBytes => Some(Box::new(move || discard(read(black_box(&bytes))))),
+        Side::Kitlubas => kitlubas_admit(bytes),
+    }
+}
+
+/// A whole sheet. The program of Kitlubas is measured by itself, on the bytes that `sheet` gives.
+fn program(size: usize, side: Side) -> Option<Round> {
+    let bytes = print(&sheets::ordinary(size));
+    match side {
+        Side::RustFromBytes => Some(Box::new(move || discard(accessors(black_box(&bytes))))),
+        _ => None,
+    }
+}
+
+/// The nanoseconds of one round, from rounds that take a fifth of a second.
+pub fn nanoseconds(mut round: Round) -> f64 {
+    let mut count = 0u32;
+    let start = Instant::now();
+    while start.elapsed() < Duration::from_millis(200) {
+        (0..20).for_each(|_| round());
+        count += 20;
+    }
+    start.elapsed().as_nanos() as f64 / f64::from(count)
+}
+
+/// The bytes of a case about whole sheets.
+pub fn sheet(name: &str) -> Option<Vec<u8>> {
+    let (_, size) = sheets::WHOLE.iter().find(|(known, _)| *known == name)?;
+    Some(print(&sheets::ordinary(*size)))
+}
+
+#[cfg(has_admit)]
+fn kitlubas_admit(bytes: Vec<u8>) -> Option<Round> {
+    Some(Box::new(move || discard(crate::boundary::admit::admit(black_box(&bytes)))))
+}
+
+#[cfg(not(has_admit))]
+fn kitlubas_admit(_bytes: Vec<u8>) -> Option<Round> {
+    None
+}
+
+#[cfg(has_answer)]
+fn kitlubas_answer(bytes: Vec<u8>, request: Request) -> Option<Round> {
+    let mut buffer = vec![0; BUFFER];
+    Some(Box::new(move || {
+        let mut fill = 0;
+        discard(crate::boundary::answer::answer(black_box(&bytes), 1, 0, request, &mut fill, &mut buffer));
+    }))
+}
+
+#[cfg(not(has_answer))]
+fn kitlubas_answer(_bytes: Vec<u8>, _request: Request) -> Option<Round> {
+    None
+}
