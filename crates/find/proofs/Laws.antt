@@ -30,7 +30,8 @@ use Rattle.tree.specs.Read.{typeOf, typeFrom, bindingOf, paramsOf, among}
 use Rattle.codegen_types.specs.Out.{Out, ok, refused}
 use Rattle.codegen_types.specs.TypeString as typeString
 use Rattle.codegen_types.specs.TypeString.{nodeOf, orElse, scopeOf, scopesOf, bindingsOf}
-use Rattle.find.specs.Find.{On, After, owed, pastRows, lastScope, ScopeHere, ScopeIs, namesOf, nameAt, NodeHere, Indexed, lookup}
+use Rattle.tree.specs.Index.{On, Indexed}
+use Rattle.find.specs.Find.{After, owed, pastRows, lastScope, ScopeHere, ScopeIs, namesOf, nameAt, NodeHere, lookup}
 use Rattle.find.specs.declared.Found.{Found}
 use Rattle.find.specs.declared.Found.the-variants.{At, Nothing}
 
@@ -342,24 +343,6 @@ scope-counts left id sheet n rs =
     or-none (some y) = refl
 
 -- ---- nodes
-
--- a node that was looked for: its rows are there, or it is not in the sheet
-abbrev pub NodeIs : Str → Found → Out tree.Node → Type 0
-NodeIs s (At at) (ok n) = NodeHere (rows (drop at s)) n
-NodeIs s (At at) (refused k) = ⊥
-NodeIs s Nothing o = o ≡ refused 5
-
-pub node-found : (s : Str) (ns : List tree.Node) (ids ats : List ℕ) (id : ℕ) → Indexed s ns ids ats → NodeIs s (lookup id ids ats) (nodeOf ns id)
-unfolding lookup nodeOf Indexed
-node-found s [] [] ats id x = refl
-node-found s [] (i ∷ ids) ats id x = absurd x
-node-found s (n ∷ ns) [] ats id x = absurd x
-node-found s (n ∷ ns) (i ∷ ids) [] id x = absurd x
-node-found s (n ∷ ns) (i ∷ ids) (a ∷ ats) id x = rw (x .0) (go (node-found s ns ids ats id (x .2)) (eqb (n .id) id))
-  where
-    go : NodeIs s (lookup id ids ats) (nodeOf ns id) → (t : Bool) → NodeIs s (cond t (At a) (lookup id ids ats)) (cond t (ok n) (nodeOf ns id))
-    go ih true = x .1
-    go ih false = ih
 
 -- the names of a node's P rows are what the reader of P rows reads
 pub params-names : (rs : Rows) → On (paramsOf rs) (λ ps. ps ≡ namesOf rs)

@@ -28,7 +28,8 @@ use Rattle.codegen_types.specs.TypeString as typeString
 use Rattle.codegen_types.specs.TypeString.{typeString, scopesOf, bindingsOf, anyOwned, getQualifiedModule, listString, elementLeaf}
 use Rattle.codegen_types.specs.declared.Leaf.{Leaf}
 use Rattle.codegen_types.specs.declared.Leaf.the-variants.{Owned}
-use Rattle.find.specs.Find.{On, Has, After, kindAt, pastRows, firstOf, ScopeHere}
+use Rattle.tree.specs.Index.{On, Has}
+use Rattle.find.specs.Find.{After, kindAt, pastRows, firstOf, ScopeHere}
 use Rattle.find.proofs.Laws.{on-map, on-one, on-two, on-all, as-type, as-unbound, past-binding}
 
 -- ---- a type by its row

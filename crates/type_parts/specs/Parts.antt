@@ -10,7 +10,8 @@ use Rattle.tree.specs.Tree.{Node, Sheet}
 use Rattle.codegen_types.specs.Out.{Out, ok, refused}
 use Rattle.codegen_types.specs.Leaf.{bareName, maybeColons, leafArguments}
 use Rattle.codegen_types.specs.declared.Leaf.{Leaf}
-use Rattle.find.specs.Find.{Indexed, sheetOf}
+use Rattle.tree.specs.Index.{Indexed}
+use Rattle.find.specs.Find.{sheetOf}
 use Rattle.type_parts.specs.declared.Arguments.{Arguments}
 
 -- the text of what the Rust gives, written at t into l; where the Rust refuses, nothing is said: the refusal is found before

@@ -31,10 +31,12 @@ use Rattle.codegen_types.specs.declared.Leaf.{Leaf}
 use Rattle.codegen_types.specs.declared.Refusal.{Refusal}
 use Rattle.codegen_types.specs.declared.Refusal.the-variants.{None, Number}
 use Rattle.codegen_types.specs.declared.Leaf.the-variants as leaf
-use Rattle.find.specs.Find.{On, Has, kindAt, pastRows, ScopeIs, lastScope, namesOf, parentAt, NodeHere, Indexed, lookup, sheetOf}
+use Rattle.tree.specs.Index.{On, Has, Indexed}
+use Rattle.find.specs.Find.{kindAt, pastRows, ScopeIs, lastScope, namesOf, parentAt, NodeHere, lookup, sheetOf}
 use Rattle.find.specs.declared.Found.{Found}
 use Rattle.find.specs.declared.Found.the-variants.{At, Nothing}
-use Rattle.find.proofs.Laws.{on-one, on-two, on-all, NodeIs, node-found, scope-counts}
+use Rattle.find.proofs.IndexLaws.{NodeIs, node-found}
+use Rattle.find.proofs.Laws.{on-one, on-two, on-all, scope-counts}
 use Rattle.find.proofs.TypeLaws.{of-kind, times-none, binds-more, binds-length, scope-inherit, scope-binds, scope-not}
 use Rattle.type_refusal.specs.Told.{ownOf, Sound}
 

@@ -15,7 +15,8 @@ use Rattle.codegen_types.specs.TypeString.{typeString, Scope, scopeOf, scopesOf
 use Rattle.codegen_types.specs.declared.Leaf.{Leaf}
 use Rattle.codegen_types.specs.declared.Refusal.{Refusal}
 use Rattle.codegen_types.specs.declared.Refusal.the-variants.{None}
-use Rattle.find.specs.Find.{On, Indexed, NodeHere, sheetOf}
+use Rattle.tree.specs.Index.{On, Indexed}
+use Rattle.find.specs.Find.{NodeHere, sheetOf}
 
 -- the arguments of the node with an id
 unfoldable pub ownOf : Sheet → List (ℕ × Scope) → ℕ → Out (List Str)

@@ -28,7 +28,8 @@ use Rattle.codegen_types.specs.TypeString as typeString
 use Rattle.codegen_types.specs.TypeString.{typeString, doBranding, nodeOf, scopeOf, scopesOf, bindingsOf, allOf, argumentsOf, accumulate, outermostFirst, angled, anyOwned, listString, listModule, elementLeaf}
 use Rattle.codegen_types.proofs.Laws.{accumulate-none, accumulate-more}
 use Rattle.codegen_types.specs.declared.Leaf.{Leaf}
-use Rattle.find.specs.Find.{On, Has, kindAt, pastRows, ScopeIs, lastScope, namesOf, parentAt, NodeHere, Indexed, lookup}
+use Rattle.tree.specs.Index.{On, Has, Indexed}
+use Rattle.find.specs.Find.{kindAt, pastRows, ScopeIs, lastScope, namesOf, parentAt, NodeHere, lookup}
 use Rattle.find.specs.declared.Found.{Found}
 use Rattle.find.specs.declared.Found.the-variants.{At, Nothing}
 use Rattle.find.proofs.Laws.{on-one, on-two, on-all, scope-counts}

@@ -13,7 +13,8 @@ use Rattle.tree.specs.Read.{typeOf, bindingOf}
 use Rattle.codegen_types.specs.Out.{Out, ok, refused, _then_}
 use Rattle.codegen_types.specs.TypeString.{typeString, scopeOf, scopesOf, bindingsOf, allOf, argumentsOf, accumulate, outermostFirst}
 use Rattle.codegen_types.specs.declared.Leaf.{Leaf}
-use Rattle.find.specs.Find.{On, NodeHere}
+use Rattle.tree.specs.Index.{On}
+use Rattle.find.specs.Find.{NodeHere}
 use Rattle.type_parts.specs.Parts.{ForAll, Writes, Lists}
 use Rattle.type_parts.specs.declared.Arguments.{Arguments}
 
