@@ -1,10 +1,10 @@
 -- A node that is looked up by its id: a claim `Q` of what the Rust gives for its module or a parameter follows from the same claim of what stands
 -- in its rows. Assumes nothing.
-use mathlib.Core.Path.{_≡_, refl, sym, _∙_}
+use mathlib.Core.Path.{_≡_, refl}
 use mathlib.Core.List.{List, [], _∷_}
 use mathlib.Core.Option.{Option, none, some}
 use Prim.Native.Nat.{ℕ, zero, suc}
-use borrow.Author.Tests.{eq-eqb, ne-eqb}
+use borrow.Author.Tests.{ne-eqb}
 use lib.ListN.{drop}
 use Rattle.text.specs.Bytes.{Str}
 use Rattle.row.specs.Rows.{rows, restOf}
@@ -15,10 +15,11 @@ use Rattle.tree.specs.Read.{pointer}
 use Rattle.codegen_types.specs.Out.{Out, ok, refused, _then_}
 use Rattle.codegen_types.specs.TypeString.{typeString, getQualifiedModule, nodeOf, parameterName, parameterString}
 use Rattle.codegen_types.specs.declared.Leaf.{Leaf}
-use Rattle.find.specs.Find.{namesOf, nameAt, textFound, NodeHere, Indexed, lookup}
+use Rattle.tree.specs.Index.{Indexed}
+use Rattle.find.specs.Find.{namesOf, nameAt, textFound, NodeHere, lookup}
 use Rattle.find.specs.declared.Found.{Found}
 use Rattle.find.specs.declared.Found.the-variants.{At, Nothing}
-use Rattle.find.proofs.Laws.{NodeIs, node-found}
+use Rattle.find.proofs.IndexLaws.{NodeIs, node-found}
 
 -- the name of a parameter, or 13
 abbrev pub named : Option Str → Out Str
