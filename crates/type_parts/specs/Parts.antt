@@ -1,4 +1,5 @@
--- What the writers of a type's text leave: a text where there is one, and the arguments of a brand, each after `<` or a comma. Assumes nothing.
+-- What the writers of a type's text leave: a text where there is one, and the arguments of a brand, each after `<` or a comma.
+-- Assumes nothing.
 use mathlib.Core.Path.{_≡_}
 use mathlib.Core.List.{List, [], _∷_, _++_}
 use Prim.Native.Nat.{ℕ}
