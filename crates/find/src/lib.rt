@@ -79,7 +79,8 @@ pub fn node_row(s: &[u8], at: usize) -> NodeRow
     }
 }
 
-fn is_parameter(line: Line) -> bool
+// Whether a row is a P row.
+pub fn is_parameter(line: Line) -> bool
     ensures { λ r. ⌜ r ≡ asParameter line true false ⌝ }
 {
     match line {

@@ -1,0 +1,52 @@
+-- `type_parts::list_module` meets its contract. Assumes nothing.
+use borrow.Author.Tests.{eq-eqb, ne-eqb}
+use mathlib.Core.Path.{_≡_, refl, sym, ap, _∙_}
+use Rattle.text.proofs.Laws.{_⨾_}
+use borrow.Author.Needs.{needs}
+use Rattle.type_parts.proofs.list_module.Statement.{statement}
+use Rattle.type_parts.proofs.list_module.Tie as tie
+
+returns : tie.Need-returns
+returns c =
+    rw (eq-eqb _ _ (c .before .before .before .before .before .if1 .taken)) (c .before .before .bytes .ensures)
+
+returns-2 : tie.Need-returns-2
+returns-2 c =
+    rw (ne-eqb _ _ (c .before .before .before .before .before .before .if1 .left), eq-eqb _ _ (c .before .before .before .before .before .if2 .taken)) (c .before .before .bytes2 .ensures)
+
+returns-3 : tie.Need-returns-3
+returns-3 c =
+    rw (ne-eqb _ _ (c .before .before .before .before .before .before .before .if1 .left), ne-eqb _ _ (c .before .before .before .before .before .before .if2 .left), eq-eqb _ _ (c .before .before .before .before .before .if3 .taken)) (c .before .before .bytes3 .ensures)
+
+returns-4 : tie.Need-returns-4
+returns-4 c =
+    rw (ne-eqb _ _ (c .before .before .before .before .before .before .before .before .if1 .left), ne-eqb _ _ (c .before .before .before .before .before .before .before .if2 .left), ne-eqb _ _ (c .before .before .before .before .before .before .if3 .left), eq-eqb _ _ (c .before .before .before .before .before .if4 .taken)) (c .before .before .bytes4 .ensures)
+
+returns-5 : tie.Need-returns-5
+returns-5 c =
+    rw (ne-eqb _ _ (c .before .before .before .before .before .before .before .before .if1 .left), ne-eqb _ _ (c .before .before .before .before .before .before .before .if2 .left), ne-eqb _ _ (c .before .before .before .before .before .before .if3 .left), ne-eqb _ _ (c .before .before .before .before .before .if4 .left)) (c .before .before .bytes5 .ensures)
+
+pub list-module-spec : {M : Type 1} → statement M
+list-module-spec =
+    tie.close
+    (tie.spec
+    (λ c. search needs)
+    (λ c κs. search needs)
+    (λ c. search needs)
+    returns
+    (λ c. search needs)
+    (λ c κs. search needs)
+    (λ c. search needs)
+    returns-2
+    (λ c. search needs)
+    (λ c κs. search needs)
+    (λ c. search needs)
+    returns-3
+    (λ c. search needs)
+    (λ c κs. search needs)
+    (λ c. search needs)
+    returns-4
+    (λ c. search needs)
+    (λ c κs. search needs)
+    (λ c. search needs)
+    returns-5)

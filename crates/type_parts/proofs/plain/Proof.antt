@@ -1,0 +1,36 @@
+-- `type_parts::plain` meets its contract. Assumes nothing.
+use borrow.Author.Tests.{eq-eqb, ne-eqb}
+use native.Mathlib.Omega.{arith}
+use mathlib.Core.Path.{_≡_, refl, sym, ap, _∙_}
+use Rattle.text.proofs.Laws.{_⨾_}
+use borrow.Author.Needs.{needs}
+use Rattle.type_parts.proofs.plain.Statement.{statement}
+use Rattle.type_parts.proofs.plain.Tie as tie
+
+returns : tie.Need-returns
+returns c =
+    λ h. rw (eq-eqb _ _ (c .before .before .before .before .before .if1 .taken)) (c .before .before .displayed .ensures)
+
+returns-2 : tie.Need-returns-2
+returns-2 c =
+    λ h. rw (ne-eqb _ _ (c .before .before .before .before .before .before .if1 .left), eq-eqb _ _ (c .before .before .before .before .before .if2 .taken)) (c .before .before .displayed2 .ensures)
+
+returns-3 : tie.Need-returns-3
+returns-3 c =
+    λ h. rw (ne-eqb _ _ (c .before .before .before .before .before .if1 .left), ne-eqb _ _ (c .before .before .before .before .if2 .left)) ((c .before .before .primitive .ensures) (let y = (c .before .before .before .before .before .if1 .left) in let z = (c .before .before .before .before .if2 .left) in omega arith))
+
+pub plain-spec : {M : Type 1} → statement M
+plain-spec =
+    tie.close
+    (tie.spec
+    (λ c. search needs)
+    (λ c κs. search needs)
+    (λ c. search needs)
+    returns
+    (λ c. search needs)
+    (λ c κs. search needs)
+    (λ c. search needs)
+    returns-2
+    (λ c κs. search needs)
+    (λ c. search needs)
+    returns-3)
