@@ -8,7 +8,7 @@ use Rattle.tree.specs.Tree.{Ty, plain, list, enum, struct, interface, anyPointe
 use Rattle.codegen_types.specs.Out.{Out, ok, refused}
 use Rattle.codegen_types.specs.TypeString.{typeString, scopesOf, bindingsOf, nodeOf, scopeOf, allOf, argumentsOf, accumulate, outermostFirst, joined, angled, doBranding, listString, parameterName, parameterString}
 use Rattle.codegen_types.specs.declared.Leaf.{Leaf}
-use Rattle.codegen_types.specs.declared.Leaf.the-variants.{Reader, Builder, Owned, Client, Server, ServerDispatch, Pipeline, GetType}
+use Rattle.codegen_types.specs.declared.Leaf.the-variants.{Reader, Builder, Owned, Client, ServerDispatch, Pipeline, GetType}
 use Rattle.codegen_types.specs.declared.Lifetime.the-variants.{A, Anonymous}
 
 -- a node by its id, its parent's, its module and its parameters

@@ -19,18 +19,18 @@ use Rattle.row.proofs.Laws.{rows-out}
 use Rattle.tree.proofs.OtherLines.{not-scope}
 use Rattle.text.specs.Bytes.{Str, cond}
 use Rattle.row.specs.Rows.{rows, restOf, onto}
-use Rattle.row.specs.Line.{lineOf, lineAt, textOf, textAt, asNode, asParameter, asType, asScope, asUnbound}
+use Rattle.row.specs.Line.{lineOf, lineAt, textOf, textAt, asParameter, asType, asScope, asUnbound, asNode}
 use Rattle.row.specs.declared.Line.{Line}
 use Rattle.row.specs.declared.Line.the-variants.{Root, Node, Parameter, Field, Group, Typ, Scope, Unbound, Value, Word, Bad}
 use Rattle.tree.specs.Tree as tree
-use Rattle.tree.specs.Tree.{Ty, Scopes, Binds, Sheet, end, stop, unbound, bound, inherit, bind}
-use Rattle.tree.specs.Reader.{Rows, Reading, got, no, Reader, _then_, mapR, times, onUnbound, onScope, onType}
+use Rattle.tree.specs.Tree.{Ty, Scopes, Binds, Sheet, end, stop, bound, inherit, bind}
+use Rattle.tree.specs.Reader.{Rows, Reading, got, no, Reader, _then_, mapR, times, onType}
 use Rattle.tree.specs.Read as read
 use Rattle.tree.specs.Read.{typeOf, typeFrom, bindingOf, paramsOf, among}
 use Rattle.codegen_types.specs.Out.{Out, ok, refused}
 use Rattle.codegen_types.specs.TypeString as typeString
 use Rattle.codegen_types.specs.TypeString.{nodeOf, orElse, scopeOf, scopesOf, bindingsOf}
-use Rattle.find.specs.Find.{On, Has, After, owed, pastRows, lastScope, firstOf, ScopeHere, ScopeIs, namesOf, nameAt, NodeHere, Indexed, lookup, rowsFound}
+use Rattle.find.specs.Find.{On, After, owed, pastRows, lastScope, ScopeHere, ScopeIs, namesOf, nameAt, NodeHere, Indexed, lookup}
 use Rattle.find.specs.declared.Found.{Found}
 use Rattle.find.specs.declared.Found.the-variants.{At, Nothing}
 
@@ -86,6 +86,19 @@ as-parameter P Unbound this other f g = g
 as-parameter P (Value k b) this other f g = g
 as-parameter P (Word x) this other f g = g
 as-parameter P Bad this other f g = g
+
+pub as-node : {A : Type 0} (P : A → Type 0) (l : Line) (y : (ℕ → ℕ → ℕ → ℕ → ℕ → ℕ → ℕ → A)) (z : A) → ((i q k x y′ c o : ℕ) → l ≡ Node i q k x y′ c o → P (y i q k x y′ c o)) → P z → P (asNode l y z)
+as-node P Root this other f g = g
+as-node P (Node i q k x y c o) this other f g = f i q k x y c o refl
+as-node P Parameter this other f g = g
+as-node P (Field o d e q) this other f g = g
+as-node P (Group i d) this other f g = g
+as-node P (Typ k a b c) this other f g = g
+as-node P (Scope i b c) this other f g = g
+as-node P Unbound this other f g = g
+as-node P (Value k b) this other f g = g
+as-node P (Word x) this other f g = g
+as-node P Bad this other f g = g
 
 -- ---- what is read
 

@@ -1,10 +1,10 @@
 -- What is read of a type by its row, of scopes and of bindings: one law for each way that a walk over types can go. A claim `P` of
 -- the type that is read follows from a claim of its parts. Assumes nothing.
-use mathlib.Core.Path.{_≡_, refl, sym, ap, _∙_}
+use mathlib.Core.Path.{_≡_, refl, sym, ap, _∙_, subst}
 use mathlib.Core.Bool.{Bool, true, false}
-use mathlib.Core.List.{List, [], _∷_}
+use mathlib.Core.List.{[], _∷_}
 use mathlib.Core.Option.{Option, some}
-use Prim.Native.Nat.{ℕ, zero, suc, _+_, _-_, _<_, _≤_}
+use Prim.Native.Nat.{ℕ, zero, suc, _-_, _<_, _≤_}
 use native.Mathlib.Omega.{arith}
 use native.Mathlib.Numerals.{sub-one}
 use borrow.Author.Tests.{eq-eqb, ne-eqb, lt-ltb, le-ltb, eqb-true, eqb-false, ltb-true, ltb-false}
@@ -15,7 +15,7 @@ use denote.Enum.Declared.{tagOf}
 use Rattle.row.proofs.Line.{the-type}
 use Rattle.text.specs.Bytes.{Str, cond}
 use Rattle.row.specs.Rows.{restOf}
-use Rattle.row.specs.Line.{lineAt, asType, asUnbound}
+use Rattle.row.specs.Line.{lineAt}
 use Rattle.row.specs.declared.Line.{Line}
 use Rattle.row.specs.declared.Line.the-variants.{Typ, Scope, Unbound}
 use Rattle.tree.specs.Tree.{Ty, plain, list, enum, struct, interface, parameter, anyPointer, Scopes, end, inherit, bind, Binds, stop, unbound, bound, kind, Sheet}
@@ -25,7 +25,8 @@ use Rattle.tree.specs.Read.{typeOf, typeFrom, bindingOf, pointer, branded}
 use Rattle.tree.proofs.OtherLines.{not-type, not-scope, not-unbound}
 use Rattle.codegen_types.specs.Out.{Out, ok}
 use Rattle.codegen_types.specs.TypeString as typeString
-use Rattle.codegen_types.specs.TypeString.{typeString, scopesOf, bindingsOf, anyOwned}
+use Rattle.codegen_types.specs.TypeString.{typeString, scopesOf, bindingsOf, anyOwned, getQualifiedModule, listString, elementLeaf}
+use Rattle.codegen_types.specs.declared.Leaf.{Leaf}
 use Rattle.codegen_types.specs.declared.Leaf.the-variants.{Owned}
 use Rattle.find.specs.Find.{On, Has, After, kindAt, pastRows, firstOf, ScopeHere}
 use Rattle.find.proofs.Laws.{on-map, on-one, on-two, on-all, as-type, as-unbound, past-binding}
@@ -100,6 +101,38 @@ type-kind (suc n) rs =
         (on-all {P = λ ss. kind (branded k a ss) ≡ k} (λ ss. branded-kind k a ss (omega arith) (ltb-true k 18 g)) (times (read.scopeOf (typeOf n)) end b q))
     go k a b c false false false true e f g q = refl
     go k a b c false false false false e f g q = refl
+
+-- ---- what `type_string` gives for lists, enums and brands: a claim `Q` of it
+
+pub of-kind : (sheet : Sheet) (leaf : Leaf) (left : ℕ) (rs : Rows) (k : ℕ) → k ≡ kindAt rs → (Q : Out Str → Type 0)
+    → On (typeOf left rs) (λ ty. Q (listString (sheet .root) leaf k (typeString ty sheet (elementLeaf k)))) → On (typeOf left rs) (λ ty. Q (typeString (list ty) sheet leaf))
+unfolding typeString
+of-kind sheet leaf left rs k at Q h =
+    on-two (λ ty. kind ty ≡ kindAt rs) (λ ty. Q (listString (sheet .root) leaf k (typeString ty sheet (elementLeaf k)))) (λ ty. Q (typeString (list ty) sheet leaf)) (typeOf left rs)
+    (λ ty e g. subst (λ (j : ℕ). Q (listString (sheet .root) leaf j (typeString ty sheet (elementLeaf j)))) (at ∙ sym e) g) (type-kind left rs) h
+
+-- structs and interfaces have the same text
+brand-type : (sheet : Sheet) (leaf : Leaf) (k id : ℕ) (ss : Scopes) → (k ≡ 15 → ⊥) → typeString (struct id ss) sheet leaf ≡ typeString (branded k id ss) sheet leaf
+unfolding typeString
+brand-type sheet leaf k id ss z = rw (ne-eqb k 15 z) (go (eqb k 16))
+  where
+    go : (t : Bool) → typeString (struct id ss) sheet leaf ≡ typeString (cond t (struct id ss) (interface id ss)) sheet leaf
+    go true = refl
+    go false = refl
+
+module _ (sheet : Sheet) (leaf : Leaf) (left : ℕ) (rs rest : Rows) (k a b c : ℕ) (l : Line) (z : left ≡ 0 → ⊥) (at : l ≡ lineAt rs) (is : l ≡ Typ k a b c) (next : rest ≡ restOf rs) (Q : Out Str → Type 0) where
+  pub type-enum : k ≡ 15 → Q (getQualifiedModule sheet a) → On (typeOf left rs) (λ ty. Q (typeString ty sheet leaf))
+  unfolding typeString
+  type-enum e h =
+      type-brand left rs rest k a b c l z at is next (λ ty. Q (typeString ty sheet leaf)) (omega arith) (λ y. omega arith) (omega arith)
+      (on-all {P = λ ss. Q (typeString (branded k a ss) sheet leaf)} (λ ss. rw (eq-eqb k 15 e) h) (times (read.scopeOf (typeOf (left - 1))) end b rest))
+
+  pub type-branded : 14 ≤ k → (k ≡ 14 → ⊥) → (k ≡ 15 → ⊥) → k < 18 → On (times (read.scopeOf (typeOf (left - 1))) end b rest) (λ ss. Q (typeString (struct a ss) sheet leaf))
+      → On (typeOf left rs) (λ ty. Q (typeString ty sheet leaf))
+  type-branded u v w x h =
+      type-brand left rs rest k a b c l z at is next (λ ty. Q (typeString ty sheet leaf)) u v x
+      (on-one (λ ss. Q (typeString (struct a ss) sheet leaf)) (λ ss. Q (typeString (branded k a ss) sheet leaf)) (times (read.scopeOf (typeOf (left - 1))) end b rest)
+      (λ ss g. subst Q (brand-type sheet leaf k a ss w) g) h)
 
 -- ---- so many of something
 

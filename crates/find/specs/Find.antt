@@ -1,7 +1,6 @@
 -- Where things stand in a sheet, told by rows: what follows a type or a scope, the scope of a brand that counts, a node's
 -- parameters, and the index of the nodes. Assumes nothing.
 use mathlib.Core.Path.{_≡_}
-use mathlib.Core.Bool.{Bool, true, false}
 use mathlib.Core.List.{List, [], _∷_}
 use mathlib.Core.Option.{Option, none, some}
 use Prim.Native.Nat.{ℕ, zero, suc, _+_}
@@ -15,7 +14,6 @@ use Rattle.row.specs.declared.Line.the-variants as line
 use Rattle.tree.specs.Tree.{Node, Sheet, end}
 use Rattle.tree.specs.Reader.{Rows, Reading, got, no}
 use Rattle.tree.specs.Read as read
-use Rattle.codegen_types.specs.Out.{Out, ok, refused}
 use Rattle.codegen_types.specs.TypeString.{Scope, scopesOf}
 use Rattle.find.specs.declared.Found.{Found}
 use Rattle.find.specs.declared.Found.the-variants.{At, Nothing}
@@ -116,6 +114,10 @@ Indexed s [] (i ∷ ids) ats = ⊥
 Indexed s (n ∷ ns) [] ats = ⊥
 Indexed s (n ∷ ns) (i ∷ ids) [] = ⊥
 Indexed s (n ∷ ns) (i ∷ ids) (a ∷ ats) = (i ≡ n .id) × NodeHere (rows (drop a s)) n × Indexed s ns ids ats
+
+-- a sheet by its root and its nodes
+abbrev pub sheetOf : Str → List Node → Sheet
+sheetOf root ns = record { root = root; nodes = ns }
 
 -- the position in the index of an id
 unfoldable pub lookup : ℕ → List ℕ → List ℕ → Found

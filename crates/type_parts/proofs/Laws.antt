@@ -1,16 +1,14 @@
 -- Laws of the parts of a type's text: texts in other groupings, arguments one after the other. Assumes nothing.
-use mathlib.Core.Path.{_≡_, refl, sym, ap, _∙_, subst}
+use mathlib.Core.Path.{_≡_, refl, sym, _∙_, subst}
 use mathlib.Core.Bool.{Bool, true, false}
-use mathlib.Core.List.{List, [], _∷_, _++_, map, append-assoc, append-nil}
+use mathlib.Core.List.{List, [], _∷_, _++_, append-assoc, append-nil}
 use Prim.Native.Nat.{ℕ, _+_, _<_, _≤_}
 use native.Mathlib.Omega.{arith}
-use borrow.Author.Tests.{eq-eqb, ne-eqb}
-use lib.Dec.{eqb}
-use lib.ListN.{length, getD}
+use lib.ListN.{length}
 use package.types.Run.{OneOf, miss}
 use denote.Enum.Declared.{tagOf}
 use Rattle.codegen_types.proofs.Leaf.{the-type}
-use Rattle.text.specs.Bytes.{Str, ascii, unit, cond}
+use Rattle.text.specs.Bytes.{Str, ascii, unit}
 use Rattle.text.specs.Text.{put, adv, Wrote}
 use Rattle.text.specs.declared.Text.{Text}
 use Rattle.text.proofs.Laws.{_⨾_}
@@ -18,7 +16,7 @@ use Rattle.row.specs.Rows.{restOf}
 use Rattle.row.specs.Line.{lineAt, textAt, asParameter}
 use Rattle.row.specs.declared.Line.{Line}
 use Rattle.tree.specs.Reader.{Rows}
-use Rattle.codegen_types.specs.Out.{Out, ok, refused}
+use Rattle.codegen_types.specs.Out.{refused}
 use Rattle.codegen_types.specs.TypeString.{parameterString, joined, angled}
 use Rattle.codegen_types.specs.Leaf.{bareName, maybeColons, leafArguments}
 use Rattle.codegen_types.specs.declared.Leaf.{Leaf}

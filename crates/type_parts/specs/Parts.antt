@@ -10,7 +10,7 @@ use Rattle.tree.specs.Tree.{Node, Sheet}
 use Rattle.codegen_types.specs.Out.{Out, ok, refused}
 use Rattle.codegen_types.specs.Leaf.{bareName, maybeColons, leafArguments}
 use Rattle.codegen_types.specs.declared.Leaf.{Leaf}
-use Rattle.find.specs.Find.{Indexed}
+use Rattle.find.specs.Find.{Indexed, sheetOf}
 use Rattle.type_parts.specs.declared.Arguments.{Arguments}
 
 -- the text of what the Rust gives, written at t into l; where the Rust refuses, nothing is said: the refusal is found before
@@ -46,9 +46,6 @@ Lists (refused k) l p l′ p′ = Unit {0}
 pub record Opened (l : List ℕ) (t : Text) (leaf : Leaf) (l′ : List ℕ) (p : Arguments) : Type 0 where
   pub text : Wrote l t (ascii "::" ++ bareName leaf ++ maybeColons leaf ++ listed 60 (leafArguments leaf)) l′ (p .text)
   pub sep : p .sep ≡ sepAfter 60 (leafArguments leaf)
-
-abbrev pub sheetOf : Str → List Node → Sheet
-sheetOf root ns = record { root = root; nodes = ns }
 
 -- in every sheet with this root whose nodes the index has
 abbrev pub ForAll : Str → Str → List ℕ → List ℕ → (Sheet → Type 0) → Type 0

@@ -1,45 +1,42 @@
 -- Laws of the walk that looks for a refusal: one for each turn of the code, over what is read, the sheet and the numbers met.
 -- A refusal's number passes through `?` and through everything that only builds a text. Assumes nothing.
-use mathlib.Core.Path.{_≡_, refl, sym, ap, _∙_, subst}
+use mathlib.Core.Path.{_≡_, refl, sym, _∙_}
 use mathlib.Core.Bool.{Bool, true, false}
 use mathlib.Core.List.{List, [], _∷_, _++_}
 use mathlib.Core.Option.{Option, none, some}
-use Prim.Native.Nat.{ℕ, zero, suc, _+_, _-_, _<_, _≤_}
+use Prim.Native.Nat.{ℕ, _+_, _-_, _<_, _≤_}
 use native.Mathlib.Omega.{arith}
-use native.Mathlib.Numerals.{add-one, sub-one}
-use borrow.Author.Tests.{eq-eqb, ne-eqb, lt-ltb, le-ltb, eqb-true, eqb-false, ltb-true, ltb-false}
-use lib.Dec.{eqb, ltb}
-use lib.ListN.{length, drop, take, set, getD}
+use native.Mathlib.Numerals.{add-one}
+use borrow.Author.Tests.{eq-eqb, ne-eqb, eqb-true}
+use lib.Dec.{eqb}
+use lib.ListN.{length, drop, take, set}
 use lib.Seq.{take-suc-set}
 use package.types.Run.{OneOf}
 use denote.Enum.Declared.{tagOf}
 use Rattle.row.proofs.Line.{the-type}
 use Rattle.text.specs.Bytes.{Str, cond, either}
 use Rattle.row.specs.Rows.{rows, restOf}
-use Rattle.row.specs.Line.{lineAt, asType, asScope, asUnbound}
+use Rattle.row.specs.Line.{lineAt}
 use Rattle.row.specs.declared.Line.{Line}
-use Rattle.row.specs.declared.Line.the-variants.{Typ, Scope, Unbound}
-use Rattle.tree.specs.Tree as tree
-use Rattle.tree.specs.Tree.{Ty, list, enum, struct, interface, parameter, anyPointer, Scopes, end, inherit, bind, Binds, stop, unbound, bound, kind, Node, Sheet}
-use Rattle.tree.specs.Reader as reader
-use Rattle.tree.specs.Reader.{Rows, Reading, got, no, Reader, mapR, times}
+use Rattle.row.specs.declared.Line.the-variants.{Scope}
+use Rattle.tree.specs.Tree.{Ty, list, struct, Scopes, end, Binds, stop, bound, Node, Sheet}
+use Rattle.tree.specs.Reader.{Rows, Reading, got, no, times}
 use Rattle.tree.specs.Read as read
-use Rattle.tree.specs.Read.{typeOf, typeFrom, bindingOf, among, pointer, branded}
-use Rattle.tree.proofs.OtherLines.{not-type, not-scope, not-unbound}
+use Rattle.tree.specs.Read.{typeOf, bindingOf, among, pointer}
 use Rattle.codegen_types.specs.Out.{Out, ok, refused, _then_, refusalOf}
 use Rattle.codegen_types.specs.TypeString as typeString
-use Rattle.codegen_types.specs.TypeString.{typeString, getQualifiedModule, doBranding, nodeOf, scopeOf, scopesOf, bindingsOf, allOf, argumentsOf, accumulate, listString, elementLeaf, parameterName, parameterString}
+use Rattle.codegen_types.specs.TypeString.{typeString, doBranding, nodeOf, scopeOf, scopesOf, bindingsOf, allOf, argumentsOf, accumulate, listString, elementLeaf}
+use Rattle.codegen_types.proofs.Laws.{accumulate-none, accumulate-more}
 use Rattle.codegen_types.specs.declared.Leaf.{Leaf}
 use Rattle.codegen_types.specs.declared.Refusal.{Refusal}
 use Rattle.codegen_types.specs.declared.Refusal.the-variants.{None, Number}
 use Rattle.codegen_types.specs.declared.Leaf.the-variants as leaf
-use Rattle.find.specs.Find.{On, Has, After, kindAt, pastRows, ScopeHere, ScopeIs, lastScope, rowsFound, namesOf, nameAt, textFound, parentAt, NodeHere, Indexed, lookup}
+use Rattle.find.specs.Find.{On, Has, kindAt, pastRows, ScopeIs, lastScope, namesOf, parentAt, NodeHere, Indexed, lookup, sheetOf}
 use Rattle.find.specs.declared.Found.{Found}
 use Rattle.find.specs.declared.Found.the-variants.{At, Nothing}
-use Rattle.find.proofs.Laws.{on-map, on-one, on-two, on-all, NodeIs, node-found, scope-counts}
-use Rattle.find.proofs.TypeLaws as read-law
-use Rattle.find.proofs.TypeLaws.{type-kind, times-none, binds-more, binds-length, scope-inherit, scope-binds, scope-not, OneBind}
-use Rattle.type_refusal.specs.Told.{sheetOf, ownOf, Sound}
+use Rattle.find.proofs.Laws.{on-one, on-two, on-all, NodeIs, node-found, scope-counts}
+use Rattle.find.proofs.TypeLaws.{of-kind, times-none, binds-more, binds-length, scope-inherit, scope-binds, scope-not}
+use Rattle.type_refusal.specs.Told.{ownOf, Sound}
 
 -- ---- refusals
 
@@ -52,62 +49,15 @@ never z = let y : ⊥ = omega arith in absurd y
 
 -- ---- types of one row
 
-pub module-at : (s : Str) (ns : List Node) (ids ats : List ℕ) (root : Str) (id : ℕ) (f : Found) (at : ℕ) → f ≡ lookup id ids ats → f ≡ At at → Indexed s ns ids ats → None ≡ refusalOf (getQualifiedModule (sheetOf root ns) id)
-module-at s ns ids ats root id f at e h x = go (nodeOf ns id) (rw (← e, h) at (node-found s ns ids ats id x))
-  where
-    go : (o : Out Node) → NodeIs s (At at) o → None ≡ refusalOf (o then λ n. ok (n .theMod))
-    go (ok n) w = refl
-    go (refused k) w = absurd w
-
-pub module-none : (s : Str) (ns : List Node) (ids ats : List ℕ) (root : Str) (id : ℕ) (f : Found) → f ≡ lookup id ids ats → f ≡ Nothing → Indexed s ns ids ats → Number 5 ≡ refusalOf (getQualifiedModule (sheetOf root ns) id)
-module-none s ns ids ats root id f e h x = let w : nodeOf ns id ≡ refused 5 = rw (← e, h) at (node-found s ns ids ats id x) in rw w refl
-
--- the name of a parameter, or 13
-abbrev named : Option Str → Out Str
-named none = refused 13
-named (some p) = ok p
-
-parameter-named : (ps : List Str) (k : ℕ) → parameterName ps k ≡ named (nameAt ps k)
-unfolding parameterName nameAt
-parameter-named [] k = refl
-parameter-named (p ∷ ps) zero = refl
-parameter-named (p ∷ ps) (suc k) = parameter-named ps k
-
 pub pointer-any : (sheet : Sheet) (leaf : Leaf) (a b c : ℕ) → a ≡ 0 → None ≡ refusalOf (typeString (pointer a b c) sheet leaf)
 unfolding typeString
 pointer-any sheet leaf a b c z = rw (eq-eqb a 0 z)
 
-module _ (s : Str) (ns : List Node) (ids ats : List ℕ) (root : Str) (leaf : Leaf) (a b c : ℕ) (f : Found) (z : a ≡ 0 → ⊥) (e : f ≡ lookup b ids ats) (x : Indexed s ns ids ats) where
-  pub pointer-none : f ≡ Nothing → Number 5 ≡ refusalOf (typeString (pointer a b c) (sheetOf root ns) leaf)
-  unfolding typeString
-  pointer-none h = let w : nodeOf ns b ≡ refused 5 = rw (← e, h) at (node-found s ns ids ats b x) in rw (ne-eqb a 0 z, w) refl
-
-  module _ (node : ℕ) (h : f ≡ At node) (rest : Rows) (next : rest ≡ restOf (rows (drop node s))) (g : Found) (n : textFound s g ≡ nameAt (namesOf rest) c) where
-    found : (r : Refusal) → r ≡ refusalOf (named (textFound s g) then λ p. parameterString root leaf p) → r ≡ refusalOf (typeString (pointer a b c) (sheetOf root ns) leaf)
-    unfolding typeString
-    found r k = rw (ne-eqb a 0 z) (go (nodeOf ns b) (rw (← e, h) at (node-found s ns ids ats b x)))
-      where
-        go : (o : Out Node) → NodeIs s (At node) o → r ≡ refusalOf (o then λ n. parameterName (n .params) c then λ p. parameterString root leaf p)
-        go (ok y) w = rw (parameter-named (y .params) c, ← w .params, ← next, ← n) k
-        go (refused k) w = absurd w
-
-    pub pointer-13 : g ≡ Nothing → Number 13 ≡ refusalOf (typeString (pointer a b c) (sheetOf root ns) leaf)
-    pointer-13 k = found (Number 13) (rw k refl)
-
-    pub pointer-leaf : (q : ℕ) (r : Refusal) → g ≡ At q → ((root p : Str) → r ≡ refusalOf (parameterString root leaf p)) → r ≡ refusalOf (typeString (pointer a b c) (sheetOf root ns) leaf)
-    pointer-leaf q r k u = found r (rw k (u root _))
-
 -- ---- lists
 
 module _ (sheet : Sheet) (leaf : Leaf) (left : ℕ) (rs : Rows) (k : ℕ) (at : k ≡ kindAt rs) where
-  of-kind : (r : Refusal) → On (typeOf left rs) (λ ty. r ≡ refusalOf (listString (sheet .root) leaf k (typeString ty sheet (elementLeaf k)))) → On (typeOf left rs) (λ ty. r ≡ refusalOf (typeString (list ty) sheet leaf))
-  unfolding typeString
-  of-kind r h =
-      on-two (λ ty. kind ty ≡ kindAt rs) (λ ty. r ≡ refusalOf (listString (sheet .root) leaf k (typeString ty sheet (elementLeaf k)))) (λ ty. r ≡ refusalOf (typeString (list ty) sheet leaf)) (typeOf left rs)
-      (λ ty e g. subst (λ (j : ℕ). r ≡ refusalOf (listString (sheet .root) leaf j (typeString ty sheet (elementLeaf j)))) (at ∙ sym e) g) (type-kind left rs) h
-
   of-all : (r : Refusal) → ((o : Out Str) → r ≡ refusalOf (listString (sheet .root) leaf k o)) → On (typeOf left rs) (λ ty. r ≡ refusalOf (typeString (list ty) sheet leaf))
-  of-all r f = of-kind r (on-all {P = λ ty. r ≡ refusalOf (listString (sheet .root) leaf k (typeString ty sheet (elementLeaf k)))} (λ ty. f (typeString ty sheet (elementLeaf k))) (typeOf left rs))
+  of-all r f = of-kind sheet leaf left rs k at (λ o. r ≡ refusalOf o) (on-all {P = λ ty. r ≡ refusalOf (listString (sheet .root) leaf k (typeString ty sheet (elementLeaf k)))} (λ ty. f (typeString ty sheet (elementLeaf k))) (typeOf left rs))
 
   pub list-text : k ≡ 12 → On (typeOf left rs) (λ ty. None ≡ refusalOf (typeString (list ty) sheet leaf))
   unfolding listString
@@ -125,37 +75,23 @@ module _ (sheet : Sheet) (leaf : Leaf) (left : ℕ) (rs : Rows) (k : ℕ) (at : 
       → On (typeOf left rs) (λ ty. r ≡ refusalOf (typeString ty sheet l)) → On (typeOf left rs) (λ ty. r ≡ refusalOf (typeString (list ty) sheet leaf))
   unfolding listString
   list-inner r l x y z e h =
-      of-kind r (on-one (λ ty. r ≡ refusalOf (typeString ty sheet l)) (λ ty. r ≡ refusalOf (listString (sheet .root) leaf k (typeString ty sheet (elementLeaf k)))) (typeOf left rs)
+      of-kind sheet leaf left rs k at (λ o. r ≡ refusalOf o) (on-one (λ ty. r ≡ refusalOf (typeString ty sheet l)) (λ ty. r ≡ refusalOf (listString (sheet .root) leaf k (typeString ty sheet (elementLeaf k)))) (typeOf left rs)
       (λ ty g. rw (ne-eqb k 12 x, ne-eqb k 13 y, ne-eqb k 18 z) ((rw e at g) ∙ sym (refusal-then (typeString ty sheet (elementLeaf k)) _))) h)
 
 -- ---- the chain of a node's parents
 
-accumulate-none : (sheet : Sheet) (scopes : List (ℕ × typeString.Scope)) (n id : ℕ) → n ≡ 0 → accumulate sheet scopes n id ≡ refused 4
-unfolding accumulate
-accumulate-none sheet scopes n id h = rw h
-
-accumulate-more : (sheet : Sheet) (scopes : List (ℕ × typeString.Scope)) (n id : ℕ) → (n ≡ 0 → ⊥) → accumulate sheet scopes n id
-    ≡ (nodeOf (sheet .nodes) id then λ x. argumentsOf (sheet .root) (x .params) (scopeOf id scopes) then λ arguments.
-    cond (eqb (x .parent) 0) (ok (arguments ∷ [])) (accumulate sheet scopes (n - 1) (x .parent) then λ outer. ok (arguments ∷ outer)))
-unfolding accumulate
-accumulate-more sheet scopes zero id h = absurd (h refl)
-accumulate-more sheet scopes (suc n) id h = rw (sub-one (suc n))
-
 -- a brand's refusal is that of its chain: the chain looks its first node up too
-pub brand-chain : (sheet : Sheet) (leaf : Leaf) (k id : ℕ) (ss : Scopes) → (k ≡ 15 → ⊥) → refusalOf (accumulate sheet (scopesOf ss sheet) 16 id) ≡ refusalOf (typeString (branded k id ss) sheet leaf)
+pub brand-chain : (sheet : Sheet) (leaf : Leaf) (id : ℕ) (ss : Scopes) → refusalOf (accumulate sheet (scopesOf ss sheet) 16 id) ≡ refusalOf (typeString (struct id ss) sheet leaf)
 unfolding typeString doBranding
-brand-chain sheet leaf k id ss z = rw (ne-eqb k 15 z) (go (eqb k 16))
+brand-chain sheet leaf id ss = start (nodeOf (sheet .nodes) id) refl
   where
-    both : refusalOf (accumulate sheet (scopesOf ss sheet) 16 id) ≡ refusalOf (getQualifiedModule sheet id then doBranding sheet id (scopesOf ss sheet) leaf)
-    both = start (nodeOf (sheet .nodes) id) refl
-      where
-        start : (o : Out Node) → nodeOf (sheet .nodes) id ≡ o → refusalOf (accumulate sheet (scopesOf ss sheet) 16 id) ≡ refusalOf ((o then λ n. ok (n .theMod)) then doBranding sheet id (scopesOf ss sheet) leaf)
-        start (ok n) e = sym (refusal-then (accumulate sheet (scopesOf ss sheet) 16 id) _)
-        start (refused k) e = rw (accumulate-more sheet (scopesOf ss sheet) 16 id (λ h. omega arith), e) refl
+    start : (o : Out Node) → nodeOf (sheet .nodes) id ≡ o → refusalOf (accumulate sheet (scopesOf ss sheet) 16 id) ≡ refusalOf ((o then λ n. ok (n .theMod)) then doBranding sheet id (scopesOf ss sheet) leaf)
+    start (ok n) e = sym (refusal-then (accumulate sheet (scopesOf ss sheet) 16 id) _)
+    start (refused k) e = rw (accumulate-more sheet (scopesOf ss sheet) 16 id (λ h. omega arith), e) refl
 
-    go : (t : Bool) → refusalOf (accumulate sheet (scopesOf ss sheet) 16 id) ≡ refusalOf (typeString (cond t (struct id ss) (interface id ss)) sheet leaf)
-    go true = both
-    go false = both
+pub brand-told : (sheet : Sheet) (leaf : Leaf) (G : Reading Scopes) (id : ℕ) (r : Refusal) → On G (λ ss. r ≡ refusalOf (accumulate sheet (scopesOf ss sheet) 16 id)) → On G (λ ss. r ≡ refusalOf (typeString (struct id ss) sheet leaf))
+brand-told sheet leaf G id r h =
+    on-one (λ ss. r ≡ refusalOf (accumulate sheet (scopesOf ss sheet) 16 id)) (λ ss. r ≡ refusalOf (typeString (struct id ss) sheet leaf)) G (λ ss e. e ∙ brand-chain sheet leaf id ss) h
 
 -- one node's own refusal
 own-of : (sheet : Sheet) (scopes : List (ℕ × typeString.Scope)) (id : ℕ) (x : Node) → nodeOf (sheet .nodes) id ≡ ok x → ownOf sheet scopes id ≡ argumentsOf (sheet .root) (x .params) (scopeOf id scopes)
@@ -355,19 +291,3 @@ module _ (sheet : Sheet) (left n : ℕ) (rs rest : Rows) (more : 0 < n) (past : 
 pub bind-one : (sheet : Sheet) (t : Ty) (r : Refusal) → r ≡ refusalOf (typeString t sheet leaf.Owned) → r ≡ refusalOf (allOf (bindingsOf (bound t stop) sheet))
 unfolding allOf bindingsOf
 bind-one sheet t r h = h ∙ sym (refusal-then (typeString t sheet leaf.Owned) _)
-
--- ---- enums and brands by their row
-
-module _ (sheet : Sheet) (leaf : Leaf) (left : ℕ) (rs rest : Rows) (k a b c : ℕ) (l : Line) (z : left ≡ 0 → ⊥) (at : l ≡ lineAt rs) (is : l ≡ Typ k a b c) (next : rest ≡ restOf rs) (r : Refusal) where
-  pub type-enum : k ≡ 15 → r ≡ refusalOf (getQualifiedModule sheet a) → On (typeOf left rs) (λ ty. r ≡ refusalOf (typeString ty sheet leaf))
-  unfolding typeString
-  type-enum e h =
-      read-law.type-brand left rs rest k a b c l z at is next (λ ty. r ≡ refusalOf (typeString ty sheet leaf)) (omega arith) (λ y. omega arith) (omega arith)
-      (on-all {P = λ ss. r ≡ refusalOf (typeString (branded k a ss) sheet leaf)} (λ ss. rw (eq-eqb k 15 e) h) (times (read.scopeOf (typeOf (left - 1))) end b rest))
-
-  pub type-brand : 14 ≤ k → (k ≡ 14 → ⊥) → (k ≡ 15 → ⊥) → k < 18 → On (times (read.scopeOf (typeOf (left - 1))) end b rest) (λ ss. r ≡ refusalOf (accumulate sheet (scopesOf ss sheet) 16 a))
-      → On (typeOf left rs) (λ ty. r ≡ refusalOf (typeString ty sheet leaf))
-  type-brand u v w x h =
-      read-law.type-brand left rs rest k a b c l z at is next (λ ty. r ≡ refusalOf (typeString ty sheet leaf)) u v x
-      (on-one (λ ss. r ≡ refusalOf (accumulate sheet (scopesOf ss sheet) 16 a)) (λ ss. r ≡ refusalOf (typeString (branded k a ss) sheet leaf)) (times (read.scopeOf (typeOf (left - 1))) end b rest)
-      (λ ss e. e ∙ brand-chain sheet leaf k a ss w) h)

@@ -6,7 +6,7 @@ use Prim.Native.Nat.{ℕ}
 use lib.ListN.{drop}
 use Rattle.text.specs.Bytes.{Str}
 use Rattle.row.specs.Rows.{rows}
-use Rattle.tree.specs.Tree.{Ty, list, Scopes, end, Binds, stop, Node, Sheet}
+use Rattle.tree.specs.Tree.{list, end, stop, Node, Sheet}
 use Rattle.tree.specs.Reader.{times}
 use Rattle.tree.specs.Read as read
 use Rattle.tree.specs.Read.{typeOf, bindingOf}
@@ -15,10 +15,7 @@ use Rattle.codegen_types.specs.TypeString.{typeString, Scope, scopeOf, scopesOf
 use Rattle.codegen_types.specs.declared.Leaf.{Leaf}
 use Rattle.codegen_types.specs.declared.Refusal.{Refusal}
 use Rattle.codegen_types.specs.declared.Refusal.the-variants.{None}
-use Rattle.find.specs.Find.{On, Indexed, NodeHere}
-
-abbrev pub sheetOf : Str → List Node → Sheet
-sheetOf root ns = record { root = root; nodes = ns }
+use Rattle.find.specs.Find.{On, Indexed, NodeHere, sheetOf}
 
 -- the arguments of the node with an id
 unfoldable pub ownOf : Sheet → List (ℕ × Scope) → ℕ → Out (List Str)

@@ -1,11 +1,9 @@
 -- Laws of the writers of types and brands: one for each turn of the code, over what is read, the sheet and the texts written. Assumes nothing.
-use mathlib.Core.Path.{_≡_, refl, sym, ap, _∙_, subst}
+use mathlib.Core.Path.{_≡_, refl, sym, _∙_}
 use mathlib.Core.Bool.{Bool, true, false}
 use mathlib.Core.List.{List, [], _∷_, _++_, map}
 use mathlib.Core.Option.{Option, none, some}
-use Prim.Native.Nat.{ℕ, zero, suc, _+_, _-_, _<_, _≤_}
-use native.Mathlib.Omega.{arith}
-use native.Mathlib.Numerals.{sub-one}
+use Prim.Native.Nat.{ℕ, _+_, _-_, _<_, _≤_}
 use borrow.Author.Tests.{eq-eqb, ne-eqb}
 use lib.Dec.{eqb}
 use lib.ListN.{length, drop}
@@ -19,22 +17,22 @@ use Rattle.text.proofs.Laws.{_⨾_}
 use Rattle.row.specs.Rows.{rows, restOf}
 use Rattle.row.specs.Line.{lineAt, textAt}
 use Rattle.row.specs.declared.Line.{Line}
-use Rattle.row.specs.declared.Line.the-variants.{Typ, Scope}
-use Rattle.tree.specs.Tree.{Ty, list, enum, struct, interface, Scopes, end, Binds, stop, unbound, bound, kind, Node, Sheet}
+use Rattle.row.specs.declared.Line.the-variants.{Scope}
+use Rattle.tree.specs.Tree.{list, struct, Scopes, end, Binds, stop, Node, Sheet}
 use Rattle.tree.specs.Reader.{Rows, Reading, got, no, times}
 use Rattle.tree.specs.Read as read
 use Rattle.tree.specs.Read.{typeOf, bindingOf, branded}
 use Rattle.codegen_types.specs.Out.{Out, ok, refused, _then_}
 use Rattle.codegen_types.specs.Leaf.{bareName, display, lifetimeComma, maybeColons, leafArguments}
 use Rattle.codegen_types.specs.TypeString as typeString
-use Rattle.codegen_types.specs.TypeString.{typeString, getQualifiedModule, doBranding, nodeOf, scopeOf, scopesOf, bindingsOf, allOf, argumentsOf, accumulate, outermostFirst, angled, anyOwned, listString, listModule, elementLeaf}
+use Rattle.codegen_types.specs.TypeString.{typeString, doBranding, nodeOf, scopeOf, scopesOf, bindingsOf, allOf, argumentsOf, accumulate, outermostFirst, angled, anyOwned, listString, listModule, elementLeaf}
+use Rattle.codegen_types.proofs.Laws.{accumulate-none, accumulate-more}
 use Rattle.codegen_types.specs.declared.Leaf.{Leaf}
 use Rattle.find.specs.Find.{On, Has, kindAt, pastRows, ScopeIs, lastScope, namesOf, parentAt, NodeHere, Indexed, lookup}
 use Rattle.find.specs.declared.Found.{Found}
 use Rattle.find.specs.declared.Found.the-variants.{At, Nothing}
 use Rattle.find.proofs.Laws.{on-one, on-two, on-all, scope-counts}
-use Rattle.find.proofs.TypeLaws as read-law
-use Rattle.find.proofs.TypeLaws.{type-kind, times-none, binds-more, binds-length, scope-inherit, scope-binds, scope-not, OneBind}
+use Rattle.find.proofs.TypeLaws.{of-kind, times-none, binds-more, scope-inherit, scope-binds, scope-not}
 use Rattle.find.proofs.NodeLaws.{node-missing, node-there}
 use Rattle.type_parts.specs.Parts.{Writes, Lists, Listed, Opened, closer}
 use Rattle.type_parts.specs.declared.Arguments.{Arguments}
@@ -45,27 +43,21 @@ use Rattle.type_string.specs.Told.{outward, onlyOf}
 -- ---- lists
 
 module _ (sheet : Sheet) (leaf : Leaf) (left : ℕ) (rs : Rows) (k : ℕ) (at : k ≡ kindAt rs) where
-  of-kind : (Q : Out Str → Type 0) → On (typeOf left rs) (λ ty. Q (listString (sheet .root) leaf k (typeString ty sheet (elementLeaf k)))) → On (typeOf left rs) (λ ty. Q (typeString (list ty) sheet leaf))
-  unfolding typeString
-  of-kind Q h =
-      on-two (λ ty. kind ty ≡ kindAt rs) (λ ty. Q (listString (sheet .root) leaf k (typeString ty sheet (elementLeaf k)))) (λ ty. Q (typeString (list ty) sheet leaf)) (typeOf left rs)
-      (λ ty e g. subst (λ (j : ℕ). Q (listString (sheet .root) leaf j (typeString ty sheet (elementLeaf j)))) (at ∙ sym e) g) (type-kind left rs) h
-
   module _ {l : List ℕ} {t : Text} {l′ : List ℕ} {t′ : Text} where
     pub list-text : k ≡ 12 → Wrote l t (sheet .root ++ ascii "::text_list::" ++ display leaf) l′ t′ → On (typeOf left rs) (λ ty. Writes (typeString (list ty) sheet leaf) l t l′ t′)
     unfolding listString
-    list-text z w = of-kind (λ o. Writes o l t l′ t′) (on-all {P = λ ty. Writes (listString (sheet .root) leaf k (typeString ty sheet (elementLeaf k))) l t l′ t′} (λ ty. rw (eq-eqb k 12 z) w) (typeOf left rs))
+    list-text z w = of-kind sheet leaf left rs k at (λ o. Writes o l t l′ t′) (on-all {P = λ ty. Writes (listString (sheet .root) leaf k (typeString ty sheet (elementLeaf k))) l t l′ t′} (λ ty. rw (eq-eqb k 12 z) w) (typeOf left rs))
 
     pub list-data : (k ≡ 12 → ⊥) → k ≡ 13 → Wrote l t (sheet .root ++ ascii "::data_list::" ++ display leaf) l′ t′ → On (typeOf left rs) (λ ty. Writes (typeString (list ty) sheet leaf) l t l′ t′)
     unfolding listString
-    list-data y z w = of-kind (λ o. Writes o l t l′ t′) (on-all {P = λ ty. Writes (listString (sheet .root) leaf k (typeString ty sheet (elementLeaf k))) l t l′ t′} (λ ty. rw (ne-eqb k 12 y, eq-eqb k 13 z) w) (typeOf left rs))
+    list-data y z w = of-kind sheet leaf left rs k at (λ o. Writes o l t l′ t′) (on-all {P = λ ty. Writes (listString (sheet .root) leaf k (typeString ty sheet (elementLeaf k))) l t l′ t′} (λ ty. rw (ne-eqb k 12 y, eq-eqb k 13 z) w) (typeOf left rs))
 
   pub list-inner : {l : List ℕ} {t : Text} {l₁ : List ℕ} {t₁ : Text} {l₂ : List ℕ} {t₂ : Text} {l₃ : List ℕ} {t₃ : Text} (e : Leaf) → (k ≡ 12 → ⊥) → (k ≡ 13 → ⊥) → e ≡ elementLeaf k
       → Wrote l t (sheet .root ++ ascii "::" ++ listModule k ++ ascii "::" ++ bareName leaf ++ ascii "<" ++ lifetimeComma leaf) l₁ t₁
       → On (typeOf left rs) (λ ty. Writes (typeString ty sheet e) l₁ t₁ l₂ t₂) → Wrote l₂ t₂ (unit 62) l₃ t₃ → On (typeOf left rs) (λ ty. Writes (typeString (list ty) sheet leaf) l t l₃ t₃)
   unfolding listString
   list-inner {l} {t} {l₁} {t₁} {l₂} {t₂} {l₃} {t₃} e x y i a h b =
-      of-kind (λ o. Writes o l t l₃ t₃) (on-one (λ ty. Writes (typeString ty sheet e) l₁ t₁ l₂ t₂) (λ ty. Writes (listString (sheet .root) leaf k (typeString ty sheet (elementLeaf k))) l t l₃ t₃) (typeOf left rs)
+      of-kind sheet leaf left rs k at (λ o. Writes o l t l₃ t₃) (on-one (λ ty. Writes (typeString ty sheet e) l₁ t₁ l₂ t₂) (λ ty. Writes (listString (sheet .root) leaf k (typeString ty sheet (elementLeaf k))) l t l₃ t₃) (typeOf left rs)
       (λ ty g. rw (ne-eqb k 12 x, ne-eqb k 13 y) (go (eqb k 18) (typeString ty sheet (elementLeaf k)) (rw i at g))) h)
     where
       go : (z : Bool) (o : Out Str) → Writes o l₁ t₁ l₂ t₂
@@ -75,17 +67,6 @@ module _ (sheet : Sheet) (leaf : Leaf) (left : ℕ) (rs : Rows) (k : ℕ) (at : 
       go false (refused j) g = tt
 
 -- ---- the chain of a node's parents
-
-accumulate-none : (sheet : Sheet) (scopes : List (ℕ × typeString.Scope)) (n id : ℕ) → n ≡ 0 → accumulate sheet scopes n id ≡ refused 4
-unfolding accumulate
-accumulate-none sheet scopes n id h = rw h
-
-accumulate-more : (sheet : Sheet) (scopes : List (ℕ × typeString.Scope)) (n id : ℕ) → (n ≡ 0 → ⊥) → accumulate sheet scopes n id
-    ≡ (nodeOf (sheet .nodes) id then λ x. argumentsOf (sheet .root) (x .params) (scopeOf id scopes) then λ arguments.
-    cond (eqb (x .parent) 0) (ok (arguments ∷ [])) (accumulate sheet scopes (n - 1) (x .parent) then λ outer. ok (arguments ∷ outer)))
-unfolding accumulate
-accumulate-more sheet scopes zero id h = absurd (h refl)
-accumulate-more sheet scopes (suc n) id h = rw (sub-one (suc n))
 
 pub chain-zero : (sheet : Sheet) (G : Reading Scopes) (nodes id : ℕ) (l : List ℕ) (p : Arguments) (l′ : List ℕ) (p′ : Arguments) → nodes ≡ 0 → On G (λ ss. Lists (outward (accumulate sheet (scopesOf ss sheet) nodes id)) l p l′ p′)
 chain-zero sheet G nodes id l p l′ p′ z = on-all {P = λ ss. Lists (outward (accumulate sheet (scopesOf ss sheet) nodes id)) l p l′ p′} (λ ss. rw (accumulate-none sheet (scopesOf ss sheet) nodes id z) tt) G
@@ -130,15 +111,6 @@ module _ (s : Str) (sheet : Sheet) (ids ats : List ℕ) (G : Reading Scopes) (no
         go (refused k) a g h = tt
 
 -- ---- a brand
-
--- structs and interfaces have the same text
-pub brand-type : (sheet : Sheet) (leaf : Leaf) (k id : ℕ) (ss : Scopes) → (k ≡ 15 → ⊥) → typeString (struct id ss) sheet leaf ≡ typeString (branded k id ss) sheet leaf
-unfolding typeString
-brand-type sheet leaf k id ss z = rw (ne-eqb k 15 z) (go (eqb k 16))
-  where
-    go : (t : Bool) → typeString (struct id ss) sheet leaf ≡ typeString (cond t (struct id ss) (interface id ss)) sheet leaf
-    go true = refl
-    go false = refl
 
 module _ (s : Str) (sheet : Sheet) (leaf : Leaf) (ids ats : List ℕ) (G : Reading Scopes) (id : ℕ) (f : Found) (e : f ≡ lookup id ids ats) (i : Indexed s (sheet .nodes) ids ats) where
   pub brand-none : (l : List ℕ) (t : Text) (l′ : List ℕ) (t′ : Text) → f ≡ Nothing → On G (λ ss. Writes (typeString (struct id ss) sheet leaf) l t l′ t′)
@@ -220,19 +192,3 @@ binds-on sheet left n rs rest more past l p l₁ t₁ l₂ t₂ l′ p′ a one 
     go (ok w) (ok ws) g v = listed-cons (a ⨾ g) v
     go (ok w) (refused k) g v = tt
     go (refused k) os g v = tt
-
--- ---- enums and brands by their row
-
-module _ (sheet : Sheet) (leaf : Leaf) (left : ℕ) (rs rest : Rows) (k a b c : ℕ) (line : Line) (z : left ≡ 0 → ⊥) (at : line ≡ lineAt rs) (is : line ≡ Typ k a b c) (next : rest ≡ restOf rs) (Q : Out Str → Type 0) where
-  pub type-enum : k ≡ 15 → Q (getQualifiedModule sheet a) → On (typeOf left rs) (λ ty. Q (typeString ty sheet leaf))
-  unfolding typeString
-  type-enum e h =
-      read-law.type-brand left rs rest k a b c line z at is next (λ ty. Q (typeString ty sheet leaf)) (omega arith) (λ y. omega arith) (omega arith)
-      (on-all {P = λ ss. Q (typeString (branded k a ss) sheet leaf)} (λ ss. rw (eq-eqb k 15 e) h) (times (read.scopeOf (typeOf (left - 1))) end b rest))
-
-  pub type-brand : 14 ≤ k → (k ≡ 14 → ⊥) → (k ≡ 15 → ⊥) → k < 18 → On (times (read.scopeOf (typeOf (left - 1))) end b rest) (λ ss. Q (typeString (struct a ss) sheet leaf))
-      → On (typeOf left rs) (λ ty. Q (typeString ty sheet leaf))
-  type-brand u v w x h =
-      read-law.type-brand left rs rest k a b c line z at is next (λ ty. Q (typeString ty sheet leaf)) u v x
-      (on-one (λ ss. Q (typeString (struct a ss) sheet leaf)) (λ ss. Q (typeString (branded k a ss) sheet leaf)) (times (read.scopeOf (typeOf (left - 1))) end b rest)
-      (λ ss g. subst Q (brand-type sheet leaf k a ss w) g) h)

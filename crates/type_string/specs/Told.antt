@@ -1,18 +1,17 @@
 -- What the writers of types and brands tell: the text that `type_string` gives for whatever type is read at a position, in every sheet whose nodes the
 -- index has. Where `type_string` refuses they tell nothing: the refusal is found before (crate type_refusal). Assumes nothing.
-use mathlib.Core.Path.{_≡_}
 use mathlib.Core.List.{List, [], _∷_}
 use Prim.Native.Nat.{ℕ}
 use lib.ListN.{drop}
 use Rattle.text.specs.Bytes.{Str}
 use Rattle.text.specs.declared.Text.{Text}
 use Rattle.row.specs.Rows.{rows}
-use Rattle.tree.specs.Tree.{Ty, list, struct, Scopes, end, Binds, stop, Node, Sheet}
+use Rattle.tree.specs.Tree.{list, struct, end, stop, Node}
 use Rattle.tree.specs.Reader.{times}
 use Rattle.tree.specs.Read as read
 use Rattle.tree.specs.Read.{typeOf, bindingOf}
 use Rattle.codegen_types.specs.Out.{Out, ok, refused, _then_}
-use Rattle.codegen_types.specs.TypeString.{typeString, scopeOf, scopesOf, bindingsOf, nodeOf, allOf, argumentsOf, accumulate, outermostFirst}
+use Rattle.codegen_types.specs.TypeString.{typeString, scopeOf, scopesOf, bindingsOf, allOf, argumentsOf, accumulate, outermostFirst}
 use Rattle.codegen_types.specs.declared.Leaf.{Leaf}
 use Rattle.find.specs.Find.{On, NodeHere}
 use Rattle.type_parts.specs.Parts.{ForAll, Writes, Lists}

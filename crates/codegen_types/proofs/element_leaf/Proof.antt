@@ -1,6 +1,5 @@
 -- `codegen_types::element_leaf` meets its contract. Assumes nothing.
-use borrow.Author.Tests.{eq-eqb, ne-eqb, lt-ltb, le-ltb, le-leb, lt-leb, not-true, not-false}
-use borrow.Author.Needs.{needs}
+use borrow.Author.Tests.{eq-eqb, ne-eqb}
 use Rattle.codegen_types.proofs.element_leaf.Statement.{statement}
 use Rattle.codegen_types.proofs.element_leaf.Tie as tie
 

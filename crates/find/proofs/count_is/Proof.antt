@@ -4,7 +4,6 @@ use Rattle.find.specs.Find.{namesOf}
 use Rattle.row.specs.Rows.{rows}
 use borrow.Author.Tests.{not-true, not-false}
 use mathlib.Core.Path.{_≡_, refl, sym, _∙_}
-use mathlib.Core.Bool.{true, false}
 use lib.ListN.{length, drop}
 use lib.Dec.{eqb}
 use borrow.Author.Needs.{needs}

@@ -1,8 +1,7 @@
 -- `find::is_parameter` meets its contract. Assumes nothing.
 use Rattle.tree.proofs.OtherLines.{not-parameter}
 use mathlib.Core.Bool.{true, false}
-use mathlib.Core.Path.{_≡_, refl, sym}
-use borrow.Author.Tests.{eq-eqb, ne-eqb, lt-ltb, le-ltb, le-leb, lt-leb, not-true, not-false}
+use mathlib.Core.Path.{refl, sym}
 use borrow.Author.Needs.{needs}
 use Rattle.find.proofs.is_parameter.Statement.{statement}
 use Rattle.find.proofs.is_parameter.Tie as tie

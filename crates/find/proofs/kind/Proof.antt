@@ -1,12 +1,9 @@
 use Rattle.tree.proofs.OtherLines.{not-type}
 use borrow.Author.Tests.{lt-ltb, le-ltb}
-use mathlib.Core.Path.{_≡_, refl, sym, _∙_}
+use mathlib.Core.Path.{refl, sym, _∙_}
 use borrow.Author.Needs.{needs}
 use Rattle.find.proofs.kind.Statement.{statement}
 use Rattle.find.proofs.kind.Tie as tie
-use Rattle.find.proofs.kind.Reads as reads
-use Rattle.find.proofs.kind.Lts as lts
-use Rattle.row.proofs.next.Reads as next-reads
 
 next-requires : tie.Need-next-requires
 next-requires c κs = search needs

@@ -1,7 +1,6 @@
 -- `find::node_row` meets its contract. Assumes nothing.
 use Rattle.tree.proofs.OtherLines.{not-node}
-use mathlib.Core.Path.{_≡_, refl, sym, _∙_}
-use borrow.Author.Tests.{eq-eqb, ne-eqb, lt-ltb, le-ltb, le-leb, lt-leb, not-true, not-false}
+use mathlib.Core.Path.{refl, sym, _∙_}
 use borrow.Author.Needs.{needs}
 use Rattle.find.proofs.node_row.Statement.{statement}
 use Rattle.find.proofs.node_row.Tie as tie

@@ -1,8 +1,8 @@
 -- `find::owed` meets its contract. Assumes nothing.
-use mathlib.Core.Path.{_≡_, refl, sym}
+use mathlib.Core.Path.{sym}
 use Rattle.find.proofs.Laws.{owed-none}
 use Rattle.find.specs.Find.{owed}
-use borrow.Author.Tests.{eq-eqb, ne-eqb, lt-ltb, le-ltb, le-leb, lt-leb, not-true, not-false}
+use borrow.Author.Tests.{eq-eqb, ne-eqb, lt-ltb, le-ltb}
 use borrow.Author.Needs.{needs}
 use Rattle.find.proofs.owed.Statement.{statement}
 use Rattle.find.proofs.owed.Tie as tie

@@ -3,7 +3,7 @@ use Rattle.find.proofs.Laws.{past-done, past-on, past-far, past-end}
 use Rattle.find.specs.Find.{pastRows}
 use Rattle.row.proofs.Laws.{rows-shrink}
 use Rattle.row.specs.Rows.{rows}
-use mathlib.Core.Path.{_≡_, refl, sym, ap, _∙_}
+use mathlib.Core.Path.{_≡_, refl, sym, _∙_}
 use native.Mathlib.Omega.{arith}
 use Prim.Native.Nat.{_+_, _-_, _≤_}
 use lib.ListN.{length, drop}

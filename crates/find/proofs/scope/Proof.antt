@@ -2,10 +2,9 @@
 use Rattle.find.proofs.Laws.{scope-none, scope-other, scope-this, scope-next}
 use Rattle.find.specs.Find.{lastScope, rowsFound}
 use Rattle.row.specs.Rows.{rows}
-use mathlib.Core.Path.{_≡_, refl, sym, ap, _∙_}
+use mathlib.Core.Path.{_≡_, refl, sym, _∙_}
 use mathlib.Core.Option.{none}
 use mathlib.Core.Logic.{⊎-elim}
-use native.Mathlib.Omega.{arith}
 use lib.ListN.{drop}
 use borrow.Author.Needs.{needs}
 use Rattle.find.proofs.scope.Statement.{statement}

@@ -1,5 +1,4 @@
 -- `type_parts::any_owned` meets its contract. Assumes nothing.
-use mathlib.Core.Path.{_≡_, refl, sym, ap, _∙_}
 use Rattle.text.proofs.Laws.{_⨾_}
 use borrow.Author.Needs.{needs}
 use Rattle.type_parts.proofs.any_owned.Statement.{statement}

@@ -1,8 +1,7 @@
 -- `type_parts::close` meets its contract. Assumes nothing.
 use Rattle.text.specs.Text.{put, adv}
 use borrow.Author.Tests.{eq-eqb, ne-eqb}
-use mathlib.Core.Path.{_≡_, refl, sym, ap, _∙_}
-use Rattle.text.proofs.Laws.{_⨾_}
+use mathlib.Core.Path.{refl}
 use borrow.Author.Needs.{needs}
 use Rattle.type_parts.proofs.close.Statement.{statement}
 use Rattle.type_parts.proofs.close.Tie as tie

@@ -7,7 +7,7 @@ use Rattle.row.specs.Rows.{rows}
 use Rattle.text.proofs.Laws.{_⨾_}
 use borrow.Author.Tests.{not-true, not-false}
 use Prim.Native.Nat.{ℕ}
-use mathlib.Core.Path.{_≡_, refl, sym, ap, _∙_}
+use mathlib.Core.Path.{_≡_, refl}
 use mathlib.Core.List.{List}
 use native.Mathlib.Omega.{arith}
 use lib.ListN.{length, drop}

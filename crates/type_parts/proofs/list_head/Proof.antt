@@ -3,7 +3,6 @@ use Rattle.codegen_types.specs.TypeString.{listModule}
 use Rattle.codegen_types.specs.Leaf.{bareName, lifetimeComma}
 use Rattle.text.specs.Bytes.{ascii}
 use Rattle.type_parts.proofs.Laws as law
-use mathlib.Core.Path.{_≡_, refl, sym, ap, _∙_}
 use Rattle.text.proofs.Laws.{_⨾_}
 use borrow.Author.Needs.{needs}
 use Rattle.type_parts.proofs.list_head.Statement.{statement}

@@ -1,7 +1,5 @@
 -- `type_parts::list_module` meets its contract. Assumes nothing.
 use borrow.Author.Tests.{eq-eqb, ne-eqb}
-use mathlib.Core.Path.{_≡_, refl, sym, ap, _∙_}
-use Rattle.text.proofs.Laws.{_⨾_}
 use borrow.Author.Needs.{needs}
 use Rattle.type_parts.proofs.list_module.Statement.{statement}
 use Rattle.type_parts.proofs.list_module.Tie as tie

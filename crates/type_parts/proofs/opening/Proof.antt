@@ -1,7 +1,6 @@
 -- `type_parts::opening` meets its contract. Assumes nothing.
 use Rattle.type_parts.specs.Parts.{listed, sepAfter}
-use mathlib.Core.Path.{_≡_, refl, sym, ap, _∙_}
-use Rattle.text.proofs.Laws.{_⨾_}
+use mathlib.Core.Path.{refl}
 use borrow.Author.Needs.{needs}
 use Rattle.type_parts.proofs.opening.Statement.{statement}
 use Rattle.type_parts.proofs.opening.Tie as tie

@@ -3,8 +3,6 @@ use Rattle.codegen_types.specs.TypeString.{parameterString}
 use Rattle.text.specs.Bytes.{ascii}
 use mathlib.Core.List.{_++_}
 use Rattle.type_parts.proofs.Laws as law
-use mathlib.Core.Path.{_≡_, refl, sym, ap, _∙_}
-use Rattle.text.proofs.Laws.{_⨾_}
 use borrow.Author.Needs.{needs}
 use Rattle.type_parts.proofs.parameter.Statement.{statement}
 use Rattle.type_parts.proofs.parameter.Tie as tie

@@ -1,12 +1,11 @@
 -- `type_parts::pointer` meets its contract. Assumes nothing.
-use Rattle.type_parts.specs.Parts.{sheetOf, Writes}
+use Rattle.find.specs.Find.{sheetOf}
+use Rattle.type_parts.specs.Parts.{Writes}
 use Rattle.find.proofs.NodeLaws.{pointer-none, pointer-at}
 use Rattle.text.specs.Bytes.{Str}
 use Rattle.codegen_types.specs.TypeString.{typeString}
 use Rattle.codegen_types.specs.Out.{Out}
 use borrow.Author.Tests.{eq-eqb}
-use mathlib.Core.Path.{_≡_, refl, sym, ap, _∙_}
-use Rattle.text.proofs.Laws.{_⨾_}
 use borrow.Author.Needs.{needs}
 use Rattle.type_parts.proofs.pointer.Statement.{statement}
 use Rattle.type_parts.proofs.pointer.Tie as tie

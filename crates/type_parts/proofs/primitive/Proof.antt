@@ -2,8 +2,7 @@
 use native.Mathlib.Omega.{arith}
 use Prim.Native.Nat.{_≤_}
 use Rattle.type_parts.proofs.Laws.{above}
-use mathlib.Core.Path.{_≡_, refl, sym, ap, _∙_}
-use Rattle.text.proofs.Laws.{_⨾_}
+use mathlib.Core.Path.{_≡_}
 use borrow.Author.Needs.{needs}
 use Rattle.type_parts.proofs.primitive.Statement.{statement}
 use Rattle.type_parts.proofs.primitive.Tie as tie

@@ -1,10 +1,9 @@
 -- `type_parts::qualified_module` meets its contract. Assumes nothing.
-use Rattle.type_parts.specs.Parts.{sheetOf, Writes}
+use Rattle.find.specs.Find.{sheetOf}
+use Rattle.type_parts.specs.Parts.{Writes}
 use Rattle.find.proofs.NodeLaws.{module-none, module-at}
 use Rattle.text.specs.Bytes.{Str}
 use Rattle.codegen_types.specs.Out.{Out}
-use mathlib.Core.Path.{_≡_, refl, sym, ap, _∙_}
-use Rattle.text.proofs.Laws.{_⨾_}
 use borrow.Author.Needs.{needs}
 use Rattle.type_parts.proofs.qualified_module.Statement.{statement}
 use Rattle.type_parts.proofs.qualified_module.Tie as tie

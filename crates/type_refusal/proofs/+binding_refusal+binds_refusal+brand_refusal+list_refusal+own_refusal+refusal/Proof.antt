@@ -5,23 +5,23 @@ use lib.Seq.{length-take-le}
 use lib.ListN.{length, length-set, drop}
 use Rattle.type_refusal.proofs.Laws.{Chained}
 use Rattle.type_refusal.proofs.Laws as law
-use Rattle.type_refusal.specs.Told.{sheetOf}
+use Rattle.find.specs.Find.{sheetOf}
 use Rattle.find.proofs.TypeLaws as read-law
-use Rattle.find.proofs.Laws.{on-one, on-all}
-use Rattle.find.specs.Find.{On, Indexed, rowsFound}
+use Rattle.find.proofs.Laws.{on-one}
+use Rattle.find.specs.Find.{On, Indexed}
 use Rattle.codegen_types.specs.declared.Leaf.the-variants.{Owned}
-use Rattle.codegen_types.specs.declared.Refusal.the-variants.{None, Number}
+use Rattle.codegen_types.specs.declared.Refusal.the-variants.{None}
 use Rattle.codegen_types.specs.declared.Refusal.{Refusal}
-use Rattle.codegen_types.specs.TypeString.{typeString, scopesOf, bindingsOf, allOf, accumulate, getQualifiedModule}
-use Rattle.codegen_types.specs.Out.{refusalOf}
-use Rattle.tree.specs.Read.{typeOf, bindingOf, branded, pointer}
+use Rattle.codegen_types.specs.TypeString.{typeString, scopesOf, bindingsOf, allOf}
+use Rattle.codegen_types.specs.Out.{Out, refusalOf}
+use Rattle.tree.specs.Read.{typeOf, bindingOf}
 use Rattle.tree.specs.Read as read
 use Rattle.tree.specs.Reader.{times}
-use Rattle.tree.specs.Tree.{Ty, Binds, Scopes, Node, end, stop, unbound, bound, list}
+use Rattle.tree.specs.Tree.{Node, end, stop, bound}
 use Rattle.row.specs.Rows.{rows}
 use Rattle.text.specs.Bytes.{Str}
 use Prim.Native.Nat.{_+_, _-_, _*_, _≤_}
-use mathlib.Core.Path.{_≡_, refl, sym, ap, _∙_}
+use mathlib.Core.Path.{_≡_, refl, sym, _∙_}
 use mathlib.Core.List.{List}
 use native.Mathlib.Omega.{arith}
 use borrow.Author.Needs.{needs}
@@ -148,31 +148,34 @@ refusal-at t = and 3 refusal-kinds.ps (is 3 refusal-kinds.ps μ-refusal t) refus
 abbrev refusal-below : ℕ → In 3 refusal-kinds.ps
 refusal-below t = and 3 refusal-kinds.ps (falls 3 refusal-kinds.ps _<_ μ-refusal t) refusal.Pre
 
-binding-refusal-refusal-requires : (t : ℕ) → binding-refusal-lts.Need-refusal-requires (
-  next-reads.Asked,
-  next-reads.Learnt,
-  refusal-below t,
-  refusal.Post,
-) (binding-refusal-at t) binding-refusal.Post
+abbrev binding-refusal-calls : ℕ → binding-refusal-lts.Claims
+binding-refusal-calls t = (next-reads.Asked, next-reads.Learnt, refusal-below t, refusal.Post)
+
+abbrev binds-refusal-calls : ℕ → binds-refusal-lts.Claims
+binds-refusal-calls t = (binding-refusal-below t, binding-refusal.Post, past-reads.Asked, past-reads.Learnt)
+
+abbrev brand-refusal-calls : ℕ → brand-refusal-lts.Claims
+brand-refusal-calls t = (node-reads.Asked, node-reads.Learnt, own-refusal-below t, own-refusal.Post, node-row-reads.Asked, node-row-reads.Learnt)
+
+abbrev list-refusal-calls : ℕ → list-refusal-lts.Claims
+list-refusal-calls t = (kind-reads.Asked, kind-reads.Learnt, element-leaf-reads.Asked, element-leaf-reads.Learnt, refusal-below t, refusal.Post)
+
+abbrev own-refusal-calls : ℕ → own-refusal-lts.Claims
+own-refusal-calls t = (among-reads.Asked, among-reads.Learnt, scope-reads.Asked, scope-reads.Learnt, next-reads.Asked, next-reads.Learnt, node-row-reads.Asked, node-row-reads.Learnt, count-is-reads.Asked, count-is-reads.Learnt, binds-refusal-below t, binds-refusal.Post)
+
+abbrev refusal-calls : ℕ → refusal-lts.Claims
+refusal-calls t = (next-reads.Asked, next-reads.Learnt, list-refusal-below t, list-refusal.Post, module-refusal-reads.Asked, module-refusal-reads.Learnt, brand-refusal-below t, brand-refusal.Post, pointer-refusal-reads.Asked, pointer-refusal-reads.Learnt)
+
+binding-refusal-refusal-requires : (t : ℕ) → binding-refusal-lts.Need-refusal-requires (binding-refusal-calls t) (binding-refusal-at t) binding-refusal.Post
 binding-refusal-refusal-requires t c κs =
     (omega (arith, (c .before .before .before .before .before .pre .0)), tt)
 
-binding-refusal-returns : (t : ℕ) → binding-refusal-lts.Need-returns (
-  next-reads.Asked,
-  next-reads.Learnt,
-  refusal-below t,
-  refusal.Post,
-) (binding-refusal-at t) binding-refusal.Post
+binding-refusal-returns : (t : ℕ) → binding-refusal-lts.Need-returns (binding-refusal-calls t) (binding-refusal-at t) binding-refusal.Post
 unfolding allOf bindingsOf
 binding-refusal-returns t c =
     λ root ns x. read-law.bind-unbound _ _ (λ f. None ≡ refusalOf (allOf (bindingsOf (f stop) (sheetOf root ns)))) _ (c .before .before .next .ensures .0) (c .enum-told .given .1) refl
 
-binding-refusal-returns-2 : (t : ℕ) → binding-refusal-lts.Need-returns-2 (
-  next-reads.Asked,
-  next-reads.Learnt,
-  refusal-below t,
-  refusal.Post,
-) (binding-refusal-at t) binding-refusal.Post
+binding-refusal-returns-2 : (t : ℕ) → binding-refusal-lts.Need-returns-2 (binding-refusal-calls t) (binding-refusal-at t) binding-refusal.Post
 binding-refusal-returns-2 t c =
     λ root ns x. read-law.bind-typed _ _ (λ f. (c .refusal .result) ≡ refusalOf (allOf (bindingsOf (f stop) (sheetOf root ns)))) _ (c .before .before .next .ensures .0) (c .before .match .keys2) (on-one (λ ty. (c .refusal .result) ≡ refusalOf (typeString ty (sheetOf root ns) Owned)) (λ t. (c .refusal .result) ≡ refusalOf (allOf (bindingsOf (bound t stop) (sheetOf root ns)))) (typeOf (c .before .before .before .before .before .before .args .left) (rows (drop (c .before .before .before .before .before .before .args .at) ((c .before .before .before .before .before .before .args .s) .now)))) (λ t e. law.bind-one (sheetOf root ns) t (c .refusal .result) e) ((c .refusal .ensures) root ns x))
 
@@ -184,48 +187,23 @@ binds-refusal-Inv-loop s ids ats from count left at₀ n₀ at n = (root : Str) 
 abbrev binds-refusal-μ-loop : binds-refusal-lts.MeasureT-loop
 binds-refusal-μ-loop s ids ats from count left at₀ n₀ at n = n
 
-binds-refusal-loop-holds : (t : ℕ) → binds-refusal-lts.Need-loop-holds (
-  binding-refusal-below t,
-  binding-refusal.Post,
-  past-reads.Asked,
-  past-reads.Learnt,
-) (binds-refusal-at t) binds-refusal.Post binds-refusal-Inv-loop binds-refusal-μ-loop
+binds-refusal-loop-holds : (t : ℕ) → binds-refusal-lts.Need-loop-holds (binds-refusal-calls t) (binds-refusal-at t) binds-refusal.Post binds-refusal-Inv-loop binds-refusal-μ-loop
 binds-refusal-loop-holds t c =
     λ root ns x r h. h
 
-binds-refusal-binding-refusal-requires : (t : ℕ) → binds-refusal-lts.Need-binding-refusal-requires (
-  binding-refusal-below t,
-  binding-refusal.Post,
-  past-reads.Asked,
-  past-reads.Learnt,
-) (binds-refusal-at t) binds-refusal.Post binds-refusal-Inv-loop binds-refusal-μ-loop
+binds-refusal-binding-refusal-requires : (t : ℕ) → binds-refusal-lts.Need-binding-refusal-requires (binds-refusal-calls t) (binds-refusal-at t) binds-refusal.Post binds-refusal-Inv-loop binds-refusal-μ-loop
 binds-refusal-binding-refusal-requires t c κs =
     (omega (arith, (c .before .before .before .before .before .pre .0)), tt)
 
-binds-refusal-returns : (t : ℕ) → binds-refusal-lts.Need-returns (
-  binding-refusal-below t,
-  binding-refusal.Post,
-  past-reads.Asked,
-  past-reads.Learnt,
-) (binds-refusal-at t) binds-refusal.Post binds-refusal-Inv-loop binds-refusal-μ-loop
+binds-refusal-returns : (t : ℕ) → binds-refusal-lts.Need-returns (binds-refusal-calls t) (binds-refusal-at t) binds-refusal.Post binds-refusal-Inv-loop binds-refusal-μ-loop
 binds-refusal-returns t c =
     λ root ns x. (c .before .before .before .before .loop .inv) root ns x (c .before .before .binding-refusal .result) (law.binds-stop (sheetOf root ns) _ _ _ _ (c .before .before .before .loop-test .taken) refl _ ((c .before .before .binding-refusal .ensures) root ns x) _ (c .enum-told2 .given .1))
 
-binds-refusal-loop-again : (t : ℕ) → binds-refusal-lts.Need-loop-again (
-  binding-refusal-below t,
-  binding-refusal.Post,
-  past-reads.Asked,
-  past-reads.Learnt,
-) (binds-refusal-at t) binds-refusal.Post binds-refusal-Inv-loop binds-refusal-μ-loop
+binds-refusal-loop-again : (t : ℕ) → binds-refusal-lts.Need-loop-again (binds-refusal-calls t) (binds-refusal-at t) binds-refusal.Post binds-refusal-Inv-loop binds-refusal-μ-loop
 binds-refusal-loop-again t c =
     λ root ns x r h. (c .before .before .before .before .before .loop .inv) root ns x r (law.binds-on (sheetOf root ns) _ _ _ _ (c .before .before .before .before .loop-test .taken) (c .past .ensures) _ ((c .before .before .before .binding-refusal .ensures) root ns x) r (c .before .enum-told .given .1) h)
 
-binds-refusal-returns-2 : (t : ℕ) → binds-refusal-lts.Need-returns-2 (
-  binding-refusal-below t,
-  binding-refusal.Post,
-  past-reads.Asked,
-  past-reads.Learnt,
-) (binds-refusal-at t) binds-refusal.Post binds-refusal-Inv-loop binds-refusal-μ-loop
+binds-refusal-returns-2 : (t : ℕ) → binds-refusal-lts.Need-returns-2 (binds-refusal-calls t) (binds-refusal-at t) binds-refusal.Post binds-refusal-Inv-loop binds-refusal-μ-loop
 binds-refusal-returns-2 t c =
     λ root ns x. (c .before .loop .inv) root ns x None (law.binds-none (sheetOf root ns) _ _ _ (c .loop-test .left))
 
@@ -236,402 +214,121 @@ brand-refusal-Inv-loop s ids ats id at n left seen₀ k₀ current₀ seen k cur
 abbrev brand-refusal-μ-loop : brand-refusal-lts.MeasureT-loop
 brand-refusal-μ-loop s ids ats id at n left seen₀ k₀ current₀ seen k current = 16 - k
 
-brand-refusal-loop-holds : (t : ℕ) → brand-refusal-lts.Need-loop-holds (
-  node-reads.Asked,
-  node-reads.Learnt,
-  own-refusal-below t,
-  own-refusal.Post,
-  node-row-reads.Asked,
-  node-row-reads.Learnt,
-) (brand-refusal-at t) brand-refusal.Post brand-refusal-Inv-loop brand-refusal-μ-loop
+brand-refusal-loop-holds : (t : ℕ) → brand-refusal-lts.Need-loop-holds (brand-refusal-calls t) (brand-refusal-at t) brand-refusal.Post brand-refusal-Inv-loop brand-refusal-μ-loop
 brand-refusal-loop-holds t c =
     (omega arith, refl, λ root ns x. law.brand-start (sheetOf root ns) (times (read.scopeOf (typeOf (c .before .before .before .args .left))) end (c .before .before .before .args .n) (rows (drop (c .before .before .before .args .at) ((c .before .before .before .args .s) .now)))) (c .before .before .before .args .id) _)
 
-brand-refusal-returns : (t : ℕ) → brand-refusal-lts.Need-returns (
-  node-reads.Asked,
-  node-reads.Learnt,
-  own-refusal-below t,
-  own-refusal.Post,
-  node-row-reads.Asked,
-  node-row-reads.Learnt,
-) (brand-refusal-at t) brand-refusal.Post brand-refusal-Inv-loop brand-refusal-μ-loop
+brand-refusal-returns : (t : ℕ) → brand-refusal-lts.Need-returns (brand-refusal-calls t) (brand-refusal-at t) brand-refusal.Post brand-refusal-Inv-loop brand-refusal-μ-loop
 brand-refusal-returns t c =
     λ root ns x. law.brand-5 ((c .before .before .before .before .before .before .before .before .args .s) .now) ns ((c .before .before .before .before .before .before .before .before .args .ids) .now) ((c .before .before .before .before .before .before .before .before .args .ats) .now) root (times (read.scopeOf (typeOf (c .before .before .before .before .before .before .before .before .args .left))) end (c .before .before .before .before .before .before .before .before .args .n) (rows (drop (c .before .before .before .before .before .before .before .before .args .at) ((c .before .before .before .before .before .before .before .before .args .s) .now)))) (c .before .before .before .before .before .before .before .before .args .id) (c .before .before .before .before .loop .current) (c .before .before .before .before .loop .k) (c .before .before .before .before .loop .seen) (c .before .before .before .loop-test .taken) _ (c .before .before .node .ensures) x ((c .before .before .before .before .loop .inv .2) root ns x) (c .enum-told .given .1)
 
 brand-refusal-slice-aggregate-own-refusal :
-    (t : ℕ) → brand-refusal-lts.Need-slice-aggregate-own-refusal (
-      node-reads.Asked,
-      node-reads.Learnt,
-      own-refusal-below t,
-      own-refusal.Post,
-      node-row-reads.Asked,
-      node-row-reads.Learnt,
-    ) (brand-refusal-at t) brand-refusal.Post brand-refusal-Inv-loop brand-refusal-μ-loop
+    (t : ℕ) → brand-refusal-lts.Need-slice-aggregate-own-refusal (brand-refusal-calls t) (brand-refusal-at t) brand-refusal.Post brand-refusal-Inv-loop brand-refusal-μ-loop
 brand-refusal-slice-aggregate-own-refusal t c =
     sym (length-take-le (c .before .before .before .before .before .before .loop .k) (c .before .before .before .before .before .before .loop .seen) (let h = (c .before .before .before .before .before .before .loop .inv .1) in omega arith))
 
-brand-refusal-own-refusal-requires : (t : ℕ) → brand-refusal-lts.Need-own-refusal-requires (
-  node-reads.Asked,
-  node-reads.Learnt,
-  own-refusal-below t,
-  own-refusal.Post,
-  node-row-reads.Asked,
-  node-row-reads.Learnt,
-) (brand-refusal-at t) brand-refusal.Post brand-refusal-Inv-loop brand-refusal-μ-loop
+brand-refusal-own-refusal-requires : (t : ℕ) → brand-refusal-lts.Need-own-refusal-requires (brand-refusal-calls t) (brand-refusal-at t) brand-refusal.Post brand-refusal-Inv-loop brand-refusal-μ-loop
 brand-refusal-own-refusal-requires t c κs =
     (omega (arith, (c .before .before .before .before .before .before .before .before .before .before .pre .0)), tt)
 
-brand-refusal-returns-2 : (t : ℕ) → brand-refusal-lts.Need-returns-2 (
-  node-reads.Asked,
-  node-reads.Learnt,
-  own-refusal-below t,
-  own-refusal.Post,
-  node-row-reads.Asked,
-  node-row-reads.Learnt,
-) (brand-refusal-at t) brand-refusal.Post brand-refusal-Inv-loop brand-refusal-μ-loop
+brand-refusal-returns-2 : (t : ℕ) → brand-refusal-lts.Need-returns-2 (brand-refusal-calls t) (brand-refusal-at t) brand-refusal.Post brand-refusal-Inv-loop brand-refusal-μ-loop
 brand-refusal-returns-2 t c =
     λ root ns x. law.brand-own ((c .before .before .before .before .before .before .before .before .before .before .before .before .before .args .s) .now) ns ((c .before .before .before .before .before .before .before .before .before .before .before .before .before .args .ids) .now) ((c .before .before .before .before .before .before .before .before .before .before .before .before .before .args .ats) .now) root (times (read.scopeOf (typeOf (c .before .before .before .before .before .before .before .before .before .before .before .before .before .args .left))) end (c .before .before .before .before .before .before .before .before .before .before .before .before .before .args .n) (rows (drop (c .before .before .before .before .before .before .before .before .before .before .before .before .before .args .at) ((c .before .before .before .before .before .before .before .before .before .before .before .before .before .args .s) .now)))) (c .before .before .before .before .before .before .before .before .before .before .before .before .before .args .id) (c .before .before .before .before .before .before .before .before .before .loop .current) (c .before .before .before .before .before .before .before .before .before .loop .k) (c .before .before .before .before .before .before .before .before .before .loop .seen) (c .before .before .before .before .before .before .before .before .loop-test .taken) _ (c .before .before .before .before .before .before .before .node .ensures) x ((c .before .before .before .before .before .before .before .before .before .loop .inv .2) root ns x) (c .before .before .before .before .before .node2 .given .0 .0) (c .before .before .before .before .before .node2 .given .1) _ ((c .before .before .own-refusal .ensures) root ns x) _ (c .enum-told3 .given .1)
 
-brand-refusal-returns-3 : (t : ℕ) → brand-refusal-lts.Need-returns-3 (
-  node-reads.Asked,
-  node-reads.Learnt,
-  own-refusal-below t,
-  own-refusal.Post,
-  node-row-reads.Asked,
-  node-row-reads.Learnt,
-) (brand-refusal-at t) brand-refusal.Post brand-refusal-Inv-loop brand-refusal-μ-loop
+brand-refusal-returns-3 : (t : ℕ) → brand-refusal-lts.Need-returns-3 (brand-refusal-calls t) (brand-refusal-at t) brand-refusal.Post brand-refusal-Inv-loop brand-refusal-μ-loop
 brand-refusal-returns-3 t c =
     λ root ns x. law.brand-top ((c .before .before .before .before .before .before .before .before .before .before .before .before .before .before .before .before .args .s) .now) ns ((c .before .before .before .before .before .before .before .before .before .before .before .before .before .before .before .before .args .ids) .now) ((c .before .before .before .before .before .before .before .before .before .before .before .before .before .before .before .before .args .ats) .now) root (times (read.scopeOf (typeOf (c .before .before .before .before .before .before .before .before .before .before .before .before .before .before .before .before .args .left))) end (c .before .before .before .before .before .before .before .before .before .before .before .before .before .before .before .before .args .n) (rows (drop (c .before .before .before .before .before .before .before .before .before .before .before .before .before .before .before .before .args .at) ((c .before .before .before .before .before .before .before .before .before .before .before .before .before .before .before .before .args .s) .now)))) (c .before .before .before .before .before .before .before .before .before .before .before .before .before .before .before .before .args .id) (c .before .before .before .before .before .before .before .before .before .before .before .before .loop .current) (c .before .before .before .before .before .before .before .before .before .before .before .before .loop .k) (c .before .before .before .before .before .before .before .before .before .before .before .before .loop .seen) (c .before .before .before .before .before .before .before .before .before .before .before .loop-test .taken) _ (c .before .before .before .before .before .before .before .before .before .before .node .ensures) x ((c .before .before .before .before .before .before .before .before .before .before .before .before .loop .inv .2) root ns x) (c .before .before .before .before .before .before .before .before .node2 .given .0 .0) (c .before .before .before .before .before .before .before .before .node2 .given .1) _ ((c .before .before .before .before .before .own-refusal .ensures) root ns x) _ (c .before .before .node-row .ensures .0) (c .before .before .before .enum-told2 .given .1) (c .if1 .taken)
 
-brand-refusal-loop-again : (t : ℕ) → brand-refusal-lts.Need-loop-again (
-  node-reads.Asked,
-  node-reads.Learnt,
-  own-refusal-below t,
-  own-refusal.Post,
-  node-row-reads.Asked,
-  node-row-reads.Learnt,
-) (brand-refusal-at t) brand-refusal.Post brand-refusal-Inv-loop brand-refusal-μ-loop
+brand-refusal-loop-again : (t : ℕ) → brand-refusal-lts.Need-loop-again (brand-refusal-calls t) (brand-refusal-at t) brand-refusal.Post brand-refusal-Inv-loop brand-refusal-μ-loop
 brand-refusal-loop-again t c =
     (omega arith, length-set (c .before .before .before .before .before .before .before .before .before .before .before .before .loop .seen) (c .before .before .before .before .before .before .before .before .before .before .before .before .loop .k) (c .before .before .before .before .before .before .before .before .before .before .before .before .loop .current) ∙ (c .before .before .before .before .before .before .before .before .before .before .before .before .loop .inv .1), λ root ns x. law.brand-next ((c .before .before .before .before .before .before .before .before .before .before .before .before .before .before .before .before .args .s) .now) ns ((c .before .before .before .before .before .before .before .before .before .before .before .before .before .before .before .before .args .ids) .now) ((c .before .before .before .before .before .before .before .before .before .before .before .before .before .before .before .before .args .ats) .now) root (times (read.scopeOf (typeOf (c .before .before .before .before .before .before .before .before .before .before .before .before .before .before .before .before .args .left))) end (c .before .before .before .before .before .before .before .before .before .before .before .before .before .before .before .before .args .n) (rows (drop (c .before .before .before .before .before .before .before .before .before .before .before .before .before .before .before .before .args .at) ((c .before .before .before .before .before .before .before .before .before .before .before .before .before .before .before .before .args .s) .now)))) (c .before .before .before .before .before .before .before .before .before .before .before .before .before .before .before .before .args .id) (c .before .before .before .before .before .before .before .before .before .before .before .before .loop .current) (c .before .before .before .before .before .before .before .before .before .before .before .before .loop .k) (c .before .before .before .before .before .before .before .before .before .before .before .before .loop .seen) (c .before .before .before .before .before .before .before .before .before .before .before .loop-test .taken) _ (c .before .before .before .before .before .before .before .before .before .before .node .ensures) x ((c .before .before .before .before .before .before .before .before .before .before .before .before .loop .inv .2) root ns x) (c .before .before .before .before .before .before .before .before .node2 .given .0 .0) (c .before .before .before .before .before .before .before .before .node2 .given .1) _ ((c .before .before .before .before .before .own-refusal .ensures) root ns x) _ (c .before .before .node-row .ensures .0) (c .before .before .before .enum-told2 .given .1) (c .before .before .before .before .before .before .before .before .before .before .before .before .loop .inv .1) (c .if1 .left))
 
-brand-refusal-returns-4 : (t : ℕ) → brand-refusal-lts.Need-returns-4 (
-  node-reads.Asked,
-  node-reads.Learnt,
-  own-refusal-below t,
-  own-refusal.Post,
-  node-row-reads.Asked,
-  node-row-reads.Learnt,
-) (brand-refusal-at t) brand-refusal.Post brand-refusal-Inv-loop brand-refusal-μ-loop
+brand-refusal-returns-4 : (t : ℕ) → brand-refusal-lts.Need-returns-4 (brand-refusal-calls t) (brand-refusal-at t) brand-refusal.Post brand-refusal-Inv-loop brand-refusal-μ-loop
 brand-refusal-returns-4 t c =
     λ root ns x. law.brand-4 (sheetOf root ns) (times (read.scopeOf (typeOf (c .before .before .before .before .before .args .left))) end (c .before .before .before .before .before .args .n) (rows (drop (c .before .before .before .before .before .args .at) ((c .before .before .before .before .before .args .s) .now)))) (c .before .before .before .before .before .args .id) (c .before .loop .current) (c .before .loop .k) (c .before .loop .seen) (c .loop-test .left) ((c .before .loop .inv .2) root ns x)
 
-list-refusal-returns : (t : ℕ) → list-refusal-lts.Need-returns (
-  kind-reads.Asked,
-  kind-reads.Learnt,
-  element-leaf-reads.Asked,
-  element-leaf-reads.Learnt,
-  refusal-below t,
-  refusal.Post,
-) (list-refusal-at t) list-refusal.Post
+list-refusal-returns : (t : ℕ) → list-refusal-lts.Need-returns (list-refusal-calls t) (list-refusal-at t) list-refusal.Post
 list-refusal-returns t c =
     λ root ns x. law.list-text (sheetOf root ns) (c .before .before .before .before .before .args .leaf) _ _ _ (c .before .kind .ensures) (c .if1 .taken)
 
-list-refusal-returns-2 : (t : ℕ) → list-refusal-lts.Need-returns-2 (
-  kind-reads.Asked,
-  kind-reads.Learnt,
-  element-leaf-reads.Asked,
-  element-leaf-reads.Learnt,
-  refusal-below t,
-  refusal.Post,
-) (list-refusal-at t) list-refusal.Post
+list-refusal-returns-2 : (t : ℕ) → list-refusal-lts.Need-returns-2 (list-refusal-calls t) (list-refusal-at t) list-refusal.Post
 list-refusal-returns-2 t c =
     λ root ns x. law.list-data (sheetOf root ns) (c .before .before .before .before .before .before .args .leaf) _ _ _ (c .before .before .kind .ensures) (c .before .if1 .left) (c .if2 .taken)
 
-list-refusal-returns-3 : (t : ℕ) → list-refusal-lts.Need-returns-3 (
-  kind-reads.Asked,
-  kind-reads.Learnt,
-  element-leaf-reads.Asked,
-  element-leaf-reads.Learnt,
-  refusal-below t,
-  refusal.Post,
-) (list-refusal-at t) list-refusal.Post
+list-refusal-returns-3 : (t : ℕ) → list-refusal-lts.Need-returns-3 (list-refusal-calls t) (list-refusal-at t) list-refusal.Post
 list-refusal-returns-3 t c =
     λ root ns x. law.list-any (sheetOf root ns) (c .before .before .before .before .before .before .before .args .leaf) _ _ _ (c .before .before .before .kind .ensures) (c .before .before .if1 .left) (c .before .if2 .left) (c .if3 .taken)
 
-list-refusal-refusal-requires : (t : ℕ) → list-refusal-lts.Need-refusal-requires (
-  kind-reads.Asked,
-  kind-reads.Learnt,
-  element-leaf-reads.Asked,
-  element-leaf-reads.Learnt,
-  refusal-below t,
-  refusal.Post,
-) (list-refusal-at t) list-refusal.Post
+list-refusal-refusal-requires : (t : ℕ) → list-refusal-lts.Need-refusal-requires (list-refusal-calls t) (list-refusal-at t) list-refusal.Post
 list-refusal-refusal-requires t c κs =
     (omega (arith, (c .before .before .before .before .before .before .before .before .pre .0)), tt)
 
-list-refusal-returns-4 : (t : ℕ) → list-refusal-lts.Need-returns-4 (
-  kind-reads.Asked,
-  kind-reads.Learnt,
-  element-leaf-reads.Asked,
-  element-leaf-reads.Learnt,
-  refusal-below t,
-  refusal.Post,
-) (list-refusal-at t) list-refusal.Post
+list-refusal-returns-4 : (t : ℕ) → list-refusal-lts.Need-returns-4 (list-refusal-calls t) (list-refusal-at t) list-refusal.Post
 list-refusal-returns-4 t c =
     λ root ns x. law.list-inner (sheetOf root ns) (c .before .before .before .before .before .before .before .before .before .args .leaf) _ _ _ (c .before .before .before .before .before .kind .ensures) _ _ (c .before .before .before .before .if1 .left) (c .before .before .before .if2 .left) (c .before .before .if3 .left) (c .before .element-leaf .ensures) ((c .refusal .ensures) root ns x)
 
-own-refusal-returns : (t : ℕ) → own-refusal-lts.Need-returns (
-  among-reads.Asked,
-  among-reads.Learnt,
-  scope-reads.Asked,
-  scope-reads.Learnt,
-  next-reads.Asked,
-  next-reads.Learnt,
-  node-row-reads.Asked,
-  node-row-reads.Learnt,
-  count-is-reads.Asked,
-  count-is-reads.Learnt,
-  binds-refusal-below t,
-  binds-refusal.Post,
-) (own-refusal-at t) own-refusal.Post
+own-refusal-returns : (t : ℕ) → own-refusal-lts.Need-returns (own-refusal-calls t) (own-refusal-at t) own-refusal.Post
 own-refusal-returns t c =
     λ root ns x y e w. law.own-seen (sheetOf root ns) (times (read.scopeOf (typeOf (c .before .before .before .before .before .before .args .left))) end (c .before .before .before .before .before .before .args .n) (rows (drop (c .before .before .before .before .before .before .args .at) (c .before .before .before .before .before .before .args .s .now)))) _ _ _ (c .before .among .ensures) (c .if1 .taken)
 
-own-refusal-returns-2 : (t : ℕ) → own-refusal-lts.Need-returns-2 (
-  among-reads.Asked,
-  among-reads.Learnt,
-  scope-reads.Asked,
-  scope-reads.Learnt,
-  next-reads.Asked,
-  next-reads.Learnt,
-  node-row-reads.Asked,
-  node-row-reads.Learnt,
-  count-is-reads.Asked,
-  count-is-reads.Learnt,
-  binds-refusal-below t,
-  binds-refusal.Post,
-) (own-refusal-at t) own-refusal.Post
+own-refusal-returns-2 : (t : ℕ) → own-refusal-lts.Need-returns-2 (own-refusal-calls t) (own-refusal-at t) own-refusal.Post
 own-refusal-returns-2 t c =
     λ root ns x y e w. law.own-none _ (sheetOf root ns) _ _ _ _ y e _ (c .before .before .scope .ensures) (rw (c .enum-told .given .1) refl)
 
-own-refusal-returns-3 : (t : ℕ) → own-refusal-lts.Need-returns-3 (
-  among-reads.Asked,
-  among-reads.Learnt,
-  scope-reads.Asked,
-  scope-reads.Learnt,
-  next-reads.Asked,
-  next-reads.Learnt,
-  node-row-reads.Asked,
-  node-row-reads.Learnt,
-  count-is-reads.Asked,
-  count-is-reads.Learnt,
-  binds-refusal-below t,
-  binds-refusal.Post,
-) (own-refusal-at t) own-refusal.Post
+own-refusal-returns-3 : (t : ℕ) → own-refusal-lts.Need-returns-3 (own-refusal-calls t) (own-refusal-at t) own-refusal.Post
 own-refusal-returns-3 t c =
     λ root ns x y e w. law.own-other _ (sheetOf root ns) _ _ _ _ y e _ (c .before .before .before .before .before .scope .ensures) _ (rw (c .before .before .before .scope2 .given .1) refl) _ (c .before .next .ensures .0) _ (c .match2 .keys2)
 
-own-refusal-returns-4 : (t : ℕ) → own-refusal-lts.Need-returns-4 (
-  among-reads.Asked,
-  among-reads.Learnt,
-  scope-reads.Asked,
-  scope-reads.Learnt,
-  next-reads.Asked,
-  next-reads.Learnt,
-  node-row-reads.Asked,
-  node-row-reads.Learnt,
-  count-is-reads.Asked,
-  count-is-reads.Learnt,
-  binds-refusal-below t,
-  binds-refusal.Post,
-) (own-refusal-at t) own-refusal.Post
+own-refusal-returns-4 : (t : ℕ) → own-refusal-lts.Need-returns-4 (own-refusal-calls t) (own-refusal-at t) own-refusal.Post
 own-refusal-returns-4 t c =
     λ root ns x y e w. law.own-inherit _ (sheetOf root ns) _ _ _ _ y e _ (c .before .before .before .before .before .before .before .before .scope .ensures) _ (rw (c .before .before .before .before .before .before .scope2 .given .1) refl) _ (c .before .before .before .before .next .ensures .0) _ _ _ (c .before .before .line .given .1) (c .if2 .taken)
 
-own-refusal-binds-refusal-requires : (t : ℕ) → own-refusal-lts.Need-binds-refusal-requires (
-  among-reads.Asked,
-  among-reads.Learnt,
-  scope-reads.Asked,
-  scope-reads.Learnt,
-  next-reads.Asked,
-  next-reads.Learnt,
-  node-row-reads.Asked,
-  node-row-reads.Learnt,
-  count-is-reads.Asked,
-  count-is-reads.Learnt,
-  binds-refusal-below t,
-  binds-refusal.Post,
-) (own-refusal-at t) own-refusal.Post
+own-refusal-binds-refusal-requires : (t : ℕ) → own-refusal-lts.Need-binds-refusal-requires (own-refusal-calls t) (own-refusal-at t) own-refusal.Post
 own-refusal-binds-refusal-requires t c κs =
     (omega (arith, (c .before .before .before .before .before .before .before .before .before .before .before .before .before .before .before .before .before .before .pre .0)), tt)
 
-own-refusal-returns-5 : (t : ℕ) → own-refusal-lts.Need-returns-5 (
-  among-reads.Asked,
-  among-reads.Learnt,
-  scope-reads.Asked,
-  scope-reads.Learnt,
-  next-reads.Asked,
-  next-reads.Learnt,
-  node-row-reads.Asked,
-  node-row-reads.Learnt,
-  count-is-reads.Asked,
-  count-is-reads.Learnt,
-  binds-refusal-below t,
-  binds-refusal.Post,
-) (own-refusal-at t) own-refusal.Post
+own-refusal-returns-5 : (t : ℕ) → own-refusal-lts.Need-returns-5 (own-refusal-calls t) (own-refusal-at t) own-refusal.Post
 own-refusal-returns-5 t c =
     λ root ns x y e w. law.own-binds _ (sheetOf root ns) _ _ _ _ y e _ (c .before .before .before .before .before .before .before .before .before .before .before .before .scope .ensures) _ (rw (c .before .before .before .before .before .before .before .before .before .before .scope2 .given .1) refl) _ (c .before .before .before .before .before .before .before .before .next .ensures .0) _ _ _ (c .before .before .before .before .before .before .line .given .1) (c .before .before .before .before .if2 .left) _ (c .before .before .before .before .before .before .before .before .next .ensures .1) _ (rw (c .before .before .before .node-row .ensures .1) (w .params)) _ (c .before .before .count-is .ensures) _ (c .before .if3 .taken) ((c .binds-refusal .ensures) root ns x)
 
-own-refusal-returns-6 : (t : ℕ) → own-refusal-lts.Need-returns-6 (
-  among-reads.Asked,
-  among-reads.Learnt,
-  scope-reads.Asked,
-  scope-reads.Learnt,
-  next-reads.Asked,
-  next-reads.Learnt,
-  node-row-reads.Asked,
-  node-row-reads.Learnt,
-  count-is-reads.Asked,
-  count-is-reads.Learnt,
-  binds-refusal-below t,
-  binds-refusal.Post,
-) (own-refusal-at t) own-refusal.Post
+own-refusal-returns-6 : (t : ℕ) → own-refusal-lts.Need-returns-6 (own-refusal-calls t) (own-refusal-at t) own-refusal.Post
 own-refusal-returns-6 t c =
     λ root ns x y e w. law.own-8 _ (sheetOf root ns) _ _ _ _ y e _ (c .before .before .before .before .before .before .before .before .before .before .before .scope .ensures) _ (rw (c .before .before .before .before .before .before .before .before .before .scope2 .given .1) refl) _ (c .before .before .before .before .before .before .before .next .ensures .0) _ _ _ (c .before .before .before .before .before .line .given .1) (c .before .before .before .if2 .left) _ (c .before .before .before .before .before .before .before .next .ensures .1) _ (rw (c .before .before .node-row .ensures .1) (w .params)) _ (c .before .count-is .ensures) (c .if3 .left)
 
-refusal-returns : (t : ℕ) → refusal-lts.Need-returns (
-  next-reads.Asked,
-  next-reads.Learnt,
-  list-refusal-below t,
-  list-refusal.Post,
-  module-refusal-reads.Asked,
-  module-refusal-reads.Learnt,
-  brand-refusal-below t,
-  brand-refusal.Post,
-  pointer-refusal-reads.Asked,
-  pointer-refusal-reads.Learnt,
-) (refusal-at t) refusal.Post
+refusal-returns : (t : ℕ) → refusal-lts.Need-returns (refusal-calls t) (refusal-at t) refusal.Post
 refusal-returns t c =
     λ root ns x. read-law.type-zero _ _ _ (c .if1 .taken)
 
-refusal-returns-2 : (t : ℕ) → refusal-lts.Need-returns-2 (
-  next-reads.Asked,
-  next-reads.Learnt,
-  list-refusal-below t,
-  list-refusal.Post,
-  module-refusal-reads.Asked,
-  module-refusal-reads.Learnt,
-  brand-refusal-below t,
-  brand-refusal.Post,
-  pointer-refusal-reads.Asked,
-  pointer-refusal-reads.Learnt,
-) (refusal-at t) refusal.Post
+refusal-returns-2 : (t : ℕ) → refusal-lts.Need-returns-2 (refusal-calls t) (refusal-at t) refusal.Post
 refusal-returns-2 t c =
     λ root ns x. read-law.type-other _ _ _ _ (c .before .next .ensures .0) (c .match .keys2)
 
-refusal-returns-3 : (t : ℕ) → refusal-lts.Need-returns-3 (
-  next-reads.Asked,
-  next-reads.Learnt,
-  list-refusal-below t,
-  list-refusal.Post,
-  module-refusal-reads.Asked,
-  module-refusal-reads.Learnt,
-  brand-refusal-below t,
-  brand-refusal.Post,
-  pointer-refusal-reads.Asked,
-  pointer-refusal-reads.Learnt,
-) (refusal-at t) refusal.Post
+refusal-returns-3 : (t : ℕ) → refusal-lts.Need-returns-3 (refusal-calls t) (refusal-at t) refusal.Post
 unfolding typeString
 refusal-returns-3 t c =
     λ root ns x. read-law.type-plain _ _ _ _ _ _ _ _ (c .before .before .before .before .before .if1 .left) (c .before .before .before .before .next .ensures .0) (c .before .before .line .given .1) (c .before .before .before .before .next .ensures .1) (λ ty. None ≡ refusalOf (typeString ty (sheetOf root ns) (c .before .before .before .before .before .before .before .before .before .args .leaf))) (c .if2 .taken) refl
 
-refusal-list-refusal-requires : (t : ℕ) → refusal-lts.Need-list-refusal-requires (
-  next-reads.Asked,
-  next-reads.Learnt,
-  list-refusal-below t,
-  list-refusal.Post,
-  module-refusal-reads.Asked,
-  module-refusal-reads.Learnt,
-  brand-refusal-below t,
-  brand-refusal.Post,
-  pointer-refusal-reads.Asked,
-  pointer-refusal-reads.Learnt,
-) (refusal-at t) refusal.Post
+refusal-list-refusal-requires : (t : ℕ) → refusal-lts.Need-list-refusal-requires (refusal-calls t) (refusal-at t) refusal.Post
 refusal-list-refusal-requires t c κs =
     (omega (arith, (c .before .before .before .before .before .before .before .before .before .before .pre .0)), tt)
 
-refusal-returns-4 : (t : ℕ) → refusal-lts.Need-returns-4 (
-  next-reads.Asked,
-  next-reads.Learnt,
-  list-refusal-below t,
-  list-refusal.Post,
-  module-refusal-reads.Asked,
-  module-refusal-reads.Learnt,
-  brand-refusal-below t,
-  brand-refusal.Post,
-  pointer-refusal-reads.Asked,
-  pointer-refusal-reads.Learnt,
-) (refusal-at t) refusal.Post
+refusal-returns-4 : (t : ℕ) → refusal-lts.Need-returns-4 (refusal-calls t) (refusal-at t) refusal.Post
 refusal-returns-4 t c =
     λ root ns x. read-law.type-list _ _ _ _ _ _ _ _ (c .before .before .before .before .before .before .before .if1 .left) (c .before .before .before .before .before .before .next .ensures .0) (c .before .before .before .before .line .given .1) (c .before .before .before .before .before .before .next .ensures .1) (λ ty. (c .list-refusal .result) ≡ refusalOf (typeString ty (sheetOf root ns) (c .before .before .before .before .before .before .before .before .before .before .before .args .leaf))) (c .before .if3 .taken) ((c .list-refusal .ensures) root ns x)
 
-refusal-returns-5 : (t : ℕ) → refusal-lts.Need-returns-5 (
-  next-reads.Asked,
-  next-reads.Learnt,
-  list-refusal-below t,
-  list-refusal.Post,
-  module-refusal-reads.Asked,
-  module-refusal-reads.Learnt,
-  brand-refusal-below t,
-  brand-refusal.Post,
-  pointer-refusal-reads.Asked,
-  pointer-refusal-reads.Learnt,
-) (refusal-at t) refusal.Post
+refusal-returns-5 : (t : ℕ) → refusal-lts.Need-returns-5 (refusal-calls t) (refusal-at t) refusal.Post
 refusal-returns-5 t c =
-    λ root ns x. law.type-enum (sheetOf root ns) (c .before .before .before .before .before .before .before .before .before .before .before .before .args .leaf) _ _ _ _ _ _ _ _ (c .before .before .before .before .before .before .before .before .if1 .left) (c .before .before .before .before .before .before .before .next .ensures .0) (c .before .before .before .before .before .line .given .1) (c .before .before .before .before .before .before .before .next .ensures .1) _ (c .before .if4 .taken) ((c .module-refusal .ensures) root ns x)
+    λ root ns x. read-law.type-enum (sheetOf root ns) (c .before .before .before .before .before .before .before .before .before .before .before .before .args .leaf) _ _ _ _ _ _ _ _ (c .before .before .before .before .before .before .before .before .if1 .left) (c .before .before .before .before .before .before .before .next .ensures .0) (c .before .before .before .before .before .line .given .1) (c .before .before .before .before .before .before .before .next .ensures .1) (λ (o : Out Str). (c .module-refusal .result) ≡ refusalOf o) (c .before .if4 .taken) ((c .module-refusal .ensures) root ns x)
 
-refusal-brand-refusal-requires : (t : ℕ) → refusal-lts.Need-brand-refusal-requires (
-  next-reads.Asked,
-  next-reads.Learnt,
-  list-refusal-below t,
-  list-refusal.Post,
-  module-refusal-reads.Asked,
-  module-refusal-reads.Learnt,
-  brand-refusal-below t,
-  brand-refusal.Post,
-  pointer-refusal-reads.Asked,
-  pointer-refusal-reads.Learnt,
-) (refusal-at t) refusal.Post
+refusal-brand-refusal-requires : (t : ℕ) → refusal-lts.Need-brand-refusal-requires (refusal-calls t) (refusal-at t) refusal.Post
 refusal-brand-refusal-requires t c κs =
     (omega (arith, (c .before .before .before .before .before .before .before .before .before .before .before .before .pre .0)), tt)
 
-refusal-returns-6 : (t : ℕ) → refusal-lts.Need-returns-6 (
-  next-reads.Asked,
-  next-reads.Learnt,
-  list-refusal-below t,
-  list-refusal.Post,
-  module-refusal-reads.Asked,
-  module-refusal-reads.Learnt,
-  brand-refusal-below t,
-  brand-refusal.Post,
-  pointer-refusal-reads.Asked,
-  pointer-refusal-reads.Learnt,
-) (refusal-at t) refusal.Post
+refusal-returns-6 : (t : ℕ) → refusal-lts.Need-returns-6 (refusal-calls t) (refusal-at t) refusal.Post
 refusal-returns-6 t c =
-    λ root ns x. law.type-brand (sheetOf root ns) (c .before .before .before .before .before .before .before .before .before .before .before .before .before .args .leaf) _ _ _ _ _ _ _ _ (c .before .before .before .before .before .before .before .before .before .if1 .left) (c .before .before .before .before .before .before .before .before .next .ensures .0) (c .before .before .before .before .before .before .line .given .1) (c .before .before .before .before .before .before .before .before .next .ensures .1) _ (c .before .before .before .before .if2 .left) (c .before .before .before .if3 .left) (c .before .before .if4 .left) (c .before .if5 .taken) ((c .brand-refusal .ensures) root ns x)
+    λ root ns x. read-law.type-branded (sheetOf root ns) (c .before .before .before .before .before .before .before .before .before .before .before .before .before .args .leaf) _ _ _ _ _ _ _ _ (c .before .before .before .before .before .before .before .before .before .if1 .left) (c .before .before .before .before .before .before .before .before .next .ensures .0) (c .before .before .before .before .before .before .line .given .1) (c .before .before .before .before .before .before .before .before .next .ensures .1) (λ (o : Out Str). (c .brand-refusal .result) ≡ refusalOf o) (c .before .before .before .before .if2 .left) (c .before .before .before .if3 .left) (c .before .before .if4 .left) (c .before .if5 .taken) (law.brand-told (sheetOf root ns) (c .before .before .before .before .before .before .before .before .before .before .before .before .before .args .leaf) (times (read.scopeOf (typeOf (c .before .before .before .before .before .before .before .before .before .before .before .before .before .args .left - 1))) end (c .before .before .before .before .before .before .line .given .0 .1 .1 .0) (rows (drop (c .before .before .before .before .before .before .before .before .next .result .next) (c .before .before .before .before .before .before .before .before .before .before .before .before .before .args .s .now)))) _ _ ((c .brand-refusal .ensures) root ns x))
 
-refusal-returns-7 : (t : ℕ) → refusal-lts.Need-returns-7 (
-  next-reads.Asked,
-  next-reads.Learnt,
-  list-refusal-below t,
-  list-refusal.Post,
-  module-refusal-reads.Asked,
-  module-refusal-reads.Learnt,
-  brand-refusal-below t,
-  brand-refusal.Post,
-  pointer-refusal-reads.Asked,
-  pointer-refusal-reads.Learnt,
-) (refusal-at t) refusal.Post
+refusal-returns-7 : (t : ℕ) → refusal-lts.Need-returns-7 (refusal-calls t) (refusal-at t) refusal.Post
 refusal-returns-7 t c =
     λ root ns x. read-law.type-pointer _ _ _ _ _ _ _ _ (c .before .before .before .before .before .before .before .before .before .if1 .left) (c .before .before .before .before .before .before .before .before .next .ensures .0) (c .before .before .before .before .before .before .line .given .1) (c .before .before .before .before .before .before .before .before .next .ensures .1) (λ ty. (c .pointer-refusal .result) ≡ refusalOf (typeString ty (sheetOf root ns) (c .before .before .before .before .before .before .before .before .before .before .before .before .before .args .leaf))) (c .before .if5 .left) ((c .pointer-refusal .ensures) root ns x)
 
@@ -645,12 +342,7 @@ pub +binding-refusal+binds-refusal+brand-refusal+list-refusal+own-refusal+refusa
     μ-list-refusal
     μ-own-refusal
     μ-refusal
-    (λ t. binding-refusal-lts.spec (
-      next-reads.Asked,
-      next-reads.Learnt,
-      refusal-below t,
-      refusal.Post,
-    )
+    (λ t. binding-refusal-lts.spec (binding-refusal-calls t)
     (binding-refusal-at t)
     binding-refusal.Post
     (λ c κs. search needs)
@@ -658,12 +350,7 @@ pub +binding-refusal+binds-refusal+brand-refusal+list-refusal+own-refusal+refusa
     (binding-refusal-refusal-requires t)
     (binding-refusal-returns t)
     (binding-refusal-returns-2 t))
-    (λ t. binds-refusal-lts.spec (
-      binding-refusal-below t,
-      binding-refusal.Post,
-      past-reads.Asked,
-      past-reads.Learnt,
-    )
+    (λ t. binds-refusal-lts.spec (binds-refusal-calls t)
     (binds-refusal-at t)
     binds-refusal.Post
     binds-refusal-Inv-loop
@@ -678,14 +365,7 @@ pub +binding-refusal+binds-refusal+brand-refusal+list-refusal+own-refusal+refusa
     (λ c. search needs)
     (binds-refusal-loop-again t)
     (binds-refusal-returns-2 t))
-    (λ t. brand-refusal-lts.spec (
-      node-reads.Asked,
-      node-reads.Learnt,
-      own-refusal-below t,
-      own-refusal.Post,
-      node-row-reads.Asked,
-      node-row-reads.Learnt,
-    )
+    (λ t. brand-refusal-lts.spec (brand-refusal-calls t)
     (brand-refusal-at t)
     brand-refusal.Post
     brand-refusal-Inv-loop
@@ -709,14 +389,7 @@ pub +binding-refusal+binds-refusal+brand-refusal+list-refusal+own-refusal+refusa
     (λ c. search needs)
     (brand-refusal-loop-again t)
     (brand-refusal-returns-4 t))
-    (λ t. list-refusal-lts.spec (
-      kind-reads.Asked,
-      kind-reads.Learnt,
-      element-leaf-reads.Asked,
-      element-leaf-reads.Learnt,
-      refusal-below t,
-      refusal.Post,
-    )
+    (λ t. list-refusal-lts.spec (list-refusal-calls t)
     (list-refusal-at t)
     list-refusal.Post
     (λ c κs. search needs)
@@ -726,20 +399,7 @@ pub +binding-refusal+binds-refusal+brand-refusal+list-refusal+own-refusal+refusa
     (λ c κs. search needs)
     (list-refusal-refusal-requires t)
     (list-refusal-returns-4 t))
-    (λ t. own-refusal-lts.spec (
-      among-reads.Asked,
-      among-reads.Learnt,
-      scope-reads.Asked,
-      scope-reads.Learnt,
-      next-reads.Asked,
-      next-reads.Learnt,
-      node-row-reads.Asked,
-      node-row-reads.Learnt,
-      count-is-reads.Asked,
-      count-is-reads.Learnt,
-      binds-refusal-below t,
-      binds-refusal.Post,
-    )
+    (λ t. own-refusal-lts.spec (own-refusal-calls t)
     (own-refusal-at t)
     own-refusal.Post
     (λ c κs. search needs)
@@ -757,18 +417,7 @@ pub +binding-refusal+binds-refusal+brand-refusal+list-refusal+own-refusal+refusa
     (own-refusal-binds-refusal-requires t)
     (own-refusal-returns-5 t)
     (own-refusal-returns-6 t))
-    λ t. refusal-lts.spec (
-      next-reads.Asked,
-      next-reads.Learnt,
-      list-refusal-below t,
-      list-refusal.Post,
-      module-refusal-reads.Asked,
-      module-refusal-reads.Learnt,
-      brand-refusal-below t,
-      brand-refusal.Post,
-      pointer-refusal-reads.Asked,
-      pointer-refusal-reads.Learnt,
-    )
+    λ t. refusal-lts.spec (refusal-calls t)
     (refusal-at t)
     refusal.Post
     (refusal-returns t)

@@ -1,6 +1,6 @@
 -- `type_refusal::leaf_refusal` meets its contract. Assumes nothing.
 use Rattle.codegen_types.specs.TypeString.{parameterString}
-use mathlib.Core.Path.{_≡_, refl}
+use mathlib.Core.Path.{refl}
 use borrow.Author.Needs.{needs}
 use Rattle.type_refusal.proofs.leaf_refusal.Statement.{statement}
 use Rattle.type_refusal.proofs.leaf_refusal.Tie as tie

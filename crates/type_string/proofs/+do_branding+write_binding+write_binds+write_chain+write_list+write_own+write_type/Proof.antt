@@ -4,21 +4,19 @@
 use Rattle.type_string.proofs.Laws as law
 use Rattle.type_string.specs.Told.{onlyOf}
 use Rattle.type_parts.specs.declared.Arguments.{Arguments}
-use Rattle.type_parts.specs.Parts.{sheetOf, Writes, Lists}
+use Rattle.type_parts.specs.Parts.{Writes, Lists}
 use Rattle.find.proofs.TypeLaws as read-law
-use Rattle.find.proofs.Laws.{on-one, on-all}
-use Rattle.find.specs.Find.{On, Indexed}
-use Rattle.codegen_types.specs.declared.Leaf.the-variants.{Owned}
-use Rattle.codegen_types.specs.TypeString.{typeString, scopesOf, bindingsOf, allOf, getQualifiedModule}
+use Rattle.find.specs.Find.{On, Indexed, sheetOf}
+use Rattle.codegen_types.specs.TypeString.{typeString, bindingsOf, allOf}
 use Rattle.codegen_types.specs.Out.{Out}
-use Rattle.tree.specs.Read.{typeOf, bindingOf, branded, pointer}
+use Rattle.tree.specs.Read.{typeOf, bindingOf, pointer}
 use Rattle.tree.specs.Read as read
 use Rattle.tree.specs.Reader.{times}
-use Rattle.tree.specs.Tree.{Ty, Binds, Scopes, Node, end, stop, unbound, bound, list, struct}
+use Rattle.tree.specs.Tree.{Node, end, stop, unbound}
 use Rattle.row.specs.Rows.{rows}
 use Rattle.text.specs.Bytes.{Str}
-use Prim.Native.Nat.{_+_, _-_, _*_, _≤_}
-use mathlib.Core.Path.{_≡_, refl, sym, ap, _∙_}
+use Prim.Native.Nat.{_+_, _-_, _*_}
+use mathlib.Core.Path.{_≡_, refl}
 use mathlib.Core.List.{List}
 use native.Mathlib.Omega.{arith}
 use lib.ListN.{length, drop}
@@ -154,88 +152,49 @@ abbrev write-type-below : ℕ → In 5 write-type-kinds.ps
 write-type-below t =
     and 5 write-type-kinds.ps (falls 5 write-type-kinds.ps _<_ μ-write-type t) write-type.Pre
 
-do-branding-returns : (t : ℕ) → do-branding-lts.Need-returns (
-  node-reads.Asked,
-  node-reads.Learnt,
-  text-reads.Asked,
-  text-reads.Learnt,
-  bytes-reads.Asked,
-  bytes-reads.Learnt,
-  opening-reads.Asked,
-  opening-reads.Learnt,
-  write-chain-below t,
-  write-chain.Post,
-  close-reads.Asked,
-  close-reads.Learnt,
-) (do-branding-at t) do-branding.Post
+abbrev do-branding-calls : ℕ → do-branding-lts.Claims
+do-branding-calls t = (node-reads.Asked, node-reads.Learnt, text-reads.Asked, text-reads.Learnt, bytes-reads.Asked, bytes-reads.Learnt, opening-reads.Asked, opening-reads.Learnt, write-chain-below t, write-chain.Post, close-reads.Asked, close-reads.Learnt)
+
+abbrev write-binding-calls : ℕ → write-binding-lts.Claims
+write-binding-calls t = (next-reads.Asked, next-reads.Learnt, any-owned-reads.Asked, any-owned-reads.Learnt, write-type-below t, write-type.Post)
+
+abbrev write-binds-calls : ℕ → write-binds-lts.Claims
+write-binds-calls t = (byte-reads.Asked, byte-reads.Learnt, write-binding-below t, write-binding.Post, past-reads.Asked, past-reads.Learnt)
+
+abbrev write-chain-calls : ℕ → write-chain-lts.Claims
+write-chain-calls t = (node-reads.Asked, node-reads.Learnt, node-row-reads.Asked, node-row-reads.Learnt, write-own-below t, write-own.Post, write-chain-below t, write-chain.Post)
+
+abbrev write-list-calls : ℕ → write-list-lts.Claims
+write-list-calls t = (kind-reads.Asked, kind-reads.Learnt, displayed-reads.Asked, displayed-reads.Learnt, list-head-reads.Asked, list-head-reads.Learnt, element-leaf-reads.Asked, element-leaf-reads.Learnt, write-type-below t, write-type.Post, byte-reads.Asked, byte-reads.Learnt)
+
+abbrev write-own-calls : ℕ → write-own-lts.Claims
+write-own-calls t = (node-row-reads.Asked, node-row-reads.Learnt, scope-reads.Asked, scope-reads.Learnt, unbound-reads.Asked, unbound-reads.Learnt, next-reads.Asked, next-reads.Learnt, inherited-reads.Asked, inherited-reads.Learnt, write-binds-below t, write-binds.Post)
+
+abbrev write-type-calls : ℕ → write-type-lts.Claims
+write-type-calls t = (next-reads.Asked, next-reads.Learnt, plain-reads.Asked, plain-reads.Learnt, write-list-below t, write-list.Post, qualified-module-reads.Asked, qualified-module-reads.Learnt, do-branding-below t, do-branding.Post, pointer-reads.Asked, pointer-reads.Learnt)
+
+do-branding-returns : (t : ℕ) → do-branding-lts.Need-returns (do-branding-calls t) (do-branding-at t) do-branding.Post
 do-branding-returns t c =
     λ ns x. law.brand-none ((c .before .before .before .before .before .before .before .before .args .s) .now) (sheetOf ((c .before .before .before .before .before .before .before .before .args .root) .now) ns) (c .before .before .before .before .before .before .before .before .args .leaf) ((c .before .before .before .before .before .before .before .before .args .ids) .now) ((c .before .before .before .before .before .before .before .before .args .ats) .now) (times (read.scopeOf (typeOf (c .before .before .before .before .before .before .before .before .args .left))) end (c .before .before .before .before .before .before .before .before .args .n) (rows (drop (c .before .before .before .before .before .before .before .before .args .at) ((c .before .before .before .before .before .before .before .before .args .s) .now)))) _ _ (c .before .before .node .ensures) x _ _ _ _ (c .enum-told .given .1)
 
-do-branding-write-chain-requires : (t : ℕ) → do-branding-lts.Need-write-chain-requires (
-  node-reads.Asked,
-  node-reads.Learnt,
-  text-reads.Asked,
-  text-reads.Learnt,
-  bytes-reads.Asked,
-  bytes-reads.Learnt,
-  opening-reads.Asked,
-  opening-reads.Learnt,
-  write-chain-below t,
-  write-chain.Post,
-  close-reads.Asked,
-  close-reads.Learnt,
-) (do-branding-at t) do-branding.Post
+do-branding-write-chain-requires : (t : ℕ) → do-branding-lts.Need-write-chain-requires (do-branding-calls t) (do-branding-at t) do-branding.Post
 do-branding-write-chain-requires t c κs =
     (omega (arith, (c .before .before .before .before .before .before .before .before .before .before .before .before .before .before .before .before .before .before .before .pre .0)), tt)
 
-do-branding-returns-2 : (t : ℕ) → do-branding-lts.Need-returns-2 (
-  node-reads.Asked,
-  node-reads.Learnt,
-  text-reads.Asked,
-  text-reads.Learnt,
-  bytes-reads.Asked,
-  bytes-reads.Learnt,
-  opening-reads.Asked,
-  opening-reads.Learnt,
-  write-chain-below t,
-  write-chain.Post,
-  close-reads.Asked,
-  close-reads.Learnt,
-) (do-branding-at t) do-branding.Post
+do-branding-returns-2 : (t : ℕ) → do-branding-lts.Need-returns-2 (do-branding-calls t) (do-branding-at t) do-branding.Post
 do-branding-returns-2 t c =
     λ ns x. law.brand-on ((c .before .before .before .before .before .before .before .before .before .before .before .before .before .before .before .before .before .before .before .before .before .before .before .before .before .before .args .s) .now) (sheetOf ((c .before .before .before .before .before .before .before .before .before .before .before .before .before .before .before .before .before .before .before .before .before .before .before .before .before .before .args .root) .now) ns) (c .before .before .before .before .before .before .before .before .before .before .before .before .before .before .before .before .before .before .before .before .before .before .before .before .before .before .args .leaf) ((c .before .before .before .before .before .before .before .before .before .before .before .before .before .before .before .before .before .before .before .before .before .before .before .before .before .before .args .ids) .now) ((c .before .before .before .before .before .before .before .before .before .before .before .before .before .before .before .before .before .before .before .before .before .before .before .before .before .before .args .ats) .now) (times (read.scopeOf (typeOf (c .before .before .before .before .before .before .before .before .before .before .before .before .before .before .before .before .before .before .before .before .before .before .before .before .before .before .args .left))) end (c .before .before .before .before .before .before .before .before .before .before .before .before .before .before .before .before .before .before .before .before .before .before .before .before .before .before .args .n) (rows (drop (c .before .before .before .before .before .before .before .before .before .before .before .before .before .before .before .before .before .before .before .before .before .before .before .before .before .before .args .at) ((c .before .before .before .before .before .before .before .before .before .before .before .before .before .before .before .before .before .before .before .before .before .before .before .before .before .before .args .s) .now)))) _ _ (c .before .before .before .before .before .before .before .before .before .before .before .before .before .before .before .before .before .before .before .before .node .ensures) x (c .before .before .before .before .before .before .before .before .before .before .before .before .before .before .before .before .before .before .node2 .given .0 .0) (c .before .before .before .before .before .before .write-chain .result) (c .before .before .before .before .before .before .before .before .before .before .before .before .before .before .before .before .before .before .node2 .given .1) (rw (c .before .before .before .before .before .before .before .before .before .before .before .before .before .before .before .before .text .ensures) at (c .before .before .before .before .before .before .before .before .before .before .before .before .before .before .bytes .ensures)) (c .before .before .before .before .before .before .before .before .before .before .opening .ensures) ((c .before .before .before .before .before .before .write-chain .ensures) ns x) (c .before .before .close .ensures)
 
-write-binding-write-type-requires : (t : ℕ) → write-binding-lts.Need-write-type-requires (
-  next-reads.Asked,
-  next-reads.Learnt,
-  any-owned-reads.Asked,
-  any-owned-reads.Learnt,
-  write-type-below t,
-  write-type.Post,
-) (write-binding-at t) write-binding.Post
+write-binding-write-type-requires : (t : ℕ) → write-binding-lts.Need-write-type-requires (write-binding-calls t) (write-binding-at t) write-binding.Post
 write-binding-write-type-requires t c κs =
     (omega (arith, (c .before .before .before .before .before .before .before .before .pre .0)), tt)
 
-write-binding-returns : (t : ℕ) → write-binding-lts.Need-returns (
-  next-reads.Asked,
-  next-reads.Learnt,
-  any-owned-reads.Asked,
-  any-owned-reads.Learnt,
-  write-type-below t,
-  write-type.Post,
-) (write-binding-at t) write-binding.Post
+write-binding-returns : (t : ℕ) → write-binding-lts.Need-returns (write-binding-calls t) (write-binding-at t) write-binding.Post
 unfolding bindingsOf
 write-binding-returns t c =
     λ ns x. read-law.bind-unbound _ _ (λ f. Writes (onlyOf (bindingsOf (f stop) (sheetOf ((c .before .before .before .before .before .before .before .before .before .before .before .before .args .root) .now) ns))) ((c .before .before .before .before .before .before .before .before .before .before .before .before .args .buf) .now) (c .before .before .before .before .before .before .before .before .before .before .before .before .args .t) (c .before .before .any-owned .last .1 .1 .0) (c .before .before .any-owned .result)) _ (c .before .before .before .before .before .before .next .ensures .0) (c .before .before .before .before .enum-told .given .1) (c .before .before .any-owned .ensures)
 
-write-binding-returns-2 : (t : ℕ) → write-binding-lts.Need-returns-2 (
-  next-reads.Asked,
-  next-reads.Learnt,
-  any-owned-reads.Asked,
-  any-owned-reads.Learnt,
-  write-type-below t,
-  write-type.Post,
-) (write-binding-at t) write-binding.Post
+write-binding-returns-2 : (t : ℕ) → write-binding-lts.Need-returns-2 (write-binding-calls t) (write-binding-at t) write-binding.Post
 unfolding bindingsOf
 write-binding-returns-2 t c =
     λ ns x. read-law.bind-typed _ _ (λ f. Writes (onlyOf (bindingsOf (f stop) (sheetOf ((c .before .before .before .before .before .before .before .before .before .before .before .args .root) .now) ns))) ((c .before .before .before .before .before .before .before .before .before .before .before .args .buf) .now) (c .before .before .before .before .before .before .before .before .before .before .before .args .t) (c .before .before .write-type .last .1 .1 .1 .1 .1 .1 .1 .1 .0) (c .before .before .write-type .result)) _ (c .before .before .before .before .before .next .ensures .0) (c .before .before .before .before .match .keys2) ((c .before .before .write-type .ensures) ns x)
@@ -248,445 +207,120 @@ write-binds-Inv-loop root s ids ats from count left buf₀ at₀ n₀ p₀ buf a
 abbrev write-binds-μ-loop : write-binds-lts.MeasureT-loop
 write-binds-μ-loop root s ids ats from count left buf₀ at₀ n₀ p₀ buf at n p = n
 
-write-binds-loop-holds : (t : ℕ) → write-binds-lts.Need-loop-holds (
-  byte-reads.Asked,
-  byte-reads.Learnt,
-  write-binding-below t,
-  write-binding.Post,
-  past-reads.Asked,
-  past-reads.Learnt,
-) (write-binds-at t) write-binds.Post write-binds-Inv-loop write-binds-μ-loop
+write-binds-loop-holds : (t : ℕ) → write-binds-lts.Need-loop-holds (write-binds-calls t) (write-binds-at t) write-binds.Post write-binds-Inv-loop write-binds-μ-loop
 write-binds-loop-holds t c =
     (refl, λ ns x l′ p′ h. h)
 
-write-binds-write-binding-requires : (t : ℕ) → write-binds-lts.Need-write-binding-requires (
-  byte-reads.Asked,
-  byte-reads.Learnt,
-  write-binding-below t,
-  write-binding.Post,
-  past-reads.Asked,
-  past-reads.Learnt,
-) (write-binds-at t) write-binds.Post write-binds-Inv-loop write-binds-μ-loop
+write-binds-write-binding-requires : (t : ℕ) → write-binds-lts.Need-write-binding-requires (write-binds-calls t) (write-binds-at t) write-binds.Post write-binds-Inv-loop write-binds-μ-loop
 write-binds-write-binding-requires t c κs =
     (omega (arith, (c .before .before .before .before .before .before .before .before .before .before .before .before .before .pre .0)), tt)
 
-write-binds-loop-again : (t : ℕ) → write-binds-lts.Need-loop-again (
-  byte-reads.Asked,
-  byte-reads.Learnt,
-  write-binding-below t,
-  write-binding.Post,
-  past-reads.Asked,
-  past-reads.Learnt,
-) (write-binds-at t) write-binds.Post write-binds-Inv-loop write-binds-μ-loop
+write-binds-loop-again : (t : ℕ) → write-binds-lts.Need-loop-again (write-binds-calls t) (write-binds-at t) write-binds.Post write-binds-Inv-loop write-binds-μ-loop
 write-binds-loop-again t c =
     (omega arith, λ ns x l′ p′ h. (c .before .before .before .before .before .before .before .before .before .before .before .loop .inv .1) ns x l′ p′ (law.binds-on (sheetOf ((c .before .before .before .before .before .before .before .before .before .before .before .before .before .before .before .before .before .args .root) .now) ns) (c .before .before .before .before .before .before .before .before .before .before .before .before .before .before .before .before .before .args .left) (c .before .before .before .before .before .before .before .before .before .before .before .loop .n) _ _ (c .before .before .before .before .before .before .before .before .before .before .loop-test .taken) (c .past .ensures) _ _ _ _ _ _ l′ p′ (c .before .before .before .before .before .before .before .byte .ensures) ((c .before .before .before .write-binding .ensures) ns x) h))
 
-write-binds-returns : (t : ℕ) → write-binds-lts.Need-returns (
-  byte-reads.Asked,
-  byte-reads.Learnt,
-  write-binding-below t,
-  write-binding.Post,
-  past-reads.Asked,
-  past-reads.Learnt,
-) (write-binds-at t) write-binds.Post write-binds-Inv-loop write-binds-μ-loop
+write-binds-returns : (t : ℕ) → write-binds-lts.Need-returns (write-binds-calls t) (write-binds-at t) write-binds.Post write-binds-Inv-loop write-binds-μ-loop
 write-binds-returns t c =
     λ ns x. (c .before .loop .inv .1) ns x _ _ (law.binds-none (sheetOf ((c .before .before .before .before .before .before .before .args .root) .now) ns) _ _ _ _ _ (c .loop-test .left))
 
-write-chain-returns : (t : ℕ) → write-chain-lts.Need-returns (
-  node-reads.Asked,
-  node-reads.Learnt,
-  node-row-reads.Asked,
-  node-row-reads.Learnt,
-  write-own-below t,
-  write-own.Post,
-  write-chain-below t,
-  write-chain.Post,
-) (write-chain-at t) write-chain.Post
+write-chain-returns : (t : ℕ) → write-chain-lts.Need-returns (write-chain-calls t) (write-chain-at t) write-chain.Post
 write-chain-returns t c =
     λ ns x. law.chain-zero (sheetOf ((c .before .before .before .before .before .before .args .root) .now) ns) (times (read.scopeOf (typeOf (c .before .before .before .before .before .before .args .left))) end (c .before .before .before .before .before .before .args .n) (rows (drop (c .before .before .before .before .before .before .args .at) ((c .before .before .before .before .before .before .args .s) .now)))) _ _ _ _ _ _ (c .if1 .taken)
 
-write-chain-returns-2 : (t : ℕ) → write-chain-lts.Need-returns-2 (
-  node-reads.Asked,
-  node-reads.Learnt,
-  node-row-reads.Asked,
-  node-row-reads.Learnt,
-  write-own-below t,
-  write-own.Post,
-  write-chain-below t,
-  write-chain.Post,
-) (write-chain-at t) write-chain.Post
+write-chain-returns-2 : (t : ℕ) → write-chain-lts.Need-returns-2 (write-chain-calls t) (write-chain-at t) write-chain.Post
 write-chain-returns-2 t c =
     λ ns x. law.chain-none ((c .before .before .before .before .before .before .before .before .before .args .s) .now) (sheetOf ((c .before .before .before .before .before .before .before .before .before .args .root) .now) ns) ((c .before .before .before .before .before .before .before .before .before .args .ids) .now) ((c .before .before .before .before .before .before .before .before .before .args .ats) .now) (times (read.scopeOf (typeOf (c .before .before .before .before .before .before .before .before .before .args .left))) end (c .before .before .before .before .before .before .before .before .before .args .n) (rows (drop (c .before .before .before .before .before .before .before .before .before .args .at) ((c .before .before .before .before .before .before .before .before .before .args .s) .now)))) _ _ (c .before .before .before .if1 .left) _ (c .before .before .node .ensures) x _ _ _ _ (c .enum-told .given .1)
 
-write-chain-write-own-requires : (t : ℕ) → write-chain-lts.Need-write-own-requires (
-  node-reads.Asked,
-  node-reads.Learnt,
-  node-row-reads.Asked,
-  node-row-reads.Learnt,
-  write-own-below t,
-  write-own.Post,
-  write-chain-below t,
-  write-chain.Post,
-) (write-chain-at t) write-chain.Post
+write-chain-write-own-requires : (t : ℕ) → write-chain-lts.Need-write-own-requires (write-chain-calls t) (write-chain-at t) write-chain.Post
 write-chain-write-own-requires t c κs =
     (omega (arith, (c .before .before .before .before .before .before .before .before .before .before .before .before .before .pre .0)), tt)
 
-write-chain-returns-3 : (t : ℕ) → write-chain-lts.Need-returns-3 (
-  node-reads.Asked,
-  node-reads.Learnt,
-  node-row-reads.Asked,
-  node-row-reads.Learnt,
-  write-own-below t,
-  write-own.Post,
-  write-chain-below t,
-  write-chain.Post,
-) (write-chain-at t) write-chain.Post
+write-chain-returns-3 : (t : ℕ) → write-chain-lts.Need-returns-3 (write-chain-calls t) (write-chain-at t) write-chain.Post
 write-chain-returns-3 t c =
     λ ns x. law.chain-top ((c .before .before .before .before .before .before .before .before .before .before .before .before .before .before .before .before .args .s) .now) (sheetOf ((c .before .before .before .before .before .before .before .before .before .before .before .before .before .before .before .before .args .root) .now) ns) ((c .before .before .before .before .before .before .before .before .before .before .before .before .before .before .before .before .args .ids) .now) ((c .before .before .before .before .before .before .before .before .before .before .before .before .before .before .before .before .args .ats) .now) (times (read.scopeOf (typeOf (c .before .before .before .before .before .before .before .before .before .before .before .before .before .before .before .before .args .left))) end (c .before .before .before .before .before .before .before .before .before .before .before .before .before .before .before .before .args .n) (rows (drop (c .before .before .before .before .before .before .before .before .before .before .before .before .before .before .before .before .args .at) ((c .before .before .before .before .before .before .before .before .before .before .before .before .before .before .before .before .args .s) .now)))) _ _ (c .before .before .before .before .before .before .before .before .before .before .if1 .left) _ (c .before .before .before .before .before .before .before .before .before .node .ensures) x (c .before .before .before .before .before .before .before .node2 .given .0 .0) (c .before .before .before .before .before .before .before .node2 .given .1) _ (c .before .before .before .before .before .node-row .ensures .0) _ _ _ _ (c .before .before .before .before .if2 .taken) ((c .before .before .write-own .ensures) ns x)
 
-write-chain-write-chain-requires : (t : ℕ) → write-chain-lts.Need-write-chain-requires (
-  node-reads.Asked,
-  node-reads.Learnt,
-  node-row-reads.Asked,
-  node-row-reads.Learnt,
-  write-own-below t,
-  write-own.Post,
-  write-chain-below t,
-  write-chain.Post,
-) (write-chain-at t) write-chain.Post
+write-chain-write-chain-requires : (t : ℕ) → write-chain-lts.Need-write-chain-requires (write-chain-calls t) (write-chain-at t) write-chain.Post
 write-chain-write-chain-requires t c κs =
     (omega (arith, (c .before .before .before .before .before .before .before .before .before .before .before .before .before .pre .0), (c .before .before .before .before .before .before .before .if1 .left)), tt)
 
-write-chain-write-own-requires-2 : (t : ℕ) → write-chain-lts.Need-write-own-requires-2 (
-  node-reads.Asked,
-  node-reads.Learnt,
-  node-row-reads.Asked,
-  node-row-reads.Learnt,
-  write-own-below t,
-  write-own.Post,
-  write-chain-below t,
-  write-chain.Post,
-) (write-chain-at t) write-chain.Post
+write-chain-write-own-requires-2 : (t : ℕ) → write-chain-lts.Need-write-own-requires-2 (write-chain-calls t) (write-chain-at t) write-chain.Post
 write-chain-write-own-requires-2 t c κs =
     (omega (arith, (c .before .before .before .before .before .before .before .before .before .before .before .before .before .before .before .before .before .pre .0)), tt)
 
-write-chain-returns-4 : (t : ℕ) → write-chain-lts.Need-returns-4 (
-  node-reads.Asked,
-  node-reads.Learnt,
-  node-row-reads.Asked,
-  node-row-reads.Learnt,
-  write-own-below t,
-  write-own.Post,
-  write-chain-below t,
-  write-chain.Post,
-) (write-chain-at t) write-chain.Post
+write-chain-returns-4 : (t : ℕ) → write-chain-lts.Need-returns-4 (write-chain-calls t) (write-chain-at t) write-chain.Post
 write-chain-returns-4 t c =
     λ ns x. law.chain-next ((c .before .before .before .before .before .before .before .before .before .before .before .before .before .before .before .before .before .before .before .before .args .s) .now) (sheetOf ((c .before .before .before .before .before .before .before .before .before .before .before .before .before .before .before .before .before .before .before .before .args .root) .now) ns) ((c .before .before .before .before .before .before .before .before .before .before .before .before .before .before .before .before .before .before .before .before .args .ids) .now) ((c .before .before .before .before .before .before .before .before .before .before .before .before .before .before .before .before .before .before .before .before .args .ats) .now) (times (read.scopeOf (typeOf (c .before .before .before .before .before .before .before .before .before .before .before .before .before .before .before .before .before .before .before .before .args .left))) end (c .before .before .before .before .before .before .before .before .before .before .before .before .before .before .before .before .before .before .before .before .args .n) (rows (drop (c .before .before .before .before .before .before .before .before .before .before .before .before .before .before .before .before .before .before .before .before .args .at) ((c .before .before .before .before .before .before .before .before .before .before .before .before .before .before .before .before .before .before .before .before .args .s) .now)))) _ _ (c .before .before .before .before .before .before .before .before .before .before .before .before .before .before .if1 .left) _ (c .before .before .before .before .before .before .before .before .before .before .before .before .before .node .ensures) x (c .before .before .before .before .before .before .before .before .before .before .before .node2 .given .0 .0) (c .before .before .before .before .before .before .before .before .before .before .before .node2 .given .1) _ (c .before .before .before .before .before .before .before .before .before .node-row .ensures .0) _ _ _ (c .before .before .before .before .before .before .write-chain .result) _ _ (c .before .before .before .before .before .before .before .before .if2 .left) ((c .before .before .before .before .before .before .write-chain .ensures) ns x) ((c .before .before .write-own2 .ensures) ns x)
 
-write-list-returns : (t : ℕ) → write-list-lts.Need-returns (
-  kind-reads.Asked,
-  kind-reads.Learnt,
-  displayed-reads.Asked,
-  displayed-reads.Learnt,
-  list-head-reads.Asked,
-  list-head-reads.Learnt,
-  element-leaf-reads.Asked,
-  element-leaf-reads.Learnt,
-  write-type-below t,
-  write-type.Post,
-  byte-reads.Asked,
-  byte-reads.Learnt,
-) (write-list-at t) write-list.Post
+write-list-returns : (t : ℕ) → write-list-lts.Need-returns (write-list-calls t) (write-list-at t) write-list.Post
 write-list-returns t c =
     λ ns x. law.list-text (sheetOf ((c .before .before .before .before .before .before .before .before .before .before .before .before .args .root) .now) ns) (c .before .before .before .before .before .before .before .before .before .before .before .before .args .leaf) (c .before .before .before .before .before .before .before .before .before .before .before .before .args .left) (rows (drop (c .before .before .before .before .before .before .before .before .before .before .before .before .args .at) ((c .before .before .before .before .before .before .before .before .before .before .before .before .args .s) .now))) _ (c .before .before .before .before .before .before .kind .ensures) (c .before .before .before .before .before .if1 .taken) (c .before .before .displayed .ensures)
 
-write-list-returns-2 : (t : ℕ) → write-list-lts.Need-returns-2 (
-  kind-reads.Asked,
-  kind-reads.Learnt,
-  displayed-reads.Asked,
-  displayed-reads.Learnt,
-  list-head-reads.Asked,
-  list-head-reads.Learnt,
-  element-leaf-reads.Asked,
-  element-leaf-reads.Learnt,
-  write-type-below t,
-  write-type.Post,
-  byte-reads.Asked,
-  byte-reads.Learnt,
-) (write-list-at t) write-list.Post
+write-list-returns-2 : (t : ℕ) → write-list-lts.Need-returns-2 (write-list-calls t) (write-list-at t) write-list.Post
 write-list-returns-2 t c =
     λ ns x. law.list-data (sheetOf ((c .before .before .before .before .before .before .before .before .before .before .before .before .before .args .root) .now) ns) (c .before .before .before .before .before .before .before .before .before .before .before .before .before .args .leaf) (c .before .before .before .before .before .before .before .before .before .before .before .before .before .args .left) (rows (drop (c .before .before .before .before .before .before .before .before .before .before .before .before .before .args .at) ((c .before .before .before .before .before .before .before .before .before .before .before .before .before .args .s) .now))) _ (c .before .before .before .before .before .before .before .kind .ensures) (c .before .before .before .before .before .before .if1 .left) (c .before .before .before .before .before .if2 .taken) (c .before .before .displayed2 .ensures)
 
-write-list-write-type-requires : (t : ℕ) → write-list-lts.Need-write-type-requires (
-  kind-reads.Asked,
-  kind-reads.Learnt,
-  displayed-reads.Asked,
-  displayed-reads.Learnt,
-  list-head-reads.Asked,
-  list-head-reads.Learnt,
-  element-leaf-reads.Asked,
-  element-leaf-reads.Learnt,
-  write-type-below t,
-  write-type.Post,
-  byte-reads.Asked,
-  byte-reads.Learnt,
-) (write-list-at t) write-list.Post
+write-list-write-type-requires : (t : ℕ) → write-list-lts.Need-write-type-requires (write-list-calls t) (write-list-at t) write-list.Post
 write-list-write-type-requires t c κs =
     (omega (arith, (c .before .before .before .before .before .before .before .before .before .before .before .before .before .before .pre .0)), tt)
 
-write-list-returns-3 : (t : ℕ) → write-list-lts.Need-returns-3 (
-  kind-reads.Asked,
-  kind-reads.Learnt,
-  displayed-reads.Asked,
-  displayed-reads.Learnt,
-  list-head-reads.Asked,
-  list-head-reads.Learnt,
-  element-leaf-reads.Asked,
-  element-leaf-reads.Learnt,
-  write-type-below t,
-  write-type.Post,
-  byte-reads.Asked,
-  byte-reads.Learnt,
-) (write-list-at t) write-list.Post
+write-list-returns-3 : (t : ℕ) → write-list-lts.Need-returns-3 (write-list-calls t) (write-list-at t) write-list.Post
 write-list-returns-3 t c =
     λ ns x. law.list-inner (sheetOf ((c .before .before .before .before .before .before .before .before .before .before .before .before .before .before .before .before .before .before .before .before .before .args .root) .now) ns) (c .before .before .before .before .before .before .before .before .before .before .before .before .before .before .before .before .before .before .before .before .before .args .leaf) (c .before .before .before .before .before .before .before .before .before .before .before .before .before .before .before .before .before .before .before .before .before .args .left) (rows (drop (c .before .before .before .before .before .before .before .before .before .before .before .before .before .before .before .before .before .before .before .before .before .args .at) ((c .before .before .before .before .before .before .before .before .before .before .before .before .before .before .before .before .before .before .before .before .before .args .s) .now))) _ (c .before .before .before .before .before .before .before .before .before .before .before .before .before .before .before .kind .ensures) _ (c .before .before .before .before .before .before .before .before .before .before .before .before .before .before .if1 .left) (c .before .before .before .before .before .before .before .before .before .before .before .before .before .if2 .left) (c .before .before .before .before .before .before .before .before .element-leaf .ensures) (c .before .before .before .before .before .before .before .before .before .before .before .list-head .ensures) ((c .before .before .before .before .before .before .write-type .ensures) ns x) (c .before .before .byte .ensures)
 
-write-own-returns : (t : ℕ) → write-own-lts.Need-returns (
-  node-row-reads.Asked,
-  node-row-reads.Learnt,
-  scope-reads.Asked,
-  scope-reads.Learnt,
-  unbound-reads.Asked,
-  unbound-reads.Learnt,
-  next-reads.Asked,
-  next-reads.Learnt,
-  inherited-reads.Asked,
-  inherited-reads.Learnt,
-  write-binds-below t,
-  write-binds.Post,
-) (write-own-at t) write-own.Post
+write-own-returns : (t : ℕ) → write-own-lts.Need-returns (write-own-calls t) (write-own-at t) write-own.Post
 write-own-returns t c =
     λ ns x y w. law.own-none (c .before .before .before .before .before .before .before .before .before .before .before .before .before .args .left) (sheetOf ((c .before .before .before .before .before .before .before .before .before .before .before .before .before .args .root) .now) ns) (c .before .before .before .before .before .before .before .before .before .before .before .before .before .args .id) (c .before .before .before .before .before .before .before .before .before .before .before .before .before .args .n) _ _ (c .before .before .before .before .before .before .scope .ensures) y _ _ _ _ _ (rw (c .before .before .before .before .before .before .before .node-row .ensures .1) (w .params)) (rw (c .before .before .before .before .enum-told .given .1) refl) (c .before .before .unbound .ensures)
 
-write-own-returns-2 : (t : ℕ) → write-own-lts.Need-returns-2 (
-  node-row-reads.Asked,
-  node-row-reads.Learnt,
-  scope-reads.Asked,
-  scope-reads.Learnt,
-  unbound-reads.Asked,
-  unbound-reads.Learnt,
-  next-reads.Asked,
-  next-reads.Learnt,
-  inherited-reads.Asked,
-  inherited-reads.Learnt,
-  write-binds-below t,
-  write-binds.Post,
-) (write-own-at t) write-own.Post
+write-own-returns-2 : (t : ℕ) → write-own-lts.Need-returns-2 (write-own-calls t) (write-own-at t) write-own.Post
 write-own-returns-2 t c =
     λ ns x y w. law.own-other (c .before .before .before .before .before .before .before .before .before .before .before .before .args .left) (sheetOf ((c .before .before .before .before .before .before .before .before .before .before .before .before .args .root) .now) ns) (c .before .before .before .before .before .before .before .before .before .before .before .before .args .id) (c .before .before .before .before .before .before .before .before .before .before .before .before .args .n) _ _ (c .before .before .before .before .before .scope .ensures) y _ _ _ _ _ (rw (c .before .before .before .scope2 .given .1) refl) _ (c .before .next .ensures .0) (c .match2 .keys2)
 
-write-own-returns-3 : (t : ℕ) → write-own-lts.Need-returns-3 (
-  node-row-reads.Asked,
-  node-row-reads.Learnt,
-  scope-reads.Asked,
-  scope-reads.Learnt,
-  unbound-reads.Asked,
-  unbound-reads.Learnt,
-  next-reads.Asked,
-  next-reads.Learnt,
-  inherited-reads.Asked,
-  inherited-reads.Learnt,
-  write-binds-below t,
-  write-binds.Post,
-) (write-own-at t) write-own.Post
+write-own-returns-3 : (t : ℕ) → write-own-lts.Need-returns-3 (write-own-calls t) (write-own-at t) write-own.Post
 write-own-returns-3 t c =
     λ ns x y w. law.own-inherit (c .before .before .before .before .before .before .before .before .before .before .before .before .before .before .before .before .before .before .before .args .left) (sheetOf ((c .before .before .before .before .before .before .before .before .before .before .before .before .before .before .before .before .before .before .before .args .root) .now) ns) (c .before .before .before .before .before .before .before .before .before .before .before .before .before .before .before .before .before .before .before .args .id) (c .before .before .before .before .before .before .before .before .before .before .before .before .before .before .before .before .before .before .before .args .n) _ _ (c .before .before .before .before .before .before .before .before .before .before .before .before .scope .ensures) y _ _ _ _ _ (rw (c .before .before .before .before .before .before .before .before .before .before .scope2 .given .1) refl) _ (c .before .before .before .before .before .before .before .before .next .ensures .0) _ _ _ (c .before .before .before .before .before .before .line .given .1) _ (rw (c .before .before .before .before .before .before .before .before .before .before .before .before .before .node-row .ensures .1) (w .params)) (c .before .before .before .before .if1 .taken) (c .before .before .inherited .ensures)
 
-write-own-write-binds-requires : (t : ℕ) → write-own-lts.Need-write-binds-requires (
-  node-row-reads.Asked,
-  node-row-reads.Learnt,
-  scope-reads.Asked,
-  scope-reads.Learnt,
-  unbound-reads.Asked,
-  unbound-reads.Learnt,
-  next-reads.Asked,
-  next-reads.Learnt,
-  inherited-reads.Asked,
-  inherited-reads.Learnt,
-  write-binds-below t,
-  write-binds.Post,
-) (write-own-at t) write-own.Post
+write-own-write-binds-requires : (t : ℕ) → write-own-lts.Need-write-binds-requires (write-own-calls t) (write-own-at t) write-own.Post
 write-own-write-binds-requires t c κs =
     (omega (arith, (c .before .before .before .before .before .before .before .before .before .before .before .before .before .before .before .before .pre .0)), tt)
 
-write-own-returns-4 : (t : ℕ) → write-own-lts.Need-returns-4 (
-  node-row-reads.Asked,
-  node-row-reads.Learnt,
-  scope-reads.Asked,
-  scope-reads.Learnt,
-  unbound-reads.Asked,
-  unbound-reads.Learnt,
-  next-reads.Asked,
-  next-reads.Learnt,
-  inherited-reads.Asked,
-  inherited-reads.Learnt,
-  write-binds-below t,
-  write-binds.Post,
-) (write-own-at t) write-own.Post
+write-own-returns-4 : (t : ℕ) → write-own-lts.Need-returns-4 (write-own-calls t) (write-own-at t) write-own.Post
 write-own-returns-4 t c =
     λ ns x y w. law.own-binds (c .before .before .before .before .before .before .before .before .before .before .before .before .before .before .before .before .before .before .before .args .left) (sheetOf ((c .before .before .before .before .before .before .before .before .before .before .before .before .before .before .before .before .before .before .before .args .root) .now) ns) (c .before .before .before .before .before .before .before .before .before .before .before .before .before .before .before .before .before .before .before .args .id) (c .before .before .before .before .before .before .before .before .before .before .before .before .before .before .before .before .before .before .before .args .n) _ _ (c .before .before .before .before .before .before .before .before .before .before .before .before .scope .ensures) y _ _ _ _ _ (rw (c .before .before .before .before .before .before .before .before .before .before .scope2 .given .1) refl) _ (c .before .before .before .before .before .before .before .before .next .ensures .0) _ _ _ (c .before .before .before .before .before .before .line .given .1) _ (c .before .before .before .before .before .before .before .before .next .ensures .1) (c .before .before .before .before .if1 .left) ((c .before .before .write-binds .ensures) ns x)
 
-write-type-returns : (t : ℕ) → write-type-lts.Need-returns (
-  next-reads.Asked,
-  next-reads.Learnt,
-  plain-reads.Asked,
-  plain-reads.Learnt,
-  write-list-below t,
-  write-list.Post,
-  qualified-module-reads.Asked,
-  qualified-module-reads.Learnt,
-  do-branding-below t,
-  do-branding.Post,
-  pointer-reads.Asked,
-  pointer-reads.Learnt,
-) (write-type-at t) write-type.Post
+write-type-returns : (t : ℕ) → write-type-lts.Need-returns (write-type-calls t) (write-type-at t) write-type.Post
 write-type-returns t c =
     λ ns x. read-law.type-zero _ _ _ (c .if1 .taken)
 
-write-type-returns-2 : (t : ℕ) → write-type-lts.Need-returns-2 (
-  next-reads.Asked,
-  next-reads.Learnt,
-  plain-reads.Asked,
-  plain-reads.Learnt,
-  write-list-below t,
-  write-list.Post,
-  qualified-module-reads.Asked,
-  qualified-module-reads.Learnt,
-  do-branding-below t,
-  do-branding.Post,
-  pointer-reads.Asked,
-  pointer-reads.Learnt,
-) (write-type-at t) write-type.Post
+write-type-returns-2 : (t : ℕ) → write-type-lts.Need-returns-2 (write-type-calls t) (write-type-at t) write-type.Post
 write-type-returns-2 t c =
     λ ns x. read-law.type-other _ _ _ _ (c .before .next .ensures .0) (c .match .keys2)
 
-write-type-returns-3 : (t : ℕ) → write-type-lts.Need-returns-3 (
-  next-reads.Asked,
-  next-reads.Learnt,
-  plain-reads.Asked,
-  plain-reads.Learnt,
-  write-list-below t,
-  write-list.Post,
-  qualified-module-reads.Asked,
-  qualified-module-reads.Learnt,
-  do-branding-below t,
-  do-branding.Post,
-  pointer-reads.Asked,
-  pointer-reads.Learnt,
-) (write-type-at t) write-type.Post
+write-type-returns-3 : (t : ℕ) → write-type-lts.Need-returns-3 (write-type-calls t) (write-type-at t) write-type.Post
 unfolding typeString
 write-type-returns-3 t c =
     λ ns x. read-law.type-plain _ _ _ _ _ _ _ _ (c .before .before .before .before .before .before .before .before .before .if1 .left) (c .before .before .before .before .before .before .before .before .next .ensures .0) (c .before .before .before .before .before .before .line .given .1) (c .before .before .before .before .before .before .before .before .next .ensures .1) (λ ty. Writes (typeString ty (sheetOf ((c .before .before .before .before .before .before .before .before .before .before .before .before .before .before .before .args .root) .now) ns) (c .before .before .before .before .before .before .before .before .before .before .before .before .before .before .before .args .leaf)) ((c .before .before .before .before .before .before .before .before .before .before .before .before .before .before .before .args .buf) .now) (c .before .before .before .before .before .before .before .before .before .before .before .before .before .before .before .args .t) (c .before .before .plain .last .1 .1 .1 .1 .0) (c .before .before .plain .result)) (c .before .before .before .before .if2 .taken) ((c .before .before .plain .ensures) (c .before .before .before .before .if2 .taken))
 
-write-type-write-list-requires : (t : ℕ) → write-type-lts.Need-write-list-requires (
-  next-reads.Asked,
-  next-reads.Learnt,
-  plain-reads.Asked,
-  plain-reads.Learnt,
-  write-list-below t,
-  write-list.Post,
-  qualified-module-reads.Asked,
-  qualified-module-reads.Learnt,
-  do-branding-below t,
-  do-branding.Post,
-  pointer-reads.Asked,
-  pointer-reads.Learnt,
-) (write-type-at t) write-type.Post
+write-type-write-list-requires : (t : ℕ) → write-type-lts.Need-write-list-requires (write-type-calls t) (write-type-at t) write-type.Post
 write-type-write-list-requires t c κs =
     (omega (arith, (c .before .before .before .before .before .before .before .before .before .before .before .before .before .pre .0)), tt)
 
-write-type-returns-4 : (t : ℕ) → write-type-lts.Need-returns-4 (
-  next-reads.Asked,
-  next-reads.Learnt,
-  plain-reads.Asked,
-  plain-reads.Learnt,
-  write-list-below t,
-  write-list.Post,
-  qualified-module-reads.Asked,
-  qualified-module-reads.Learnt,
-  do-branding-below t,
-  do-branding.Post,
-  pointer-reads.Asked,
-  pointer-reads.Learnt,
-) (write-type-at t) write-type.Post
+write-type-returns-4 : (t : ℕ) → write-type-lts.Need-returns-4 (write-type-calls t) (write-type-at t) write-type.Post
 write-type-returns-4 t c =
     λ ns x. read-law.type-list _ _ _ _ _ _ _ _ (c .before .before .before .before .before .before .before .before .before .before .if1 .left) (c .before .before .before .before .before .before .before .before .before .next .ensures .0) (c .before .before .before .before .before .before .before .line .given .1) (c .before .before .before .before .before .before .before .before .before .next .ensures .1) (λ ty. Writes (typeString ty (sheetOf ((c .before .before .before .before .before .before .before .before .before .before .before .before .before .before .before .before .args .root) .now) ns) (c .before .before .before .before .before .before .before .before .before .before .before .before .before .before .before .before .args .leaf)) ((c .before .before .before .before .before .before .before .before .before .before .before .before .before .before .before .before .args .buf) .now) (c .before .before .before .before .before .before .before .before .before .before .before .before .before .before .before .before .args .t) (c .before .before .write-list .last .1 .1 .1 .1 .1 .1 .1 .1 .0) (c .before .before .write-list .result)) (c .before .before .before .before .if3 .taken) ((c .before .before .write-list .ensures) ns x)
 
-write-type-returns-5 : (t : ℕ) → write-type-lts.Need-returns-5 (
-  next-reads.Asked,
-  next-reads.Learnt,
-  plain-reads.Asked,
-  plain-reads.Learnt,
-  write-list-below t,
-  write-list.Post,
-  qualified-module-reads.Asked,
-  qualified-module-reads.Learnt,
-  do-branding-below t,
-  do-branding.Post,
-  pointer-reads.Asked,
-  pointer-reads.Learnt,
-) (write-type-at t) write-type.Post
+write-type-returns-5 : (t : ℕ) → write-type-lts.Need-returns-5 (write-type-calls t) (write-type-at t) write-type.Post
 write-type-returns-5 t c =
-    λ ns x. law.type-enum (sheetOf ((c .before .before .before .before .before .before .before .before .before .before .before .before .before .before .before .before .before .args .root) .now) ns) (c .before .before .before .before .before .before .before .before .before .before .before .before .before .before .before .before .before .args .leaf) _ _ _ _ _ _ _ _ (c .before .before .before .before .before .before .before .before .before .before .before .if1 .left) (c .before .before .before .before .before .before .before .before .before .before .next .ensures .0) (c .before .before .before .before .before .before .before .before .line .given .1) (c .before .before .before .before .before .before .before .before .before .before .next .ensures .1) (λ (o : Out Str). Writes o ((c .before .before .before .before .before .before .before .before .before .before .before .before .before .before .before .before .before .args .buf) .now) (c .before .before .before .before .before .before .before .before .before .before .before .before .before .before .before .before .before .args .t) (c .before .before .qualified-module .last .1 .1 .1 .1 .1 .1 .0) (c .before .before .qualified-module .result)) (c .before .before .before .before .if4 .taken) ((c .before .before .qualified-module .ensures) ns x)
+    λ ns x. read-law.type-enum (sheetOf ((c .before .before .before .before .before .before .before .before .before .before .before .before .before .before .before .before .before .args .root) .now) ns) (c .before .before .before .before .before .before .before .before .before .before .before .before .before .before .before .before .before .args .leaf) _ _ _ _ _ _ _ _ (c .before .before .before .before .before .before .before .before .before .before .before .if1 .left) (c .before .before .before .before .before .before .before .before .before .before .next .ensures .0) (c .before .before .before .before .before .before .before .before .line .given .1) (c .before .before .before .before .before .before .before .before .before .before .next .ensures .1) (λ (o : Out Str). Writes o ((c .before .before .before .before .before .before .before .before .before .before .before .before .before .before .before .before .before .args .buf) .now) (c .before .before .before .before .before .before .before .before .before .before .before .before .before .before .before .before .before .args .t) (c .before .before .qualified-module .last .1 .1 .1 .1 .1 .1 .0) (c .before .before .qualified-module .result)) (c .before .before .before .before .if4 .taken) ((c .before .before .qualified-module .ensures) ns x)
 
-write-type-do-branding-requires : (t : ℕ) → write-type-lts.Need-do-branding-requires (
-  next-reads.Asked,
-  next-reads.Learnt,
-  plain-reads.Asked,
-  plain-reads.Learnt,
-  write-list-below t,
-  write-list.Post,
-  qualified-module-reads.Asked,
-  qualified-module-reads.Learnt,
-  do-branding-below t,
-  do-branding.Post,
-  pointer-reads.Asked,
-  pointer-reads.Learnt,
-) (write-type-at t) write-type.Post
+write-type-do-branding-requires : (t : ℕ) → write-type-lts.Need-do-branding-requires (write-type-calls t) (write-type-at t) write-type.Post
 write-type-do-branding-requires t c κs =
     (omega (arith, (c .before .before .before .before .before .before .before .before .before .before .before .before .before .before .before .pre .0)), tt)
 
-write-type-returns-6 : (t : ℕ) → write-type-lts.Need-returns-6 (
-  next-reads.Asked,
-  next-reads.Learnt,
-  plain-reads.Asked,
-  plain-reads.Learnt,
-  write-list-below t,
-  write-list.Post,
-  qualified-module-reads.Asked,
-  qualified-module-reads.Learnt,
-  do-branding-below t,
-  do-branding.Post,
-  pointer-reads.Asked,
-  pointer-reads.Learnt,
-) (write-type-at t) write-type.Post
+write-type-returns-6 : (t : ℕ) → write-type-lts.Need-returns-6 (write-type-calls t) (write-type-at t) write-type.Post
 write-type-returns-6 t c =
-    λ ns x. law.type-brand (sheetOf ((c .before .before .before .before .before .before .before .before .before .before .before .before .before .before .before .before .before .before .args .root) .now) ns) (c .before .before .before .before .before .before .before .before .before .before .before .before .before .before .before .before .before .before .args .leaf) _ _ _ _ _ _ _ _ (c .before .before .before .before .before .before .before .before .before .before .before .before .if1 .left) (c .before .before .before .before .before .before .before .before .before .before .before .next .ensures .0) (c .before .before .before .before .before .before .before .before .before .line .given .1) (c .before .before .before .before .before .before .before .before .before .before .before .next .ensures .1) (λ (o : Out Str). Writes o ((c .before .before .before .before .before .before .before .before .before .before .before .before .before .before .before .before .before .before .args .buf) .now) (c .before .before .before .before .before .before .before .before .before .before .before .before .before .before .before .before .before .before .args .t) (c .before .before .do-branding .last .1 .1 .1 .1 .1 .1 .1 .1 .1 .1 .0) (c .before .before .do-branding .result)) (c .before .before .before .before .before .before .before .if2 .left) (c .before .before .before .before .before .before .if3 .left) (c .before .before .before .before .before .if4 .left) (c .before .before .before .before .if5 .taken) ((c .before .before .do-branding .ensures) ns x)
+    λ ns x. read-law.type-branded (sheetOf ((c .before .before .before .before .before .before .before .before .before .before .before .before .before .before .before .before .before .before .args .root) .now) ns) (c .before .before .before .before .before .before .before .before .before .before .before .before .before .before .before .before .before .before .args .leaf) _ _ _ _ _ _ _ _ (c .before .before .before .before .before .before .before .before .before .before .before .before .if1 .left) (c .before .before .before .before .before .before .before .before .before .before .before .next .ensures .0) (c .before .before .before .before .before .before .before .before .before .line .given .1) (c .before .before .before .before .before .before .before .before .before .before .before .next .ensures .1) (λ (o : Out Str). Writes o ((c .before .before .before .before .before .before .before .before .before .before .before .before .before .before .before .before .before .before .args .buf) .now) (c .before .before .before .before .before .before .before .before .before .before .before .before .before .before .before .before .before .before .args .t) (c .before .before .do-branding .last .1 .1 .1 .1 .1 .1 .1 .1 .1 .1 .0) (c .before .before .do-branding .result)) (c .before .before .before .before .before .before .before .if2 .left) (c .before .before .before .before .before .before .if3 .left) (c .before .before .before .before .before .if4 .left) (c .before .before .before .before .if5 .taken) ((c .before .before .do-branding .ensures) ns x)
 
-write-type-returns-7 : (t : ℕ) → write-type-lts.Need-returns-7 (
-  next-reads.Asked,
-  next-reads.Learnt,
-  plain-reads.Asked,
-  plain-reads.Learnt,
-  write-list-below t,
-  write-list.Post,
-  qualified-module-reads.Asked,
-  qualified-module-reads.Learnt,
-  do-branding-below t,
-  do-branding.Post,
-  pointer-reads.Asked,
-  pointer-reads.Learnt,
-) (write-type-at t) write-type.Post
+write-type-returns-7 : (t : ℕ) → write-type-lts.Need-returns-7 (write-type-calls t) (write-type-at t) write-type.Post
 write-type-returns-7 t c =
     λ ns x. read-law.type-pointer _ _ _ _ _ _ _ _ (c .before .before .before .before .before .before .before .before .before .before .before .before .if1 .left) (c .before .before .before .before .before .before .before .before .before .before .before .next .ensures .0) (c .before .before .before .before .before .before .before .before .before .line .given .1) (c .before .before .before .before .before .before .before .before .before .before .before .next .ensures .1) (λ ty. Writes (typeString ty (sheetOf ((c .before .before .before .before .before .before .before .before .before .before .before .before .before .before .before .before .before .before .args .root) .now) ns) (c .before .before .before .before .before .before .before .before .before .before .before .before .before .before .before .before .before .before .args .leaf)) ((c .before .before .before .before .before .before .before .before .before .before .before .before .before .before .before .before .before .before .args .buf) .now) (c .before .before .before .before .before .before .before .before .before .before .before .before .before .before .before .before .before .before .args .t) (c .before .before .pointer .last .1 .1 .1 .1 .1 .1 .1 .1 .1 .0) (c .before .before .pointer .result)) (c .before .before .before .before .if5 .left) ((c .before .before .pointer .ensures) ns x)
 
@@ -701,20 +335,7 @@ pub +do-branding+write-binding+write-binds+write-chain+write-list+write-own+writ
     μ-write-list
     μ-write-own
     μ-write-type
-    (λ t. do-branding-lts.spec (
-      node-reads.Asked,
-      node-reads.Learnt,
-      text-reads.Asked,
-      text-reads.Learnt,
-      bytes-reads.Asked,
-      bytes-reads.Learnt,
-      opening-reads.Asked,
-      opening-reads.Learnt,
-      write-chain-below t,
-      write-chain.Post,
-      close-reads.Asked,
-      close-reads.Learnt,
-    )
+    (λ t. do-branding-lts.spec (do-branding-calls t)
     (do-branding-at t)
     do-branding.Post
     (λ c κs. search needs)
@@ -728,14 +349,7 @@ pub +do-branding+write-binding+write-binds+write-chain+write-list+write-own+writ
     (λ c κs. search needs)
     (λ c. search needs)
     (do-branding-returns-2 t))
-    (λ t. write-binding-lts.spec (
-      next-reads.Asked,
-      next-reads.Learnt,
-      any-owned-reads.Asked,
-      any-owned-reads.Learnt,
-      write-type-below t,
-      write-type.Post,
-    )
+    (λ t. write-binding-lts.spec (write-binding-calls t)
     (write-binding-at t)
     write-binding.Post
     (λ c κs. search needs)
@@ -746,14 +360,7 @@ pub +do-branding+write-binding+write-binds+write-chain+write-list+write-own+writ
     (write-binding-returns t)
     (λ c. search needs)
     (write-binding-returns-2 t))
-    (λ t. write-binds-lts.spec (
-      byte-reads.Asked,
-      byte-reads.Learnt,
-      write-binding-below t,
-      write-binding.Post,
-      past-reads.Asked,
-      past-reads.Learnt,
-    )
+    (λ t. write-binds-lts.spec (write-binds-calls t)
     (write-binds-at t)
     write-binds.Post
     write-binds-Inv-loop
@@ -767,16 +374,7 @@ pub +do-branding+write-binding+write-binds+write-chain+write-list+write-own+writ
     (write-binds-loop-again t)
     (λ c. search needs)
     (write-binds-returns t))
-    (λ t. write-chain-lts.spec (
-      node-reads.Asked,
-      node-reads.Learnt,
-      node-row-reads.Asked,
-      node-row-reads.Learnt,
-      write-own-below t,
-      write-own.Post,
-      write-chain-below t,
-      write-chain.Post,
-    )
+    (λ t. write-chain-lts.spec (write-chain-calls t)
     (write-chain-at t)
     write-chain.Post
     (write-chain-returns t)
@@ -793,20 +391,7 @@ pub +do-branding+write-binding+write-binds+write-chain+write-list+write-own+writ
     (write-chain-write-own-requires-2 t)
     (λ c. search needs)
     (write-chain-returns-4 t))
-    (λ t. write-list-lts.spec (
-      kind-reads.Asked,
-      kind-reads.Learnt,
-      displayed-reads.Asked,
-      displayed-reads.Learnt,
-      list-head-reads.Asked,
-      list-head-reads.Learnt,
-      element-leaf-reads.Asked,
-      element-leaf-reads.Learnt,
-      write-type-below t,
-      write-type.Post,
-      byte-reads.Asked,
-      byte-reads.Learnt,
-    )
+    (λ t. write-list-lts.spec (write-list-calls t)
     (write-list-at t)
     write-list.Post
     (λ c κs. search needs)
@@ -824,20 +409,7 @@ pub +do-branding+write-binding+write-binds+write-chain+write-list+write-own+writ
     (λ c κs. search needs)
     (λ c. search needs)
     (write-list-returns-3 t))
-    (λ t. write-own-lts.spec (
-      node-row-reads.Asked,
-      node-row-reads.Learnt,
-      scope-reads.Asked,
-      scope-reads.Learnt,
-      unbound-reads.Asked,
-      unbound-reads.Learnt,
-      next-reads.Asked,
-      next-reads.Learnt,
-      inherited-reads.Asked,
-      inherited-reads.Learnt,
-      write-binds-below t,
-      write-binds.Post,
-    )
+    (λ t. write-own-lts.spec (write-own-calls t)
     (write-own-at t)
     write-own.Post
     (λ c κs. search needs)
@@ -856,20 +428,7 @@ pub +do-branding+write-binding+write-binds+write-chain+write-list+write-own+writ
     (write-own-write-binds-requires t)
     (λ c. search needs)
     (write-own-returns-4 t))
-    λ t. write-type-lts.spec (
-      next-reads.Asked,
-      next-reads.Learnt,
-      plain-reads.Asked,
-      plain-reads.Learnt,
-      write-list-below t,
-      write-list.Post,
-      qualified-module-reads.Asked,
-      qualified-module-reads.Learnt,
-      do-branding-below t,
-      do-branding.Post,
-      pointer-reads.Asked,
-      pointer-reads.Learnt,
-    )
+    λ t. write-type-lts.spec (write-type-calls t)
     (write-type-at t)
     write-type.Post
     (write-type-returns t)
