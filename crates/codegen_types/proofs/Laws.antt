@@ -15,7 +15,8 @@ accumulate-none sheet scopes n id h = rw h
 
 pub accumulate-more : (sheet : Sheet) (scopes : List (ℕ × Scope)) (n id : ℕ) → (n ≡ 0 → ⊥) → accumulate sheet scopes n id
     ≡ (nodeOf (sheet .nodes) id then λ x. argumentsOf (sheet .root) (x .params) (scopeOf id scopes) then λ arguments.
-    cond (eqb (x .parent) 0) (ok (arguments ∷ [])) (accumulate sheet scopes (n - 1) (x .parent) then λ outer. ok (arguments ∷ outer)))
+    cond (eqb (x .parent) 0) (ok (arguments ∷ [])) (accumulate sheet scopes (n - 1) (x .parent) then λ outer. ok
+    (arguments ∷ outer)))
 unfolding accumulate
 accumulate-more sheet scopes zero id h = absurd (h refl)
 accumulate-more sheet scopes (suc n) id h = rw (sub-one (suc n))

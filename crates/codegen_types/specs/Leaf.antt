@@ -1,8 +1,10 @@
--- `Leaf` of codegen_types.rs: its display, its `bare_name`, and what `type_string` and `do_branding` ask of it. Assumes nothing.
+-- `Leaf` of codegen_types.rs: its display, its `bare_name`, and what `type_string` and `do_branding` ask of it. Assumes
+-- nothing.
 use mathlib.Core.List.{List, [], _∷_, _++_}
 use Rattle.text.specs.Bytes.{Str, ascii}
 use Rattle.codegen_types.specs.declared.Leaf.{Leaf}
-use Rattle.codegen_types.specs.declared.Leaf.the-variants.{Reader, Builder, Owned, Client, Server, ServerDispatch, Pipeline, GetType}
+use Rattle.codegen_types.specs.declared.Leaf.the-variants.{Reader, Builder, Owned, Client, Server, ServerDispatch}
+use Rattle.codegen_types.specs.declared.Leaf.the-variants.{Pipeline, GetType}
 use Rattle.codegen_types.specs.declared.Lifetime.{Lifetime}
 use Rattle.codegen_types.specs.declared.Lifetime.the-variants.{A, Anonymous}
 

@@ -1,19 +1,35 @@
--- Worked texts and refusals of types: a table with document 01's starred case and what else is easy to get wrong, and one theorem over
+-- Worked texts and refusals of types: a table with document 01's starred case and what else is easy to get wrong, and one
+-- theorem over
 -- its rows, by computation. Assumes nothing.
 use mathlib.Core.Path.{_≡_, refl}
 use mathlib.Core.List.{List, [], _∷_, map}
 use Prim.Native.Nat.{ℕ, zero, suc, _+_}
 use Rattle.text.specs.Bytes.{Str, ascii}
-use Rattle.tree.specs.Tree.{Ty, plain, list, enum, struct, interface, anyPointer, parameter, Scopes, end, inherit, bind, Binds, stop, unbound, bound, Node, Sheet}
+use Rattle.tree.specs.Tree.{Ty, plain, list, enum, struct, interface, anyPointer, parameter, Scopes, end, inherit, bind, Binds}
+use Rattle.tree.specs.Tree.{stop, unbound, bound, Node, Sheet}
 use Rattle.codegen_types.specs.Out.{Out, ok, refused}
-use Rattle.codegen_types.specs.TypeString.{typeString, scopesOf, bindingsOf, nodeOf, scopeOf, allOf, argumentsOf, accumulate, outermostFirst, joined, angled, doBranding, listString, parameterName, parameterString}
+use Rattle.codegen_types.specs.TypeString.{typeString, scopesOf, bindingsOf, nodeOf, scopeOf, allOf, argumentsOf}
+use Rattle.codegen_types.specs.TypeString.{accumulate, outermostFirst, joined, angled, doBranding, listString}
+use Rattle.codegen_types.specs.TypeString.{parameterName, parameterString}
 use Rattle.codegen_types.specs.declared.Leaf.{Leaf}
-use Rattle.codegen_types.specs.declared.Leaf.the-variants.{Reader, Builder, Owned, Client, ServerDispatch, Pipeline, GetType}
+use Rattle.codegen_types.specs.declared.Leaf.the-variants.{Reader, Builder, Owned, Client, ServerDispatch, Pipeline}
+use Rattle.codegen_types.specs.declared.Leaf.the-variants.{GetType}
 use Rattle.codegen_types.specs.declared.Lifetime.the-variants.{A, Anonymous}
 
 -- a node by its id, its parent's, its module and its parameters
 abbrev node : ℕ → ℕ → Str → List Str → Node
-node i p m ps = record { id = i; parent = p; scope = 0; isStruct = 1; generic = 0; tagCount = 0; tagOffset = 0; theMod = m; params = ps; fields = [] }
+node i p m ps = record {
+  id = i;
+  parent = p;
+  scope = 0;
+  isStruct = 1;
+  generic = 0;
+  tagCount = 0;
+  tagOffset = 0;
+  theMod = m;
+  params = ps;
+  fields = [];
+}
 
 -- nodes 100 + n down to 100, each the parent of the one before it
 unfoldable chained : ℕ → List Node
@@ -62,7 +78,8 @@ table =
     ∷ row (struct 3 (pair (bound (plain 12) (unbound stop)) (inherit 3 end))) (Reader A)
     (ok (ascii "map::entry::deep::Reader<'a,::capnp::text::Owned,::capnp::any_pointer::Owned,E>"))
     ∷ row (struct 3 (inherit 1 end)) GetType (ok (ascii "map::entry::deep::get_type::<K,V,::capnp::any_pointer::Owned>"))
-    ∷ row (interface 1 (pair (bound (struct 7 end) (bound (parameter 3 0) stop)) end)) Client (ok (ascii "map::Client<bed::Owned,E>"))
+    ∷ row (interface 1 (pair (bound (struct 7 end) (bound (parameter 3 0) stop)) end)) Client
+    (ok (ascii "map::Client<bed::Owned,E>"))
     -- of two scopes with one id the later counts; a scope off the chain is never looked at
     ∷ row (struct 1 (pair (bound (list anyPointer) stop) (inherit 1 end))) Owned (ok (ascii "map::Owned<K,V>"))
     ∷ row (struct 1 (inherit 1 (pair (unbound stop) end))) Owned (refused 8)
@@ -91,5 +108,6 @@ table =
     ∷ []
 
 starred : map (λ (r : Row). typeString (r .type) sheet (r .leaf)) table ≡ map (λ (r : Row). r .answer) table
-unfolding table chained typeString scopesOf bindingsOf nodeOf scopeOf allOf argumentsOf accumulate outermostFirst joined angled doBranding listString parameterName parameterString
+unfolding table chained typeString scopesOf bindingsOf nodeOf scopeOf allOf argumentsOf accumulate outermostFirst joined angled
+    doBranding listString parameterName parameterString
 starred = refl

@@ -1,4 +1,5 @@
--- `type_string`, `do_branding` and `get_qualified_module` over the tree of a sheet, in the Rust's names and order of evaluation: the text, or the
+-- `type_string`, `do_branding` and `get_qualified_module` over the tree of a sheet, in the Rust's names and order of
+-- evaluation: the text, or the
 -- refusal that is met first. Assumes nothing.
 use Prim.Native.Nat.{ℕ, zero, suc}
 use mathlib.Core.Bool.{Bool, true, false}
@@ -7,11 +8,13 @@ use mathlib.Core.Option.{Option, none, some}
 use lib.Dec.{eqb, leb}
 use lib.ListN.{length, getD}
 use Rattle.text.specs.Bytes.{Str, ascii, cond, both}
-use Rattle.tree.specs.Tree.{Ty, plain, list, enum, struct, interface, anyPointer, parameter, Scopes, end, inherit, bind, Binds, stop, unbound, bound, kind, Node, Sheet}
+use Rattle.tree.specs.Tree.{Ty, plain, list, enum, struct, interface, anyPointer, parameter, Scopes, end, inherit, bind, Binds}
+use Rattle.tree.specs.Tree.{stop, unbound, bound, kind, Node, Sheet}
 use Rattle.codegen_types.specs.Out.{Out, ok, refused, _then_}
 use Rattle.codegen_types.specs.Leaf.{bareName, display, lifetime, lifetimeComma, leafArguments, maybeColons}
 use Rattle.codegen_types.specs.declared.Leaf.{Leaf}
-use Rattle.codegen_types.specs.declared.Leaf.the-variants.{Reader, Builder, Owned, Client, Server, ServerDispatch, Pipeline, GetType}
+use Rattle.codegen_types.specs.declared.Leaf.the-variants.{Reader, Builder, Owned, Client, Server, ServerDispatch}
+use Rattle.codegen_types.specs.declared.Leaf.the-variants.{Pipeline, GetType}
 
 -- is_prim, is_pointer, is_parameter
 abbrev pub isPrim : Ty → Bool
@@ -128,7 +131,8 @@ listString root leaf k inner =
     (cond (eqb k 13) (ok (root ++ ascii "::data_list::" ++ display leaf))
     (cond (eqb k 18) (refused 6)
     (inner then λ t.
-    ok (root ++ ascii "::" ++ listModule k ++ ascii "::" ++ bareName leaf ++ ascii "<" ++ lifetimeComma leaf ++ t ++ ascii ">"))))
+    ok (root ++ ascii "::" ++ listModule k ++ ascii "::" ++ bareName leaf ++ ascii "<" ++ lifetimeComma leaf ++ t ++ ascii
+    ">"))))
 
 -- parameters.get(index)
 unfoldable pub parameterName : List Str → ℕ → Out Str
@@ -137,8 +141,10 @@ parameterName (p ∷ ps) zero = ok p
 parameterName (p ∷ ps) (suc k) = parameterName ps k
 
 unfoldable pub parameterString : Str → Leaf → Str → Out Str
-parameterString root (Reader lt) p = ok (ascii "<" ++ p ++ ascii " as " ++ root ++ ascii "::traits::Owned>::Reader<" ++ lifetime lt ++ ascii ">")
-parameterString root (Builder lt) p = ok (ascii "<" ++ p ++ ascii " as " ++ root ++ ascii "::traits::Owned>::Builder<" ++ lifetime lt ++ ascii ">")
+parameterString root (Reader lt) p = ok (ascii "<" ++ p ++ ascii " as " ++ root ++ ascii "::traits::Owned>::Reader<" ++ lifetime
+    lt ++ ascii ">")
+parameterString root (Builder lt) p = ok (ascii "<" ++ p ++ ascii " as " ++ root ++ ascii "::traits::Owned>::Builder<" ++
+    lifetime lt ++ ascii ">")
 parameterString root Owned p = ok p
 parameterString root Client p = refused 7
 parameterString root Server p = refused 7

@@ -1,4 +1,5 @@
--- Laws of what stands where in a sheet: what a reader reads is pastRows over by counting what is owed, the scope that counts is the last one
+-- Laws of what stands where in a sheet: what a reader reads is pastRows over by counting what is owed, the scope that counts is
+-- the last one
 -- with its id, and an index finds a sheet's nodes. By induction on levels, counts and rows. Assumes nothing.
 use mathlib.Core.Path.{_≡_, refl, sym, ap, _∙_}
 use mathlib.Core.Bool.{Bool, true, false, not}
@@ -30,12 +31,14 @@ use Rattle.tree.specs.Read.{typeOf, typeFrom, bindingOf, paramsOf, among}
 use Rattle.codegen_types.specs.Out.{Out, ok, refused}
 use Rattle.codegen_types.specs.TypeString as typeString
 use Rattle.codegen_types.specs.TypeString.{nodeOf, orElse, scopeOf, scopesOf, bindingsOf}
-use Rattle.find.specs.Find.{On, After, owed, pastRows, lastScope, ScopeHere, ScopeIs, namesOf, nameAt, NodeHere, Indexed, lookup}
+use Rattle.tree.specs.Index.{On, Indexed}
+use Rattle.find.specs.Find.{After, owed, pastRows, lastScope, ScopeHere, ScopeIs, namesOf, nameAt, NodeHere, lookup}
 use Rattle.find.specs.declared.Found.{Found}
 use Rattle.find.specs.declared.Found.the-variants.{At, Nothing}
 
 -- what holds for a letter's lines and for all others
-pub as-type : {A : Type 0} (P : A → Type 0) (l : Line) (y : (ℕ → ℕ → ℕ → ℕ → A)) (z : A) → ((k a b c : ℕ) → l ≡ Typ k a b c → P (y k a b c)) → P z → P (asType l y z)
+pub as-type : {A : Type 0} (P : A → Type 0) (l : Line) (y : (ℕ → ℕ → ℕ → ℕ → A)) (z : A)
+    → ((k a b c : ℕ) → l ≡ Typ k a b c → P (y k a b c)) → P z → P (asType l y z)
 as-type P Root this other f g = g
 as-type P (Node i q k x y c o) this other f g = g
 as-type P Parameter this other f g = g
@@ -48,7 +51,8 @@ as-type P (Value k b) this other f g = g
 as-type P (Word x) this other f g = g
 as-type P Bad this other f g = g
 
-pub as-scope : {A : Type 0} (P : A → Type 0) (l : Line) (y : (ℕ → ℕ → ℕ → A)) (z : A) → ((i b c : ℕ) → l ≡ Scope i b c → P (y i b c)) → P z → P (asScope l y z)
+pub as-scope : {A : Type 0} (P : A → Type 0) (l : Line) (y : (ℕ → ℕ → ℕ → A)) (z : A)
+    → ((i b c : ℕ) → l ≡ Scope i b c → P (y i b c)) → P z → P (asScope l y z)
 as-scope P Root this other f g = g
 as-scope P (Node i q k x y c o) this other f g = g
 as-scope P Parameter this other f g = g
@@ -74,7 +78,8 @@ as-unbound P (Value k b) this other f g = g
 as-unbound P (Word x) this other f g = g
 as-unbound P Bad this other f g = g
 
-pub as-parameter : {A : Type 0} (P : A → Type 0) (l : Line) (y : A) (z : A) → (l ≡ Parameter → P y) → P z → P (asParameter l y z)
+pub as-parameter : {A : Type 0} (P : A → Type 0) (l : Line) (y : A) (z : A) → (l ≡ Parameter → P y) → P z
+    → P (asParameter l y z)
 as-parameter P Root this other f g = g
 as-parameter P (Node i q k x y c o) this other f g = g
 as-parameter P Parameter this other f g = f refl
@@ -87,7 +92,8 @@ as-parameter P (Value k b) this other f g = g
 as-parameter P (Word x) this other f g = g
 as-parameter P Bad this other f g = g
 
-pub as-node : {A : Type 0} (P : A → Type 0) (l : Line) (y : (ℕ → ℕ → ℕ → ℕ → ℕ → ℕ → ℕ → A)) (z : A) → ((i q k x y′ c o : ℕ) → l ≡ Node i q k x y′ c o → P (y i q k x y′ c o)) → P z → P (asNode l y z)
+pub as-node : {A : Type 0} (P : A → Type 0) (l : Line) (y : (ℕ → ℕ → ℕ → ℕ → ℕ → ℕ → ℕ → A)) (z : A)
+    → ((i q k x y′ c o : ℕ) → l ≡ Node i q k x y′ c o → P (y i q k x y′ c o)) → P z → P (asNode l y z)
 as-node P Root this other f g = g
 as-node P (Node i q k x y c o) this other f g = f i q k x y c o refl
 as-node P Parameter this other f g = g
@@ -149,15 +155,19 @@ past-out (r ∷ rs) (suc n) h = past-out rs (owed (lineOf r) + n) (omega arith)
 abbrev Passes : {A : Type 0} → Reader A → Type 0
 Passes one = (n : ℕ) (rs : Rows) → After (one rs) (λ rest. pastRows rs (suc n) ≡ pastRows rest n)
 
-passes-times : {A : Type 0} (one : Reader (A → A)) (base : A) → Passes one → (k n : ℕ) (rs : Rows) → After (times one base k rs) (λ rest. pastRows rs (k + n) ≡ pastRows rest n)
+passes-times : {A : Type 0} (one : Reader (A → A)) (base : A) → Passes one → (k n : ℕ) (rs : Rows)
+    → After (times one base k rs) (λ rest. pastRows rs (k + n) ≡ pastRows rest n)
 unfolding times
 passes-times one base h zero n rs = rw zero-add
 passes-times {A} one base h (suc k) n rs = rw suc-add (go (passes-times one base h k n) (one rs) (h (k + n) rs))
   where
-    go : ((rs : Rows) → After (times one base k rs) (λ rest. pastRows rs (k + n) ≡ pastRows rest n)) → (g : Reading (A → A)) → After g (λ rest. pastRows rs (suc (k + n)) ≡ pastRows rest (k + n)) → After (g then λ f. mapR f (times one base k)) (λ rest. pastRows rs (suc (k + n)) ≡ pastRows rest n)
+    go : ((rs : Rows) → After (times one base k rs) (λ rest. pastRows rs (k + n) ≡ pastRows rest n)) → (g : Reading (A → A))
+        → After g (λ rest. pastRows rs (suc (k + n)) ≡ pastRows rest (k + n))
+        → After (g then λ f. mapR f (times one base k)) (λ rest. pastRows rs (suc (k + n)) ≡ pastRows rest n)
     go ih (got f q) e =
         after-map f (λ rest. pastRows rs (suc (k + n)) ≡ pastRows rest n) (times one base k q)
-        (after-one (λ rest. pastRows q (k + n) ≡ pastRows rest n) (λ rest. pastRows rs (suc (k + n)) ≡ pastRows rest n) (times one base k q) (λ rest i. e ∙ i) (ih q))
+        (after-one (λ rest. pastRows q (k + n) ≡ pastRows rest n) (λ rest. pastRows rs (suc (k + n)) ≡ pastRows rest n)
+        (times one base k q) (λ rest i. e ∙ i) (ih q))
     go ih (no j q) e = tt
 
 passes-binding : (ty : Reader Ty) → Passes ty → Passes (bindingOf ty)
@@ -175,31 +185,42 @@ passes-scope ty h n rs =
     tt
   where
     go : (i b c : ℕ) → lineAt rs ≡ Scope i b c → (t : Bool) → eqb b 0 ≡ t
-        → After {A = Scopes → Scopes} (cond t (got (λ ss. inherit i ss)) (mapR (λ bs ss. bind i bs ss) (times (bindingOf ty) stop c)) (restOf rs)) (λ rest. pastRows rs (suc n) ≡ pastRows rest n)
+        → After {A = Scopes → Scopes} (cond t (got (λ ss. inherit i ss))
+        (mapR (λ bs ss. bind i bs ss) (times (bindingOf ty) stop c)) (restOf rs))
+        (λ rest. pastRows rs (suc n) ≡ pastRows rest n)
     go i b c e true z = past-next rs n ∙ rw (e, z, zero-add)
     go i b c e false z =
-        after-map (λ bs ss. bind i bs ss) (λ rest. pastRows rs (suc n) ≡ pastRows rest n) (times (bindingOf ty) stop c (restOf rs))
-        (after-one (λ rest. pastRows (restOf rs) (c + n) ≡ pastRows rest n) (λ rest. pastRows rs (suc n) ≡ pastRows rest n) (times (bindingOf ty) stop c (restOf rs))
+        after-map (λ bs ss. bind i bs ss) (λ rest. pastRows rs (suc n) ≡ pastRows rest n)
+        (times (bindingOf ty) stop c (restOf rs))
+        (after-one (λ rest. pastRows (restOf rs) (c + n) ≡ pastRows rest n) (λ rest. pastRows rs (suc n) ≡ pastRows rest n)
+        (times (bindingOf ty) stop c (restOf rs))
         (λ rest j. past-next rs n ∙ rw (e, z) j) (passes-times (bindingOf ty) stop (passes-binding ty h) c n (restOf rs)))
 
 pub passes-type : (left : ℕ) → Passes (typeOf left)
 unfolding typeOf typeFrom owed
 passes-type zero n rs =
-    as-type (λ (f : Reader Ty). After (f rs) (λ rest. pastRows rs (suc n) ≡ pastRows rest n)) (lineAt rs) _ _ (λ k a b c e. tt) tt
+    as-type (λ (f : Reader Ty). After (f rs) (λ rest. pastRows rs (suc n) ≡ pastRows rest n)) (lineAt rs) _ _ (λ k a b c e. tt)
+    tt
 passes-type (suc l) n rs = made (passes-type l)
   where
-    go : Passes (typeOf l) → (k a b c : ℕ) → lineAt rs ≡ Typ k a b c → (x y z : Bool) → ltb k 14 ≡ x → eqb k 14 ≡ y → ltb k 18 ≡ z
-        → After (cond x (got (tree.plain k)) (cond y (mapR (λ t. tree.list t) (typeOf l)) (cond z (mapR (read.branded k a) (times (read.scopeOf (typeOf l)) end b)) (got (read.pointer a b c)))) (restOf rs))
+    go : Passes (typeOf l) → (k a b c : ℕ) → lineAt rs ≡ Typ k a b c → (x y z : Bool) → ltb k 14 ≡ x → eqb k 14 ≡ y
+        → ltb k 18 ≡ z
+        → After (cond x (got (tree.plain k)) (cond y (mapR (λ t. tree.list t) (typeOf l))
+        (cond z (mapR (read.branded k a) (times (read.scopeOf (typeOf l)) end b)) (got (read.pointer a b c)))) (restOf rs))
         (λ rest. pastRows rs (suc n) ≡ pastRows rest n)
     go ih k a b c e true y z p q r = past-next rs n ∙ rw (e, p, zero-add)
     go ih k a b c e false true z p q r =
         after-map (λ t. tree.list t) (λ rest. pastRows rs (suc n) ≡ pastRows rest n) (typeOf l (restOf rs))
-        (after-one (λ rest. pastRows (restOf rs) (suc n) ≡ pastRows rest n) (λ rest. pastRows rs (suc n) ≡ pastRows rest n) (typeOf l (restOf rs))
+        (after-one (λ rest. pastRows (restOf rs) (suc n) ≡ pastRows rest n) (λ rest. pastRows rs (suc n) ≡ pastRows rest n)
+        (typeOf l (restOf rs))
         (λ rest j. past-next rs n ∙ rw (e, p, q, one-add) j) (ih n (restOf rs)))
     go ih k a b c e false false true p q r =
-        after-map (read.branded k a) (λ rest. pastRows rs (suc n) ≡ pastRows rest n) (times (read.scopeOf (typeOf l)) end b (restOf rs))
-        (after-one (λ rest. pastRows (restOf rs) (b + n) ≡ pastRows rest n) (λ rest. pastRows rs (suc n) ≡ pastRows rest n) (times (read.scopeOf (typeOf l)) end b (restOf rs))
-        (λ rest j. past-next rs n ∙ rw (e, p, q, r) j) (passes-times (read.scopeOf (typeOf l)) end (passes-scope (typeOf l) ih) b n (restOf rs)))
+        after-map (read.branded k a) (λ rest. pastRows rs (suc n) ≡ pastRows rest n)
+        (times (read.scopeOf (typeOf l)) end b (restOf rs))
+        (after-one (λ rest. pastRows (restOf rs) (b + n) ≡ pastRows rest n) (λ rest. pastRows rs (suc n) ≡ pastRows rest n)
+        (times (read.scopeOf (typeOf l)) end b (restOf rs))
+        (λ rest j. past-next rs n ∙ rw (e, p, q, r) j) (passes-times (read.scopeOf (typeOf l)) end (passes-scope (typeOf l) ih)
+        b n (restOf rs)))
     go ih k a b c e false false false p q r = past-next rs n ∙ rw (e, p, q, r, zero-add)
 
     made : Passes (typeOf l) → After (onType (typeFrom (typeOf l)) (no 2) rs) (λ rest. pastRows rs (suc n) ≡ pastRows rest n)
@@ -210,7 +231,8 @@ passes-type (suc l) n rs = made (passes-type l)
 -- the rows after a type
 pub past-type : (left : ℕ) (rs : Rows) → After (typeOf left rs) (λ rest. pastRows rs 1 ≡ rest)
 past-type left rs =
-    after-one (λ rest. pastRows rs 1 ≡ pastRows rest 0) (λ rest. pastRows rs 1 ≡ rest) (typeOf left rs) (λ rest e. e ∙ past-none rest) (passes-type left 0 rs)
+    after-one (λ rest. pastRows rs 1 ≡ pastRows rest 0) (λ rest. pastRows rs 1 ≡ rest) (typeOf left rs)
+    (λ rest e. e ∙ past-none rest) (passes-type left 0 rs)
 
 -- the rows after a binding
 pub past-binding : (left : ℕ) (rs : Rows) → After (bindingOf (typeOf left) rs) (λ rest. pastRows rs 1 ≡ rest)
@@ -219,9 +241,11 @@ past-binding left rs =
     (λ rest e. e ∙ past-none rest) (passes-binding (typeOf left) (passes-type left) 0 rs)
 
 -- the rows after a scope
-past-scope : (left : ℕ) (rs : Rows) → After (read.scopeOf (typeOf left) rs) (λ rest. pastRows (restOf rs) (owed (lineAt rs)) ≡ rest)
+past-scope : (left : ℕ) (rs : Rows) → After (read.scopeOf (typeOf left) rs)
+    (λ rest. pastRows (restOf rs) (owed (lineAt rs)) ≡ rest)
 past-scope left rs =
-    after-one (λ rest. pastRows rs 1 ≡ pastRows rest 0) (λ rest. pastRows (restOf rs) (owed (lineAt rs)) ≡ rest) (read.scopeOf (typeOf left) rs)
+    after-one (λ rest. pastRows rs 1 ≡ pastRows rest 0) (λ rest. pastRows (restOf rs) (owed (lineAt rs)) ≡ rest)
+    (read.scopeOf (typeOf left) rs)
     (λ rest e. rw add-zero at (sym (past-next rs 0)) ∙ e ∙ past-none rest) (passes-scope (typeOf left) (passes-type left) 0 rs)
 
 -- a text has no more rows than bytes
@@ -230,7 +254,8 @@ unfolding rows onto
 rows-length [] = omega arith
 rows-length (b ∷ s) = go (eqb b 10) (rows s) (rows-length s)
   where
-    go : (t : Bool) (rs : Rows) → length rs ≤ length s → length {A = Str} (elim t [ true ↦ (b ∷ []) ∷ rs | false ↦ onto b rs ]) ≤ suc (length s)
+    go : (t : Bool) (rs : Rows) → length rs ≤ length s → length {A = Str} (elim t [ true ↦ (b ∷ []) ∷ rs | false ↦ onto b rs ])
+        ≤ suc (length s)
     go true rs h = omega arith
     go false [] h = omega arith
     go false (r ∷ rs) h = omega arith
@@ -255,13 +280,15 @@ past-turn : (rs : Rows) (n : ℕ) → 0 < n → pastRows rs n ≡ pastRows (rest
 past-turn rs zero h = let z : ⊥ = omega arith in absurd z
 past-turn rs (suc n) h = rw (sub-one (suc n)) (past-next rs n)
 
-pub past-on : (rs rest : Rows) (n m : ℕ) (l : Line) → 0 < n → l ≡ lineAt rs → rest ≡ restOf rs → m ≡ owed l → pastRows rs n ≡ pastRows rest (m + (n - 1))
+pub past-on : (rs rest : Rows) (n m : ℕ) (l : Line) → 0 < n → l ≡ lineAt rs → rest ≡ restOf rs → m ≡ owed l
+    → pastRows rs n ≡ pastRows rest (m + (n - 1))
 past-on rs rest n m l h e f g = past-turn rs n h ∙ rw (← e, ← f, ← g) refl
 
 -- more is owed than a text can have rows
 pub past-far : (s : Str) (at n : ℕ) → length s ≤ n → rows (drop (length s) s) ≡ pastRows (rows (drop at s)) n
 past-far s at n h =
-    rows-out s (length s) (omega arith) ∙ sym (past-out (rows (drop at s)) n (omega (arith, rows-length (drop at s), length-drop at s)))
+    rows-out s (length s) (omega arith) ∙ sym (past-out (rows (drop at s)) n
+    (omega (arith, rows-length (drop at s), length-drop at s)))
 
 pub past-done : (rs : Rows) (n : ℕ) → n ≤ 0 → pastRows rs n ≡ rs
 past-done rs n h = let z : n ≡ 0 = omega arith in rw z (past-none rs)
@@ -284,20 +311,32 @@ record OneScope (sheet : Sheet) (rs : Rows) (f : Scopes → Scopes) : Type 0 whe
 one-scope : (left : ℕ) (sheet : Sheet) (rs : Rows) → On (read.scopeOf (typeOf left) rs) (OneScope sheet rs)
 unfolding read.scopeOf scopesOf
 one-scope left sheet rs =
-    as-scope (λ (f : Reader (Scopes → Scopes)). On (f rs) (OneScope sheet rs)) (lineAt rs) _ _ (λ i b c e. go i b c e (eqb b 0)) tt
+    as-scope (λ (f : Reader (Scopes → Scopes)). On (f rs) (OneScope sheet rs)) (lineAt rs) _ _ (λ i b c e. go i b c e (eqb b 0))
+    tt
   where
     go : (i b c : ℕ) → lineAt rs ≡ Scope i b c → (t : Bool)
-        → On {A = Scopes → Scopes} (cond t (got (λ ss. inherit i ss)) (mapR (λ bs ss. bind i bs ss) (times (bindingOf (typeOf left)) stop c)) (restOf rs)) (OneScope sheet rs)
+        → On {A = Scopes → Scopes} (cond t (got (λ ss. inherit i ss))
+        (mapR (λ bs ss. bind i bs ss) (times (bindingOf (typeOf left)) stop c)) (restOf rs)) (OneScope sheet rs)
     go i b c e true = record { id = i; kind = b; count = c; scope = typeString.inherited; line = e; first = λ ss. refl }
     go i b c e false =
         on-map (λ bs ss. bind i bs ss) (OneScope sheet rs) (times (bindingOf (typeOf left)) stop c (restOf rs))
         (on-all {P = λ bs. OneScope sheet rs (λ ss. bind i bs ss)}
-        (λ bs. record { id = i; kind = b; count = c; scope = typeString.binds (bindingsOf bs sheet); line = e; first = λ ss. refl })
+        (λ bs. record {
+          id = i;
+          kind = b;
+          count = c;
+          scope = typeString.binds (bindingsOf bs sheet);
+          line = e;
+          first = λ ss.
+              refl;
+        })
         (times (bindingOf (typeOf left)) stop c (restOf rs)))
 
 -- the last of n scopes with an id is the one that scopeOf finds
-scope-found : (left id : ℕ) (sheet : Sheet) (n : ℕ) (rs : Rows) (found : Option Rows) (o : Option typeString.Scope) → ScopeIs left sheet found o
-    → On (times (read.scopeOf (typeOf left)) end n rs) (λ ss. ScopeIs left sheet (lastScope id n rs found) (orElse (scopeOf id (scopesOf ss sheet)) o))
+scope-found : (left id : ℕ) (sheet : Sheet) (n : ℕ) (rs : Rows) (found : Option Rows) (o : Option typeString.Scope)
+    → ScopeIs left sheet found o
+    → On (times (read.scopeOf (typeOf left)) end n rs) (λ ss. ScopeIs left sheet (lastScope id n rs found)
+    (orElse (scopeOf id (scopesOf ss sheet)) o))
 unfolding times lastScope scopeOf scopesOf ScopeHere
 scope-found left id sheet zero rs found o h = h
 scope-found left id sheet (suc n) rs found o h =
@@ -306,35 +345,46 @@ scope-found left id sheet (suc n) rs found o h =
     rest : Rows
     rest = pastRows (restOf rs) (owed (lineAt rs))
 
-    more : (i : ℕ) (x : typeString.Scope) (t : Bool) (y : Option typeString.Scope) → orElse y (cond t (some x) o) ≡ orElse (orElse y (cond t (some x) none)) o
+    more : (i : ℕ) (x : typeString.Scope) (t : Bool) (y : Option typeString.Scope)
+        → orElse y (cond t (some x) o) ≡ orElse (orElse y (cond t (some x) none)) o
     more i x true none = refl
     more i x true (some y) = refl
     more i x false none = refl
     more i x false (some y) = refl
 
-    here : (f : Scopes → Scopes) (q : Rows) → read.scopeOf (typeOf left) rs ≡ got f q → (x : OneScope sheet rs f) (t : Bool) → ScopeIs left sheet (cond t (some rs) found) (cond t (some (x .scope)) o)
+    here : (f : Scopes → Scopes) (q : Rows) → read.scopeOf (typeOf left) rs ≡ got f q → (x : OneScope sheet rs f) (t : Bool)
+        → ScopeIs left sheet (cond t (some rs) found) (cond t (some (x .scope)) o)
     here f q e x true = rw (e, x .first end) refl
     here f q e x false = h
 
-    go : (g : Reading (Scopes → Scopes)) → read.scopeOf (typeOf left) rs ≡ g → On g (OneScope sheet rs) → After g (λ q. rest ≡ q)
+    go : (g : Reading (Scopes → Scopes)) → read.scopeOf (typeOf left) rs ≡ g → On g (OneScope sheet rs)
+        → After g (λ q. rest ≡ q)
         → ((rs : Rows) (found : Option Rows) (o : Option typeString.Scope) → ScopeIs left sheet found o
-        → On (times (read.scopeOf (typeOf left)) end n rs) (λ ss. ScopeIs left sheet (lastScope id n rs found) (orElse (scopeOf id (scopesOf ss sheet)) o)))
+        → On (times (read.scopeOf (typeOf left)) end n rs) (λ ss. ScopeIs left sheet (lastScope id n rs found)
+        (orElse (scopeOf id (scopesOf ss sheet)) o)))
         → On (g then λ f. mapR f (times (read.scopeOf (typeOf left)) end n))
-        (λ ss. ScopeIs left sheet (asScope (lineAt rs) (λ i b m. lastScope id n rest (cond (eqb i id) (some rs) found)) found) (orElse (scopeOf id (scopesOf ss sheet)) o))
+        (λ ss. ScopeIs left sheet (asScope (lineAt rs) (λ i b m. lastScope id n rest (cond (eqb i id) (some rs) found)) found)
+        (orElse (scopeOf id (scopesOf ss sheet)) o))
     go (no k q) e x p ih = tt
     go (got f q) e x p ih =
-        on-map f (λ ss. ScopeIs left sheet (asScope (lineAt rs) (λ i b m. lastScope id n rest (cond (eqb i id) (some rs) found)) found) (orElse (scopeOf id (scopesOf ss sheet)) o))
+        on-map f (λ ss. ScopeIs left sheet (asScope (lineAt rs) (λ i b m. lastScope id n rest (cond (eqb i id) (some rs) found))
+        found) (orElse (scopeOf id (scopesOf ss sheet)) o))
         (times (read.scopeOf (typeOf left)) end n q)
-        (on-one (λ ss. ScopeIs left sheet (lastScope id n q (cond (eqb (x .id) id) (some rs) found)) (orElse (scopeOf id (scopesOf ss sheet)) (cond (eqb (x .id) id) (some (x .scope)) o)))
-        (λ ss. ScopeIs left sheet (asScope (lineAt rs) (λ i b m. lastScope id n rest (cond (eqb i id) (some rs) found)) found) (orElse (scopeOf id (scopesOf (f ss) sheet)) o))
+        (on-one (λ ss. ScopeIs left sheet (lastScope id n q (cond (eqb (x .id) id) (some rs) found))
+        (orElse (scopeOf id (scopesOf ss sheet)) (cond (eqb (x .id) id) (some (x .scope)) o)))
+        (λ ss. ScopeIs left sheet (asScope (lineAt rs) (λ i b m. lastScope id n rest (cond (eqb i id) (some rs) found)) found)
+        (orElse (scopeOf id (scopesOf (f ss) sheet)) o))
         (times (read.scopeOf (typeOf left)) end n q)
         (λ ss w. rw (p, x .line, x .first ss, ← more (x .id) (x .scope) (eqb (x .id) id) (scopeOf id (scopesOf ss sheet))) w)
-        (ih q (cond (eqb (x .id) id) (some rs) found) (cond (eqb (x .id) id) (some (x .scope)) o) (here f q e x (eqb (x .id) id))))
+        (ih q (cond (eqb (x .id) id) (some rs) found) (cond (eqb (x .id) id) (some (x .scope)) o)
+        (here f q e x (eqb (x .id) id))))
 
 pub scope-counts : (left id : ℕ) (sheet : Sheet) (n : ℕ) (rs : Rows)
-    → On (times (read.scopeOf (typeOf left)) end n rs) (λ ss. ScopeIs left sheet (lastScope id n rs none) (scopeOf id (scopesOf ss sheet)))
+    → On (times (read.scopeOf (typeOf left)) end n rs) (λ ss. ScopeIs left sheet (lastScope id n rs none)
+    (scopeOf id (scopesOf ss sheet)))
 scope-counts left id sheet n rs =
-    on-one (λ ss. ScopeIs left sheet (lastScope id n rs none) (orElse (scopeOf id (scopesOf ss sheet)) none)) (λ ss. ScopeIs left sheet (lastScope id n rs none) (scopeOf id (scopesOf ss sheet)))
+    on-one (λ ss. ScopeIs left sheet (lastScope id n rs none) (orElse (scopeOf id (scopesOf ss sheet)) none))
+    (λ ss. ScopeIs left sheet (lastScope id n rs none) (scopeOf id (scopesOf ss sheet)))
     (times (read.scopeOf (typeOf left)) end n rs) (λ ss h. rw or-none at h) (scope-found left id sheet n rs none none refl)
   where
     or-none : (y : Option typeString.Scope) → orElse y none ≡ y
@@ -343,24 +393,6 @@ scope-counts left id sheet n rs =
 
 -- ---- nodes
 
--- a node that was looked for: its rows are there, or it is not in the sheet
-abbrev pub NodeIs : Str → Found → Out tree.Node → Type 0
-NodeIs s (At at) (ok n) = NodeHere (rows (drop at s)) n
-NodeIs s (At at) (refused k) = ⊥
-NodeIs s Nothing o = o ≡ refused 5
-
-pub node-found : (s : Str) (ns : List tree.Node) (ids ats : List ℕ) (id : ℕ) → Indexed s ns ids ats → NodeIs s (lookup id ids ats) (nodeOf ns id)
-unfolding lookup nodeOf Indexed
-node-found s [] [] ats id x = refl
-node-found s [] (i ∷ ids) ats id x = absurd x
-node-found s (n ∷ ns) [] ats id x = absurd x
-node-found s (n ∷ ns) (i ∷ ids) [] id x = absurd x
-node-found s (n ∷ ns) (i ∷ ids) (a ∷ ats) id x = rw (x .0) (go (node-found s ns ids ats id (x .2)) (eqb (n .id) id))
-  where
-    go : NodeIs s (lookup id ids ats) (nodeOf ns id) → (t : Bool) → NodeIs s (cond t (At a) (lookup id ids ats)) (cond t (ok n) (nodeOf ns id))
-    go ih true = x .1
-    go ih false = ih
-
 -- the names of a node's P rows are what the reader of P rows reads
 pub params-names : (rs : Rows) → On (paramsOf rs) (λ ps. ps ≡ namesOf rs)
 unfolding paramsOf namesOf lineAt textAt restOf
@@ -368,8 +400,11 @@ params-names [] = refl
 params-names (r ∷ rs) = go (lineOf r) (params-names rs)
   where
     go : (l : Line) → On (paramsOf rs) (λ ps. ps ≡ namesOf rs)
-        → On (asParameter {A = Reader (List Str)} l (λ q. paramsOf rs then λ ps. got (textAt q ∷ ps)) (got []) (r ∷ rs)) (λ ps. ps ≡ asParameter l (textOf r ∷ namesOf rs) [])
-    go Parameter ih = on-map (λ ps. textOf r ∷ ps) (λ ps. ps ≡ textOf r ∷ namesOf rs) (paramsOf rs) (on-one (λ ps. ps ≡ namesOf rs) (λ ps. textOf r ∷ ps ≡ textOf r ∷ namesOf rs) (paramsOf rs) (λ ps e. ap (λ (l : List Str). textOf r ∷ l) e) ih)
+        → On (asParameter {A = Reader (List Str)} l (λ q. paramsOf rs then λ ps. got (textAt q ∷ ps)) (got []) (r ∷ rs))
+        (λ ps. ps ≡ asParameter l (textOf r ∷ namesOf rs) [])
+    go Parameter ih = on-map (λ ps. textOf r ∷ ps) (λ ps. ps ≡ textOf r ∷ namesOf rs) (paramsOf rs)
+        (on-one (λ ps. ps ≡ namesOf rs) (λ ps. textOf r ∷ ps ≡ textOf r ∷ namesOf rs) (paramsOf rs)
+        (λ ps e. ap (λ (l : List Str). textOf r ∷ l) e) ih)
     go Root ih = refl
     go (Node i q k x y c o) ih = refl
     go (Field o d e q) ih = refl
@@ -396,11 +431,13 @@ pub lookup-out : (id : ℕ) (ids ats : List ℕ) (i : ℕ) → length ids ≤ i 
 unfolding lookup
 lookup-out id ids ats i h = rw (drop-of-length-le ids h)
 
-pub lookup-hit : (id : ℕ) (ids ats : List ℕ) (i : ℕ) → i < length ids → i < length ats → getD ids i 0 ≡ id → lookup id (drop i ids) (drop i ats) ≡ At (getD ats i 0)
+pub lookup-hit : (id : ℕ) (ids ats : List ℕ) (i : ℕ) → i < length ids → i < length ats → getD ids i 0 ≡ id
+    → lookup id (drop i ids) (drop i ats) ≡ At (getD ats i 0)
 unfolding lookup
 lookup-hit id ids ats i h k e = rw (drop-cons ids i 0 h, drop-cons ats i 0 k, eq-eqb _ _ e)
 
-pub lookup-miss : (id : ℕ) (ids ats : List ℕ) (i : ℕ) → i < length ids → i < length ats → (getD ids i 0 ≡ id → ⊥) → lookup id (drop i ids) (drop i ats) ≡ lookup id (drop (i + 1) ids) (drop (i + 1) ats)
+pub lookup-miss : (id : ℕ) (ids ats : List ℕ) (i : ℕ) → i < length ids → i < length ats → (getD ids i 0 ≡ id → ⊥)
+    → lookup id (drop i ids) (drop i ats) ≡ lookup id (drop (i + 1) ids) (drop (i + 1) ats)
 unfolding lookup
 lookup-miss id ids ats i h k e = rw (drop-cons ids i 0 h, drop-cons ats i 0 k, ne-eqb _ _ e, add-one)
 
@@ -413,7 +450,8 @@ pub among-hit : (id : ℕ) (ids : List ℕ) (i : ℕ) → i < length ids → get
 unfolding among
 among-hit id ids i h e = rw (drop-cons ids i 0 h, eq-eqb _ _ e)
 
-pub among-miss : (id : ℕ) (ids : List ℕ) (i : ℕ) → i < length ids → (getD ids i 0 ≡ id → ⊥) → among id (drop i ids) ≡ among id (drop (i + 1) ids)
+pub among-miss : (id : ℕ) (ids : List ℕ) (i : ℕ) → i < length ids → (getD ids i 0 ≡ id → ⊥)
+    → among id (drop i ids) ≡ among id (drop (i + 1) ids)
 unfolding among
 among-miss id ids i h e = rw (drop-cons ids i 0 h, ne-eqb _ _ e, add-one)
 
@@ -425,7 +463,8 @@ pub names-more : (rs : Rows) → asParameter (lineAt rs) true false ≡ true →
 unfolding namesOf lineAt textAt restOf
 names-more [] h = clash h
 names-more (r ∷ rs) h =
-    as-parameter (λ (b : Bool). b ≡ true → asParameter (lineOf r) (textOf r ∷ namesOf rs) [] ≡ textOf r ∷ namesOf rs) (lineOf r) true false (λ e t. rw e) (λ t. clash t) h
+    as-parameter (λ (b : Bool). b ≡ true → asParameter (lineOf r) (textOf r ∷ namesOf rs) [] ≡ textOf r ∷ namesOf rs) (lineOf r)
+    true false (λ e t. rw e) (λ t. clash t) h
 
 pub names-none : (rs : Rows) → asParameter (lineAt rs) true false ≡ false → namesOf rs ≡ []
 unfolding namesOf lineAt
@@ -453,7 +492,8 @@ eqb-less n m h = go (eqb (n - 1) m) refl
     go false e = ne-eqb n (suc m) (λ k. eqb-false (n - 1) m e (omega arith))
 
 -- one turn of counting parameters
-module _ (rs rest : Rows) (l : Line) (b : Bool) (line : l ≡ lineAt rs) (next : rest ≡ restOf rs) (is : b ≡ asParameter l true false) where
+module _ (rs rest : Rows) (l : Line) (b : Bool) (line : l ≡ lineAt rs) (next : rest ≡ restOf rs)
+    (is : b ≡ asParameter l true false) where
   here : (c : Bool) → b ≡ c → asParameter (lineAt rs) true false ≡ c
   here c e = rw (← line) (sym is ∙ e)
 
@@ -489,12 +529,14 @@ unfolding lastScope
 scope-none id zero rs found h = refl
 scope-none id (suc n) rs found h = let z : ⊥ = omega arith in absurd z
 
-pub scope-other : (id n : ℕ) (rs : Rows) (found : Option Rows) (l : Line) → l ≡ lineAt rs → OneOf (0 ∷ 1 ∷ 2 ∷ 3 ∷ 4 ∷ 5 ∷ 7 ∷ 8 ∷ 9 ∷ 10 ∷ []) (tagOf the-type l) → lastScope id n rs found ≡ found
+pub scope-other : (id n : ℕ) (rs : Rows) (found : Option Rows) (l : Line) → l ≡ lineAt rs
+    → OneOf (0 ∷ 1 ∷ 2 ∷ 3 ∷ 4 ∷ 5 ∷ 7 ∷ 8 ∷ 9 ∷ 10 ∷ []) (tagOf the-type l) → lastScope id n rs found ≡ found
 unfolding lastScope
 scope-other id zero rs found l e h = refl
 scope-other id (suc n) rs found l e h = rw (← e, not-scope l _ _ h)
 
-module _ (id n : ℕ) (rs next rest : Rows) (found : Option Rows) (l : Line) (m i b c : ℕ) (more : 0 < n) (line : l ≡ lineAt rs) (is : l ≡ Scope i b c)
+module _ (id n : ℕ) (rs next rest : Rows) (found : Option Rows) (l : Line) (m i b c : ℕ) (more : 0 < n) (line : l ≡ lineAt rs)
+    (is : l ≡ Scope i b c)
     (after : next ≡ restOf rs) (owes : m ≡ owed (Scope i b c)) (past : rest ≡ pastRows next m) where
   turn : lastScope id n rs found ≡ lastScope id (n - 1) rest (cond (eqb i id) (some rs) found)
   unfolding lastScope

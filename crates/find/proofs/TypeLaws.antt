@@ -1,4 +1,5 @@
--- What is read of a type by its row, of scopes and of bindings: one law for each way that a walk over types can go. A claim `P` of
+-- What is read of a type by its row, of scopes and of bindings: one law for each way that a walk over types can go. A claim `P`
+-- of
 -- the type that is read follows from a claim of its parts. Assumes nothing.
 use mathlib.Core.Path.{_≡_, refl, sym, ap, _∙_, subst}
 use mathlib.Core.Bool.{Bool, true, false}
@@ -18,22 +19,26 @@ use Rattle.row.specs.Rows.{restOf}
 use Rattle.row.specs.Line.{lineAt}
 use Rattle.row.specs.declared.Line.{Line}
 use Rattle.row.specs.declared.Line.the-variants.{Typ, Scope, Unbound}
-use Rattle.tree.specs.Tree.{Ty, plain, list, enum, struct, interface, parameter, anyPointer, Scopes, end, inherit, bind, Binds, stop, unbound, bound, kind, Sheet}
+use Rattle.tree.specs.Tree.{Ty, plain, list, enum, struct, interface, parameter, anyPointer, Scopes, end, inherit, bind, Binds}
+use Rattle.tree.specs.Tree.{stop, unbound, bound, kind, Sheet}
 use Rattle.tree.specs.Reader.{Rows, Reading, got, no, Reader, _then_, mapR, times}
 use Rattle.tree.specs.Read as read
 use Rattle.tree.specs.Read.{typeOf, typeFrom, bindingOf, pointer, branded}
 use Rattle.tree.proofs.OtherLines.{not-type, not-scope, not-unbound}
 use Rattle.codegen_types.specs.Out.{Out, ok}
 use Rattle.codegen_types.specs.TypeString as typeString
-use Rattle.codegen_types.specs.TypeString.{typeString, scopesOf, bindingsOf, anyOwned, getQualifiedModule, listString, elementLeaf}
+use Rattle.codegen_types.specs.TypeString.{typeString, scopesOf, bindingsOf, anyOwned, getQualifiedModule, listString}
+use Rattle.codegen_types.specs.TypeString.{elementLeaf}
 use Rattle.codegen_types.specs.declared.Leaf.{Leaf}
 use Rattle.codegen_types.specs.declared.Leaf.the-variants.{Owned}
-use Rattle.find.specs.Find.{On, Has, After, kindAt, pastRows, firstOf, ScopeHere}
+use Rattle.tree.specs.Index.{On, Has}
+use Rattle.find.specs.Find.{After, kindAt, pastRows, firstOf, ScopeHere}
 use Rattle.find.proofs.Laws.{on-map, on-one, on-two, on-all, as-type, as-unbound, past-binding}
 
 -- ---- a type by its row
 
-typeOf-more : (left : ℕ) (rs : Rows) (k a b c : ℕ) → (left ≡ 0 → ⊥) → lineAt rs ≡ Typ k a b c → typeOf left rs ≡ typeFrom (typeOf (left - 1)) k a b c (restOf rs)
+typeOf-more : (left : ℕ) (rs : Rows) (k a b c : ℕ) → (left ≡ 0 → ⊥) → lineAt rs ≡ Typ k a b c
+    → typeOf left rs ≡ typeFrom (typeOf (left - 1)) k a b c (restOf rs)
 unfolding typeOf
 typeOf-more zero rs k a b c z e = absurd (z refl)
 typeOf-more (suc l) rs k a b c z e = rw (e, sub-one (suc l))
@@ -42,12 +47,14 @@ pub type-zero : (left : ℕ) (rs : Rows) (P : Ty → Type 0) → left ≡ 0 → 
 unfolding typeOf
 type-zero left rs P z = rw z (as-type (λ (f : Reader Ty). On (f rs) P) (lineAt rs) _ _ (λ k a b c e. tt) tt)
 
-pub type-other : (left : ℕ) (rs : Rows) (P : Ty → Type 0) (l : Line) → l ≡ lineAt rs → OneOf (0 ∷ 1 ∷ 2 ∷ 3 ∷ 4 ∷ 6 ∷ 7 ∷ 8 ∷ 9 ∷ 10 ∷ []) (tagOf the-type l) → On (typeOf left rs) P
+pub type-other : (left : ℕ) (rs : Rows) (P : Ty → Type 0) (l : Line) → l ≡ lineAt rs
+    → OneOf (0 ∷ 1 ∷ 2 ∷ 3 ∷ 4 ∷ 6 ∷ 7 ∷ 8 ∷ 9 ∷ 10 ∷ []) (tagOf the-type l) → On (typeOf left rs) P
 unfolding typeOf
 type-other zero rs P l e h = rw (← e, not-type l _ _ h) tt
 type-other (suc n) rs P l e h = rw (← e, not-type l _ _ h) tt
 
-module _ (left : ℕ) (rs rest : Rows) (k a b c : ℕ) (l : Line) (z : left ≡ 0 → ⊥) (at : l ≡ lineAt rs) (is : l ≡ Typ k a b c) (next : rest ≡ restOf rs) (P : Ty → Type 0) where
+module _ (left : ℕ) (rs rest : Rows) (k a b c : ℕ) (l : Line) (z : left ≡ 0 → ⊥) (at : l ≡ lineAt rs) (is : l ≡ Typ k a b c)
+    (next : rest ≡ restOf rs) (P : Ty → Type 0) where
   whole : On (typeFrom (typeOf (left - 1)) k a b c rest) P → On (typeOf left rs) P
   whole h = rw (typeOf-more left rs k a b c z (sym at ∙ is), ← next) h
 
@@ -59,9 +66,11 @@ module _ (left : ℕ) (rs rest : Rows) (k a b c : ℕ) (l : Line) (z : left ≡ 
   unfolding typeFrom
   type-list u h = whole (rw (le-ltb k 14 (omega arith), eq-eqb k 14 u) (on-map (λ t. list t) P (typeOf (left - 1) rest) h))
 
-  pub type-brand : 14 ≤ k → (k ≡ 14 → ⊥) → k < 18 → On (times (read.scopeOf (typeOf (left - 1))) end b rest) (λ ss. P (branded k a ss)) → On (typeOf left rs) P
+  pub type-brand : 14 ≤ k → (k ≡ 14 → ⊥) → k < 18 → On (times (read.scopeOf (typeOf (left - 1))) end b rest)
+      (λ ss. P (branded k a ss)) → On (typeOf left rs) P
   unfolding typeFrom
-  type-brand u v w h = whole (rw (le-ltb k 14 u, ne-eqb k 14 v, lt-ltb k 18 w) (on-map (branded k a) P (times (read.scopeOf (typeOf (left - 1))) end b rest) h))
+  type-brand u v w h = whole (rw (le-ltb k 14 u, ne-eqb k 14 v, lt-ltb k 18 w)
+      (on-map (branded k a) P (times (read.scopeOf (typeOf (left - 1))) end b rest) h))
 
   pub type-pointer : 18 ≤ k → P (pointer a b c) → On (typeOf left rs) P
   unfolding typeFrom
@@ -88,7 +97,8 @@ type-kind (suc n) rs =
     (λ k a b c e. rw e (go k a b c (ltb k 14) (eqb k 14) (ltb k 18) (eqb a 0) refl refl refl (restOf rs))) tt
   where
     go : (k a b c : ℕ) (x y z w : Bool) → ltb k 14 ≡ x → eqb k 14 ≡ y → ltb k 18 ≡ z → (q : Rows)
-        → On (cond x (got (plain k)) (cond y (mapR (λ t. list t) (typeOf n)) (cond z (mapR (branded k a) (times (read.scopeOf (typeOf n)) end b)) (got (cond w anyPointer (parameter b c))))) q)
+        → On (cond x (got (plain k)) (cond y (mapR (λ t. list t) (typeOf n))
+        (cond z (mapR (branded k a) (times (read.scopeOf (typeOf n)) end b)) (got (cond w anyPointer (parameter b c))))) q)
         (λ ty. kind ty ≡ cond z k 18)
     go k a b c true y z w e f g q = let u = ltb-true k 14 e in sym (below k z g (omega arith))
     go k a b c false true z w e f g q =
@@ -98,21 +108,26 @@ type-kind (suc n) rs =
     go k a b c false false true w e f g q =
         let u = ltb-false k 14 e in let v = eqb-false k 14 f in
         on-map (branded k a) (λ ty. kind ty ≡ k) (times (read.scopeOf (typeOf n)) end b q)
-        (on-all {P = λ ss. kind (branded k a ss) ≡ k} (λ ss. branded-kind k a ss (omega arith) (ltb-true k 18 g)) (times (read.scopeOf (typeOf n)) end b q))
+        (on-all {P = λ ss. kind (branded k a ss) ≡ k} (λ ss. branded-kind k a ss (omega arith) (ltb-true k 18 g))
+        (times (read.scopeOf (typeOf n)) end b q))
     go k a b c false false false true e f g q = refl
     go k a b c false false false false e f g q = refl
 
 -- ---- what `type_string` gives for lists, enums and brands: a claim `Q` of it
 
 pub of-kind : (sheet : Sheet) (leaf : Leaf) (left : ℕ) (rs : Rows) (k : ℕ) → k ≡ kindAt rs → (Q : Out Str → Type 0)
-    → On (typeOf left rs) (λ ty. Q (listString (sheet .root) leaf k (typeString ty sheet (elementLeaf k)))) → On (typeOf left rs) (λ ty. Q (typeString (list ty) sheet leaf))
+    → On (typeOf left rs) (λ ty. Q (listString (sheet .root) leaf k (typeString ty sheet (elementLeaf k))))
+    → On (typeOf left rs) (λ ty. Q (typeString (list ty) sheet leaf))
 unfolding typeString
 of-kind sheet leaf left rs k at Q h =
-    on-two (λ ty. kind ty ≡ kindAt rs) (λ ty. Q (listString (sheet .root) leaf k (typeString ty sheet (elementLeaf k)))) (λ ty. Q (typeString (list ty) sheet leaf)) (typeOf left rs)
-    (λ ty e g. subst (λ (j : ℕ). Q (listString (sheet .root) leaf j (typeString ty sheet (elementLeaf j)))) (at ∙ sym e) g) (type-kind left rs) h
+    on-two (λ ty. kind ty ≡ kindAt rs) (λ ty. Q (listString (sheet .root) leaf k (typeString ty sheet (elementLeaf k))))
+    (λ ty. Q (typeString (list ty) sheet leaf)) (typeOf left rs)
+    (λ ty e g. subst (λ (j : ℕ). Q (listString (sheet .root) leaf j (typeString ty sheet (elementLeaf j)))) (at ∙ sym e) g)
+    (type-kind left rs) h
 
 -- structs and interfaces have the same text
-brand-type : (sheet : Sheet) (leaf : Leaf) (k id : ℕ) (ss : Scopes) → (k ≡ 15 → ⊥) → typeString (struct id ss) sheet leaf ≡ typeString (branded k id ss) sheet leaf
+brand-type : (sheet : Sheet) (leaf : Leaf) (k id : ℕ) (ss : Scopes) → (k ≡ 15 → ⊥)
+    → typeString (struct id ss) sheet leaf ≡ typeString (branded k id ss) sheet leaf
 unfolding typeString
 brand-type sheet leaf k id ss z = rw (ne-eqb k 15 z) (go (eqb k 16))
   where
@@ -120,18 +135,23 @@ brand-type sheet leaf k id ss z = rw (ne-eqb k 15 z) (go (eqb k 16))
     go true = refl
     go false = refl
 
-module _ (sheet : Sheet) (leaf : Leaf) (left : ℕ) (rs rest : Rows) (k a b c : ℕ) (l : Line) (z : left ≡ 0 → ⊥) (at : l ≡ lineAt rs) (is : l ≡ Typ k a b c) (next : rest ≡ restOf rs) (Q : Out Str → Type 0) where
+module _ (sheet : Sheet) (leaf : Leaf) (left : ℕ) (rs rest : Rows) (k a b c : ℕ) (l : Line) (z : left ≡ 0 → ⊥)
+    (at : l ≡ lineAt rs) (is : l ≡ Typ k a b c) (next : rest ≡ restOf rs) (Q : Out Str → Type 0) where
   pub type-enum : k ≡ 15 → Q (getQualifiedModule sheet a) → On (typeOf left rs) (λ ty. Q (typeString ty sheet leaf))
   unfolding typeString
   type-enum e h =
-      type-brand left rs rest k a b c l z at is next (λ ty. Q (typeString ty sheet leaf)) (omega arith) (λ y. omega arith) (omega arith)
-      (on-all {P = λ ss. Q (typeString (branded k a ss) sheet leaf)} (λ ss. rw (eq-eqb k 15 e) h) (times (read.scopeOf (typeOf (left - 1))) end b rest))
+      type-brand left rs rest k a b c l z at is next (λ ty. Q (typeString ty sheet leaf)) (omega arith) (λ y. omega arith)
+      (omega arith)
+      (on-all {P = λ ss. Q (typeString (branded k a ss) sheet leaf)} (λ ss. rw (eq-eqb k 15 e) h)
+      (times (read.scopeOf (typeOf (left - 1))) end b rest))
 
-  pub type-branded : 14 ≤ k → (k ≡ 14 → ⊥) → (k ≡ 15 → ⊥) → k < 18 → On (times (read.scopeOf (typeOf (left - 1))) end b rest) (λ ss. Q (typeString (struct a ss) sheet leaf))
+  pub type-branded : 14 ≤ k → (k ≡ 14 → ⊥) → (k ≡ 15 → ⊥) → k < 18
+      → On (times (read.scopeOf (typeOf (left - 1))) end b rest) (λ ss. Q (typeString (struct a ss) sheet leaf))
       → On (typeOf left rs) (λ ty. Q (typeString ty sheet leaf))
   type-branded u v w x h =
       type-brand left rs rest k a b c l z at is next (λ ty. Q (typeString ty sheet leaf)) u v x
-      (on-one (λ ss. Q (typeString (struct a ss) sheet leaf)) (λ ss. Q (typeString (branded k a ss) sheet leaf)) (times (read.scopeOf (typeOf (left - 1))) end b rest)
+      (on-one (λ ss. Q (typeString (struct a ss) sheet leaf)) (λ ss. Q (typeString (branded k a ss) sheet leaf))
+      (times (read.scopeOf (typeOf (left - 1))) end b rest)
       (λ ss g. subst Q (brand-type sheet leaf k a ss w) g) h)
 
 -- ---- so many of something
@@ -141,7 +161,8 @@ unfolding times
 times-none one base zero rs h = refl
 times-none one base (suc n) rs h = let z : ⊥ = omega arith in absurd z
 
-times-more : {A : Type 0} (one : Reader (A → A)) (base : A) (n : ℕ) (rs : Rows) → 0 < n → times one base n rs ≡ (one rs then λ f. mapR f (times one base (n - 1)))
+times-more : {A : Type 0} (one : Reader (A → A)) (base : A) (n : ℕ) (rs : Rows) → 0 < n
+    → times one base n rs ≡ (one rs then λ f. mapR f (times one base (n - 1)))
 unfolding times
 times-more one base zero rs h = let z : ⊥ = omega arith in absurd z
 times-more one base (suc n) rs h = rw (sub-one (suc n))
@@ -157,66 +178,88 @@ one-bind left rs =
     as-unbound (λ (f : Reader (Binds → Binds)). On (f rs) OneBind) (lineAt rs) _ _
     (λ e. record { text = λ sheet. ok (anyOwned (sheet .root)); first = λ sheet bs. refl })
     (on-map (λ t bs. bound t bs) OneBind (typeOf left rs)
-    (on-all {P = λ t. OneBind (λ bs. bound t bs)} (λ t. record { text = λ sheet. typeString t sheet Owned; first = λ sheet bs. refl }) (typeOf left rs)))
+    (on-all {P = λ t. OneBind (λ bs. bound t bs)} (λ t. record
+    { text = λ sheet. typeString t sheet Owned; first = λ sheet bs. refl }) (typeOf left rs)))
 
-pub bind-unbound : (left : ℕ) (rs : Rows) (P : (Binds → Binds) → Type 0) (l : Line) → l ≡ lineAt rs → l ≡ Unbound → P (λ bs. unbound bs) → On (bindingOf (typeOf left) rs) P
+pub bind-unbound : (left : ℕ) (rs : Rows) (P : (Binds → Binds) → Type 0) (l : Line) → l ≡ lineAt rs → l ≡ Unbound
+    → P (λ bs. unbound bs) → On (bindingOf (typeOf left) rs) P
 unfolding bindingOf
 bind-unbound left rs P l at is h = rw (sym at ∙ is) h
 
-pub bind-typed : (left : ℕ) (rs : Rows) (P : (Binds → Binds) → Type 0) (l : Line) → l ≡ lineAt rs → OneOf (0 ∷ 1 ∷ 2 ∷ 3 ∷ 4 ∷ 5 ∷ 6 ∷ 8 ∷ 9 ∷ 10 ∷ []) (tagOf the-type l)
+pub bind-typed : (left : ℕ) (rs : Rows) (P : (Binds → Binds) → Type 0) (l : Line) → l ≡ lineAt rs
+    → OneOf (0 ∷ 1 ∷ 2 ∷ 3 ∷ 4 ∷ 5 ∷ 6 ∷ 8 ∷ 9 ∷ 10 ∷ []) (tagOf the-type l)
     → On (typeOf left rs) (λ t. P (λ bs. bound t bs)) → On (bindingOf (typeOf left) rs) P
 unfolding bindingOf
 bind-typed left rs P l at other h = rw (← at, not-unbound l _ _ other) (on-map (λ t bs. bound t bs) P (typeOf left rs) h)
 
 -- one binding, and the others after it
-pub binds-more : (left n : ℕ) (rs rest : Rows) → 0 < n → rest ≡ pastRows rs 1 → (P : (Binds → Binds) → Type 0) (Q R : Binds → Type 0)
+pub binds-more : (left n : ℕ) (rs rest : Rows) → 0 < n → rest ≡ pastRows rs 1
+    → (P : (Binds → Binds) → Type 0) (Q R : Binds → Type 0)
     → On (bindingOf (typeOf left) rs) P → On (times (bindingOf (typeOf left)) stop (n - 1) rest) Q
-    → ((f : Binds → Binds) → OneBind f → P f → (bs : Binds) → Q bs → R (f bs)) → On (times (bindingOf (typeOf left)) stop n rs) R
+    → ((f : Binds → Binds) → OneBind f → P f → (bs : Binds) → Q bs → R (f bs))
+    → On (times (bindingOf (typeOf left)) stop n rs) R
 binds-more left n rs rest more past P Q R first others law =
-    rw (times-more (bindingOf (typeOf left)) stop n rs more) (go (bindingOf (typeOf left) rs) first (one-bind left rs) (past-binding left rs))
+    rw (times-more (bindingOf (typeOf left)) stop n rs more)
+    (go (bindingOf (typeOf left) rs) first (one-bind left rs) (past-binding left rs))
   where
-    go : (g : Reading (Binds → Binds)) → On g P → On g OneBind → After g (λ q. pastRows rs 1 ≡ q) → On (g then λ f. mapR f (times (bindingOf (typeOf left)) stop (n - 1))) R
+    go : (g : Reading (Binds → Binds)) → On g P → On g OneBind → After g (λ q. pastRows rs 1 ≡ q)
+        → On (g then λ f. mapR f (times (bindingOf (typeOf left)) stop (n - 1))) R
     go (no k q) h o e = tt
     go (got f q) h o e =
         on-map f R (times (bindingOf (typeOf left)) stop (n - 1) q)
-        (on-one Q (λ bs. R (f bs)) (times (bindingOf (typeOf left)) stop (n - 1) q) (λ bs w. law f o h bs w) (rw (past ∙ e) at others))
+        (on-one Q (λ bs. R (f bs)) (times (bindingOf (typeOf left)) stop (n - 1) q) (λ bs w. law f o h bs w)
+        (rw (past ∙ e) at others))
 
 -- ---- a scope by its row
 
 scopeOf-more : (ty : Reader Ty) (rs : Rows) (i b m : ℕ) → lineAt rs ≡ Scope i b m
-    → read.scopeOf ty rs ≡ cond (eqb b 0) (got (λ ss. inherit i ss)) (mapR (λ bs ss. bind i bs ss) (times (bindingOf ty) stop m)) (restOf rs)
+    → read.scopeOf ty rs ≡ cond (eqb b 0) (got (λ ss. inherit i ss))
+    (mapR (λ bs ss. bind i bs ss) (times (bindingOf ty) stop m)) (restOf rs)
 unfolding read.scopeOf
 scopeOf-more ty rs i b m e = rw e
 
-pub scope-inherit : (left : ℕ) (sheet : Sheet) (rs : Rows) (o : Option typeString.Scope) (l : Line) (i b m : ℕ) → l ≡ lineAt rs → l ≡ Scope i b m → b ≡ 0
+pub scope-inherit : (left : ℕ) (sheet : Sheet) (rs : Rows) (o : Option typeString.Scope) (l : Line) (i b m : ℕ) → l ≡ lineAt rs
+    → l ≡ Scope i b m → b ≡ 0
     → ScopeHere left sheet rs o → o ≡ some typeString.inherited
 unfolding ScopeHere scopesOf
 scope-inherit left sheet rs o l i b m at is z h = rw (scopeOf-more (typeOf left) rs i b m (sym at ∙ is), eq-eqb b 0 z) at h
 
-pub scope-binds : (left : ℕ) (sheet : Sheet) (rs rest : Rows) (o : Option typeString.Scope) (l : Line) (i b m : ℕ) → l ≡ lineAt rs → l ≡ Scope i b m → rest ≡ restOf rs → (b ≡ 0 → ⊥)
-    → ScopeHere left sheet rs o → Has (times (bindingOf (typeOf left)) stop m rest) (λ bs. o ≡ some (typeString.binds (bindingsOf bs sheet)))
+pub scope-binds : (left : ℕ) (sheet : Sheet) (rs rest : Rows) (o : Option typeString.Scope) (l : Line) (i b m : ℕ)
+    → l ≡ lineAt rs → l ≡ Scope i b m → rest ≡ restOf rs → (b ≡ 0 → ⊥)
+    → ScopeHere left sheet rs o → Has (times (bindingOf (typeOf left)) stop m rest)
+    (λ bs. o ≡ some (typeString.binds (bindingsOf bs sheet)))
 unfolding ScopeHere scopesOf
 scope-binds left sheet rs rest o l i b m at is next z h =
-    go (times (bindingOf (typeOf left)) stop m rest) (rw (scopeOf-more (typeOf left) rs i b m (sym at ∙ is), ne-eqb b 0 z, ← next) at h)
+    go (times (bindingOf (typeOf left)) stop m rest) (rw (
+      scopeOf-more (typeOf left) rs i b m (sym at ∙ is),
+      ne-eqb b 0 z,
+      ←
+          next,
+    ) at h)
   where
-    go : (g : Reading Binds) → Has {A = Scopes → Scopes} (g then λ bs. got (λ ss. bind i bs ss)) (λ f. o ≡ firstOf (scopesOf (f end) sheet)) → Has g (λ bs. o ≡ some (typeString.binds (bindingsOf bs sheet)))
+    go : (g : Reading Binds) → Has {A = Scopes → Scopes} (g then λ bs. got (λ ss. bind i bs ss))
+        (λ f. o ≡ firstOf (scopesOf (f end) sheet)) → Has g (λ bs. o ≡ some (typeString.binds (bindingsOf bs sheet)))
     go (got bs q) w = w
     go (no k q) w = w
 
-pub scope-not : (left : ℕ) (sheet : Sheet) (rs : Rows) (o : Option typeString.Scope) (l : Line) → l ≡ lineAt rs → OneOf (0 ∷ 1 ∷ 2 ∷ 3 ∷ 4 ∷ 5 ∷ 7 ∷ 8 ∷ 9 ∷ 10 ∷ []) (tagOf the-type l) → ScopeHere left sheet rs o → ⊥
+pub scope-not : (left : ℕ) (sheet : Sheet) (rs : Rows) (o : Option typeString.Scope) (l : Line) → l ≡ lineAt rs
+    → OneOf (0 ∷ 1 ∷ 2 ∷ 3 ∷ 4 ∷ 5 ∷ 7 ∷ 8 ∷ 9 ∷ 10 ∷ []) (tagOf the-type l) → ScopeHere left sheet rs o → ⊥
 unfolding ScopeHere read.scopeOf
 scope-not left sheet rs o l at other h = rw (← at, not-scope l _ _ other) at h
 
 -- as many bindings are read as were announced
-pub binds-length : (left : ℕ) (sheet : Sheet) (n : ℕ) (rs : Rows) → On (times (bindingOf (typeOf left)) stop n rs) (λ bs. length (bindingsOf bs sheet) ≡ n)
+pub binds-length : (left : ℕ) (sheet : Sheet) (n : ℕ) (rs : Rows)
+    → On (times (bindingOf (typeOf left)) stop n rs) (λ bs. length (bindingsOf bs sheet) ≡ n)
 unfolding times bindingsOf
 binds-length left sheet zero rs = refl
 binds-length left sheet (suc n) rs = go (bindingOf (typeOf left) rs) (one-bind left rs) (binds-length left sheet n)
   where
-    go : (g : Reading (Binds → Binds)) → On g OneBind → ((rs : Rows) → On (times (bindingOf (typeOf left)) stop n rs) (λ bs. length (bindingsOf bs sheet) ≡ n))
+    go : (g : Reading (Binds → Binds)) → On g OneBind → ((rs : Rows)
+        → On (times (bindingOf (typeOf left)) stop n rs) (λ bs. length (bindingsOf bs sheet) ≡ n))
         → On (g then λ f. mapR f (times (bindingOf (typeOf left)) stop n)) (λ bs. length (bindingsOf bs sheet) ≡ suc n)
     go (no k q) o ih = tt
     go (got f q) o ih =
         on-map f (λ bs. length (bindingsOf bs sheet) ≡ suc n) (times (bindingOf (typeOf left)) stop n q)
-        (on-one (λ bs. length (bindingsOf bs sheet) ≡ n) (λ bs. length (bindingsOf (f bs) sheet) ≡ suc n) (times (bindingOf (typeOf left)) stop n q)
+        (on-one (λ bs. length (bindingsOf bs sheet) ≡ n) (λ bs. length (bindingsOf (f bs) sheet) ≡ suc n)
+        (times (bindingOf (typeOf left)) stop n q)
         (λ bs e. rw (o .first sheet bs) (ap suc e)) (ih q))

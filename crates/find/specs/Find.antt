@@ -14,21 +14,12 @@ use Rattle.row.specs.declared.Line.the-variants as line
 use Rattle.tree.specs.Tree.{Node, Sheet, end}
 use Rattle.tree.specs.Reader.{Rows, Reading, got, no}
 use Rattle.tree.specs.Read as read
+pub use Rattle.tree.specs.Index.{On, Has, Indexed}
 use Rattle.codegen_types.specs.TypeString.{Scope, scopesOf}
 use Rattle.find.specs.declared.Found.{Found}
 use Rattle.find.specs.declared.Found.the-variants.{At, Nothing}
 
 -- ---- what is read at a position
-
--- of what is read, if anything is
-abbrev pub On : {A : Type 0} → Reading A → (A → Type 0) → Type 0
-On (got a rs) P = P a
-On (no k rs) P = Unit {0}
-
--- something is read, and of it
-abbrev pub Has : {A : Type 0} → Reading A → (A → Type 0) → Type 0
-Has (got a rs) P = P a
-Has (no k rs) P = ⊥
 
 -- of the rows after what is read
 abbrev pub After : {A : Type 0} → Reading A → (Rows → Type 0) → Type 0
@@ -106,14 +97,6 @@ pub record NodeHere (rs : Rows) (n : Node) : Type 0 where
   pub line : lineAt rs ≡ line.Node (n .id) (n .parent) (n .scope) (n .isStruct) (n .generic) (n .tagCount) (n .tagOffset)
   pub theMod : textAt rs ≡ n .theMod
   pub params : namesOf (restOf rs) ≡ n .params
-
--- the index of a sheet's nodes: their ids, and where their rows stand
-unfoldable pub Indexed : Str → List Node → List ℕ → List ℕ → Type 0
-Indexed s [] [] ats = Unit {0}
-Indexed s [] (i ∷ ids) ats = ⊥
-Indexed s (n ∷ ns) [] ats = ⊥
-Indexed s (n ∷ ns) (i ∷ ids) [] = ⊥
-Indexed s (n ∷ ns) (i ∷ ids) (a ∷ ats) = (i ≡ n .id) × NodeHere (rows (drop a s)) n × Indexed s ns ids ats
 
 -- a sheet by its root and its nodes
 abbrev pub sheetOf : Str → List Node → Sheet

@@ -20,7 +20,8 @@ use Rattle.codegen_types.specs.Out.{refused}
 use Rattle.codegen_types.specs.TypeString.{parameterString, joined, angled}
 use Rattle.codegen_types.specs.Leaf.{bareName, maybeColons, leafArguments}
 use Rattle.codegen_types.specs.declared.Leaf.{Leaf}
-use Rattle.codegen_types.specs.declared.Leaf.the-variants.{Reader, Builder, Owned, Client, Server, ServerDispatch, Pipeline, GetType}
+use Rattle.codegen_types.specs.declared.Leaf.the-variants.{Reader, Builder, Owned, Client, Server, ServerDispatch, Pipeline}
+use Rattle.codegen_types.specs.declared.Leaf.the-variants.{GetType}
 use Rattle.find.specs.Find.{namesOf}
 use Rattle.find.proofs.Laws.{names-more, names-none}
 use Rattle.type_parts.specs.Parts.{Writes, listed, sepAfter, closer, Listed, Opened}
@@ -28,20 +29,23 @@ use Rattle.type_parts.specs.declared.Arguments.{Arguments}
 
 -- ---- texts in other groupings
 
-pub in-three : {l : List ℕ} {t : Text} {l′ : List ℕ} {t′ : Text} (x a b c : Str) → Wrote l t (x ++ (a ++ b ++ c)) l′ t′ → Wrote l t (x ++ a ++ b ++ c) l′ t′
+pub in-three : {l : List ℕ} {t : Text} {l′ : List ℕ} {t′ : Text} (x a b c : Str) → Wrote l t (x ++ (a ++ b ++ c)) l′ t′
+    → Wrote l t (x ++ a ++ b ++ c) l′ t′
 in-three {l} {t} {l′} {t′} x a b c h = subst (λ (w : Str). Wrote l t w l′ t′) (same x a b c) h
   where
     same : (x a b c : Str) → x ++ (a ++ b ++ c) ≡ x ++ a ++ b ++ c
     same x a b c = simp append-assoc
 
-pub three-threes : {l : List ℕ} {t : Text} {l′ : List ℕ} {t′ : Text} (x a b c d e f : Str) → Wrote l t (x ++ (a ++ b ++ c) ++ (d ++ e ++ f)) l′ t′ → Wrote l t (x ++ a ++ b ++ c ++ d ++ e ++ f) l′ t′
+pub three-threes : {l : List ℕ} {t : Text} {l′ : List ℕ} {t′ : Text} (x a b c d e f : Str)
+    → Wrote l t (x ++ (a ++ b ++ c) ++ (d ++ e ++ f)) l′ t′ → Wrote l t (x ++ a ++ b ++ c ++ d ++ e ++ f) l′ t′
 three-threes {l} {t} {l′} {t′} x a b c d e f h = subst (λ (w : Str). Wrote l t w l′ t′) (same x a b c d e f) h
   where
     same : (x a b c d e f : Str) → x ++ (a ++ b ++ c) ++ (d ++ e ++ f) ≡ x ++ a ++ b ++ c ++ d ++ e ++ f
     same x a b c d e f = simp append-assoc
 
 -- a leaf under which a parameter is refused
-pub refused-leaf : (root p : Str) (l : List ℕ) (t : Text) (l′ : List ℕ) (t′ : Text) (leaf : Leaf) → OneOf (3 ∷ 4 ∷ 5 ∷ 7 ∷ []) (tagOf the-type leaf) → Writes (parameterString root leaf p) l t l′ t′
+pub refused-leaf : (root p : Str) (l : List ℕ) (t : Text) (l′ : List ℕ) (t′ : Text) (leaf : Leaf)
+    → OneOf (3 ∷ 4 ∷ 5 ∷ 7 ∷ []) (tagOf the-type leaf) → Writes (parameterString root leaf p) l t l′ t′
 unfolding parameterString
 refused-leaf root p l t l′ t′ (Reader lt) h = absurd (miss (3 ∷ 4 ∷ 5 ∷ 7 ∷ []) 0 tt h)
 refused-leaf root p l t l′ t′ (Builder lt) h = absurd (miss (3 ∷ 4 ∷ 5 ∷ 7 ∷ []) 1 tt h)
@@ -76,7 +80,8 @@ listed-cons {ws = ws} a h = record { text = a ⨾ h .text; sep = h .sep ∙ last
     last (w ∷ ws) = refl
 
 -- one turn over a node's parameters
-module _ (rs rest : Rows) (line : Line) (b : Bool) (at : line ≡ lineAt rs) (next : rest ≡ restOf rs) (is : b ≡ asParameter line true false) where
+module _ (rs rest : Rows) (line : Line) (b : Bool) (at : line ≡ lineAt rs) (next : rest ≡ restOf rs)
+    (is : b ≡ asParameter line true false) where
   here : (c : Bool) → b ≡ c → asParameter (lineAt rs) true false ≡ c
   here c e = rw (← at) (sym is ∙ e)
 
@@ -111,7 +116,8 @@ sep-append b (w ∷ x) [] = refl
 sep-append b (w ∷ x) (v ∷ y) = refl
 
 infixl 50 _⨟_
-pub _⨟_ : {l : List ℕ} {p : Arguments} {x : List Str} {l₁ : List ℕ} {p₁ : Arguments} {y : List Str} {l₂ : List ℕ} {p₂ : Arguments} → Listed l p x l₁ p₁ → Listed l₁ p₁ y l₂ p₂ → Listed l p (x ++ y) l₂ p₂
+pub _⨟_ : {l : List ℕ} {p : Arguments} {x : List Str} {l₁ : List ℕ} {p₁ : Arguments} {y : List Str} {l₂ : List ℕ}
+    {p₂ : Arguments} → Listed l p x l₁ p₁ → Listed l₁ p₁ y l₂ p₂ → Listed l p (x ++ y) l₂ p₂
 _⨟_ {p = p} {x = x} {y = y} a b = record {
   text = rw (listed-append (p .sep) x y, ← a .sep) (a .text ⨾ b .text);
   sep = rw (sep-append (p .sep) x y, ← a .sep) (b .sep);
@@ -135,14 +141,16 @@ angled-listed (w ∷ ws) = rw (joined-listed w ws) (lemma (ascii "<") w (listed 
     lemma a b c d = simp append-assoc
 
 -- a brand's text: its module, the leaf, its arguments and their end
-pub branded : {l : List ℕ} {t : Text} {theMod l₁ : List ℕ} {t₁ : Text} {l₂ : List ℕ} {p : Arguments} {l₃ : List ℕ} {q : Arguments} {l₄ : List ℕ} {t₄ : Text} (leaf : Leaf) (ws : List Str)
+pub branded : {l : List ℕ} {t : Text} {theMod l₁ : List ℕ} {t₁ : Text} {l₂ : List ℕ} {p : Arguments} {l₃ : List ℕ}
+    {q : Arguments} {l₄ : List ℕ} {t₄ : Text} (leaf : Leaf) (ws : List Str)
     → Wrote l t theMod l₁ t₁ → Opened l₁ t₁ leaf l₂ p → Listed l₂ p ws l₃ q → Wrote l₃ (q .text) (closer (q .sep)) l₄ t₄
     → Wrote l t (theMod ++ ascii "::" ++ bareName leaf ++ maybeColons leaf ++ angled (leafArguments leaf ++ ws)) l₄ t₄
 branded {l} {t} {theMod} {p = p} {q = q} {l₄} {t₄} leaf ws a o b c =
     let own = leafArguments leaf in
     let e : q .sep ≡ sepAfter 60 (own ++ ws) = b .sep ∙ rw (o .sep, sep-append 60 own ws) refl in
     rw (angled-listed (own ++ ws), listed-append 60 own ws, ← o .sep, ← e)
-    (subst (λ (w : Str). Wrote l t w l₄ t₄) (same theMod (ascii "::") (bareName leaf) (maybeColons leaf) (listed 60 own) (listed (p .sep) ws) (closer (q .sep))) (a ⨾ o .text ⨾ b .text ⨾ c))
+    (subst (λ (w : Str). Wrote l t w l₄ t₄) (same theMod (ascii "::") (bareName leaf) (maybeColons leaf) (listed 60 own)
+    (listed (p .sep) ws) (closer (q .sep))) (a ⨾ o .text ⨾ b .text ⨾ c))
   where
     same : (m d n k x y z : Str) → m ++ (d ++ n ++ k ++ x) ++ y ++ z ≡ m ++ d ++ n ++ k ++ (x ++ y ++ z)
     same m d n k x y z = simp append-assoc

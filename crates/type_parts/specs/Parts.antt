@@ -1,4 +1,5 @@
--- What the writers of a type's text leave: a text where there is one, and the arguments of a brand, each after `<` or a comma. Assumes nothing.
+-- What the writers of a type's text leave: a text where there is one, and the arguments of a brand, each after `<` or a comma.
+-- Assumes nothing.
 use mathlib.Core.Path.{_≡_}
 use mathlib.Core.List.{List, [], _∷_, _++_}
 use Prim.Native.Nat.{ℕ}
@@ -10,7 +11,8 @@ use Rattle.tree.specs.Tree.{Node, Sheet}
 use Rattle.codegen_types.specs.Out.{Out, ok, refused}
 use Rattle.codegen_types.specs.Leaf.{bareName, maybeColons, leafArguments}
 use Rattle.codegen_types.specs.declared.Leaf.{Leaf}
-use Rattle.find.specs.Find.{Indexed, sheetOf}
+use Rattle.tree.specs.Index.{Indexed}
+use Rattle.find.specs.Find.{sheetOf}
 use Rattle.type_parts.specs.declared.Arguments.{Arguments}
 
 -- the text of what the Rust gives, written at t into l; where the Rust refuses, nothing is said: the refusal is found before

@@ -1,4 +1,5 @@
--- What the walk that looks for a type's refusal tells: the refusal that `type_string` gives for whatever type is read at a position, in
+-- What the walk that looks for a type's refusal tells: the refusal that `type_string` gives for whatever type is read at a
+-- position, in
 -- every sheet whose nodes the index has. Assumes nothing.
 use mathlib.Core.Path.{_≡_}
 use mathlib.Core.List.{List, [], _∷_}
@@ -11,11 +12,13 @@ use Rattle.tree.specs.Reader.{times}
 use Rattle.tree.specs.Read as read
 use Rattle.tree.specs.Read.{typeOf, bindingOf}
 use Rattle.codegen_types.specs.Out.{Out, ok, _then_, refusalOf}
-use Rattle.codegen_types.specs.TypeString.{typeString, Scope, scopeOf, scopesOf, bindingsOf, nodeOf, allOf, argumentsOf, accumulate}
+use Rattle.codegen_types.specs.TypeString.{typeString, Scope, scopeOf, scopesOf, bindingsOf, nodeOf, allOf, argumentsOf}
+use Rattle.codegen_types.specs.TypeString.{accumulate}
 use Rattle.codegen_types.specs.declared.Leaf.{Leaf}
 use Rattle.codegen_types.specs.declared.Refusal.{Refusal}
 use Rattle.codegen_types.specs.declared.Refusal.the-variants.{None}
-use Rattle.find.specs.Find.{On, Indexed, NodeHere, sheetOf}
+use Rattle.tree.specs.Index.{On, Indexed}
+use Rattle.find.specs.Find.{NodeHere, sheetOf}
 
 -- the arguments of the node with an id
 unfoldable pub ownOf : Sheet → List (ℕ × Scope) → ℕ → Out (List Str)
@@ -32,14 +35,17 @@ module _ (s ids ats : List ℕ) where
   ForAll P = (root : Str) (ns : List Node) → Indexed s ns ids ats → P (sheetOf root ns)
 
   abbrev pub TypeTold : ℕ → ℕ → Leaf → Refusal → Type 0
-  TypeTold at left leaf r = ForAll (λ sheet. On (typeOf left (rows (drop at s))) (λ ty. r ≡ refusalOf (typeString ty sheet leaf)))
+  TypeTold at left leaf r = ForAll (λ sheet. On (typeOf left (rows (drop at s)))
+      (λ ty. r ≡ refusalOf (typeString ty sheet leaf)))
 
   abbrev pub ListTold : ℕ → ℕ → Leaf → Refusal → Type 0
-  ListTold at left leaf r = ForAll (λ sheet. On (typeOf left (rows (drop at s))) (λ ty. r ≡ refusalOf (typeString (list ty) sheet leaf)))
+  ListTold at left leaf r = ForAll (λ sheet. On (typeOf left (rows (drop at s)))
+      (λ ty. r ≡ refusalOf (typeString (list ty) sheet leaf)))
 
   abbrev pub BrandTold : ℕ → ℕ → ℕ → ℕ → Refusal → Type 0
   BrandTold id at n left r =
-      ForAll (λ sheet. On (times (read.scopeOf (typeOf left)) end n (rows (drop at s))) (λ ss. r ≡ refusalOf (accumulate sheet (scopesOf ss sheet) 16 id)))
+      ForAll (λ sheet. On (times (read.scopeOf (typeOf left)) end n (rows (drop at s)))
+      (λ ss. r ≡ refusalOf (accumulate sheet (scopesOf ss sheet) 16 id)))
 
   -- of a node at `node` on a chain on which the nodes `seen` have no refusal
   abbrev pub OwnTold : List ℕ → ℕ → ℕ → ℕ → ℕ → ℕ → Refusal → Type 0
@@ -50,7 +56,8 @@ module _ (s ids ats : List ℕ) where
 
   abbrev pub BindsTold : ℕ → ℕ → ℕ → Refusal → Type 0
   BindsTold at n left r =
-      ForAll (λ sheet. On (times (bindingOf (typeOf left)) stop n (rows (drop at s))) (λ bs. r ≡ refusalOf (allOf (bindingsOf bs sheet))))
+      ForAll (λ sheet. On (times (bindingOf (typeOf left)) stop n (rows (drop at s)))
+      (λ bs. r ≡ refusalOf (allOf (bindingsOf bs sheet))))
 
   -- one binding
   abbrev pub BindTold : ℕ → ℕ → Refusal → Type 0

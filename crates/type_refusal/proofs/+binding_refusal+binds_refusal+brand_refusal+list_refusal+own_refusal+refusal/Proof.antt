@@ -8,7 +8,7 @@ use Rattle.type_refusal.proofs.Laws as law
 use Rattle.find.specs.Find.{sheetOf}
 use Rattle.find.proofs.TypeLaws as read-law
 use Rattle.find.proofs.Laws.{on-one}
-use Rattle.find.specs.Find.{On, Indexed}
+use Rattle.tree.specs.Index.{On, Indexed}
 use Rattle.codegen_types.specs.declared.Leaf.the-variants.{Owned}
 use Rattle.codegen_types.specs.declared.Refusal.the-variants.{None}
 use Rattle.codegen_types.specs.declared.Refusal.{Refusal}

@@ -6,7 +6,8 @@ use Rattle.type_string.specs.Told.{onlyOf}
 use Rattle.type_parts.specs.declared.Arguments.{Arguments}
 use Rattle.type_parts.specs.Parts.{Writes, Lists}
 use Rattle.find.proofs.TypeLaws as read-law
-use Rattle.find.specs.Find.{On, Indexed, sheetOf}
+use Rattle.tree.specs.Index.{On, Indexed}
+use Rattle.find.specs.Find.{sheetOf}
 use Rattle.codegen_types.specs.TypeString.{typeString, bindingsOf, allOf}
 use Rattle.codegen_types.specs.Out.{Out}
 use Rattle.tree.specs.Read.{typeOf, bindingOf, pointer}
