@@ -1,4 +1,4 @@
--- What the exported functions answer: the fill count after a text, or that nothing was taken; and what a sheet is. Assumes nothing.
+-- What the exported functions answer: the fill count after a text, or that nothing was taken; what a sheet is. Assumes nothing.
 use mathlib.Core.Path.{_≡_}
 use mathlib.Core.Bool.{Bool, true}
 use Prim.Native.Nat.{ℕ, _-_, _%_, _^_}

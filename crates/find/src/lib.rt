@@ -9,7 +9,8 @@ ghost use lib.ListN.{drop, length};
 ghost use Rattle.row.specs.Line.{lineAt, asParameter};
 ghost use Rattle.row.specs.Rows.{rows, restOf};
 ghost use Rattle.tree.specs.Read.{among};
-ghost use Rattle.find.specs.Find.{kindAt, owed, pastRows, lastScope, rowsFound, namesOf, nameAt, textFound, parentAt, lookup};
+ghost use Rattle.find.specs.Find.{kindAt, owed, pastRows, lastScope, rowsFound};
+ghost use Rattle.find.specs.Find.{namesOf, nameAt, textFound, parentAt, lookup};
 
 // A position in the sheet, or none.
 pub enum Found {
@@ -55,7 +56,8 @@ pub struct NodeRow {
 }
 
 pub fn node_row(s: &[u8], at: usize) -> NodeRow
-    ensures { λ r. ⌜ (r .parent ≡ parentAt (rows (drop at (now (s .entry))))) × (rows (drop (r .params) (now (s .entry))) ≡ restOf (rows (drop at (now (s .entry))))) ⌝ }
+    ensures { λ r. ⌜ (r .parent ≡ parentAt (rows (drop at (now (s .entry))))) ×
+        (rows (drop (r .params) (now (s .entry))) ≡ restOf (rows (drop at (now (s .entry))))) ⌝ }
 {
     let g = row::next(s, at);
     let line = g.line;

@@ -1,7 +1,7 @@
-// What the programs share: the lines of their input, and printing what a text state has filled.
-use libc::STDOUT_FILENO;
+// What the programs share: the lines of their input, and how much of a buffer a text state has filled.
 use text::Text;
-ghost use Prim.Native.Nat.{_≤_};
+ghost use mathlib.Core.Path.{_≡_};
+ghost use Prim.Native.Nat.{_≤_, min};
 ghost use lib.ListN.{length};
 ghost use Rattle.io.specs.Counts.{Counts};
 
@@ -20,16 +20,11 @@ pub fn line_end(s: &[u8], from: usize) -> usize
     at
 }
 
-// The fill count, or the buffer's length where a text did not fit.
-fn filled(t: Text, buf: &[u8]) -> usize
-    ensures { λ r. ⌜ Counts r (now (buf .entry)) ⌝ }
+// How much of the buffer is filled: the fill count, or the buffer's length where a text did not fit.
+pub fn filled(t: Text, buf: &[u8]) -> usize
+    ensures count { λ r. ⌜ r ≡ min (t .at) (length (now (buf .entry))) ⌝ }
+    ensures part { λ r. ⌜ Counts r (now (buf .entry)) ⌝ }
 {
     let fill = t.fill();
     if fill < buf.len() { fill } else { buf.len() }
-}
-
-// Writes the buffer up to the fill count to standard output.
-pub fn print(t: Text, buf: &[u8]) {
-    let n = filled(t, buf);
-    io::write_all(STDOUT_FILENO, &buf[..n]);
 }

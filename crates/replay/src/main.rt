@@ -10,6 +10,7 @@
 //
 // Each answer ends with byte 10.
 use libc::STDIN_FILENO;
+use libc::STDOUT_FILENO;
 use text::Text;
 ghost use Prim.Native.Nat.{_<_};
 
@@ -64,7 +65,8 @@ fn answer(t: Text, buf: &mut [u8], letter: u8, about: &[u8]) -> Text {
 
 fn print_answer(buf: &mut [u8], letter: u8, about: &[u8]) {
     let t = answer(Text::at(0), buf, letter, about);
-    programs::print(t, buf);
+    let n = programs::filled(t, buf);
+    io::write_all(STDOUT_FILENO, &buf[..n]);
 }
 
 fn print_case(buf: &mut [u8], case: &[u8]) {

@@ -2,6 +2,7 @@
 // a line with its refusal's number and line, `0 0` for a sheet that is admitted. The files stdin and stdout beside src/ are
 // written by the comparison in oracle/, by its own reader of sheets.
 use libc::STDIN_FILENO;
+use libc::STDOUT_FILENO;
 use sheet::Answer;
 use text::Text;
 ghost use Prim.Native.Nat.{_≤_};
@@ -35,7 +36,8 @@ fn print_line(buf: &mut [u8], number: u64, line: usize) {
     let t = t.byte(buf, b' ');
     let t = t.number(buf, line as u64);
     let t = t.byte(buf, b'\n');
-    programs::print(t, buf);
+    let n = programs::filled(t, buf);
+    io::write_all(STDOUT_FILENO, &buf[..n]);
 }
 
 fn print_sheet(buf: &mut [u8], s: &[u8]) {

@@ -13,9 +13,10 @@ use Rattle.tree.specs.Read.{nodesOf}
 use Rattle.tree.specs.Walked.{walked}
 use Rattle.tree.specs.declared.Walk.{Walk}
 use Rattle.tree.specs.declared.Walk.the-variants.{Next, Refused}
-use Rattle.sheet.specs.Admission.{told, leftAfter, nodeAfter, NodesRead}
+use Rattle.sheet.specs.Admission.{told, Marked, leftAfter, nodeAfter, NodesRead}
 use Rattle.sheet.specs.declared.Index.{Index}
 use Rattle.sheet.proofs.FieldsLaws.{pushed}
+use Rattle.sheet.proofs.MarksLaws.{marked-none}
 use Rattle.sheet.proofs.NodesLaws.{Standing, standing-first, standing-more, standing-done, standing-no, standing-full}
 use Rattle.sheet.proofs.NodesLaws.{nodes-no}
 
@@ -26,39 +27,43 @@ whole s from = nodesOf 64 [] [] (rows (drop from s))
 abbrev index : List ℕ → List ℕ → ℕ → Index
 index ids ats count = record { ids = ids; ats = ats; count = count }
 
--- at the head of the loop: `count` nodes are read, with n group ids, and the next stands at `at`
-pub record Held (s : Str) (from : ℕ) (ids ats groups : List ℕ) (n count at : ℕ) : Type 0 where
+-- at the head of the loop: `count` nodes are read, with n group ids and their marks, and the next stands at `at`
+pub record Held (s : Str) (from : ℕ) (ids ats groups marks : List ℕ) (n count at : ℕ) : Type 0 where
   pub ids-size : length ids ≡ 64
   pub ats-size : length ats ≡ 64
   pub groups-size : length groups ≡ 1489
+  pub marks-size : length marks ≡ 8192
   pub few : count ≤ 64
   pub room : 44 * n + size (rows (drop at s)) ≤ 65536
+  pub marked : Marked marks (take n groups)
   pub standing : Standing s (whole s from) (64 - count) (take count ids) (take count ats) (take n groups) (rows (drop at s))
 
 pub held-first :
-    (s : Str) (from : ℕ) (ids ats groups : List ℕ) → length ids ≡ 64 → length ats ≡ 64 → length groups ≡ 1489
-    → size (rows (drop from s)) ≤ 65536 → Held s from ids ats groups 0 0 from
-held-first s from ids ats groups a b c r = record {
+    (s : Str) (from : ℕ) (ids ats groups marks : List ℕ) → length ids ≡ 64 → length ats ≡ 64 → length groups ≡ 1489
+    → length marks ≡ 8192 → size (rows (drop from s)) ≤ 65536 → Held s from ids ats groups marks 0 0 from
+held-first s from ids ats groups marks a b c d r = record {
   ids-size = a;
   ats-size = b;
   groups-size = c;
+  marks-size = d;
   few = omega arith;
   room = omega arith;
+  marked = marked-none marks;
   standing = standing-first s
       (rows (drop from s));
 }
 
 -- no node more
 pub held-full :
-    (s : Str) (from : ℕ) (ids ats groups : List ℕ) (n count at : ℕ) → Held s from ids ats groups n count at → 64 ≤ count
-    → NodesRead s (Refused 2 at) (index ids ats count) (whole s from)
-held-full s from ids ats groups n count at h l =
+    (s : Str) (from : ℕ) (ids ats groups marks : List ℕ) (n count at : ℕ) → Held s from ids ats groups marks n count at
+    → 64 ≤ count → NodesRead s (Refused 2 at) (index ids ats count) (whole s from)
+held-full s from ids ats groups marks n count at h l =
     nodes-no s (whole s from) (Refused 2 at) 2 (rows (drop at s)) (index ids ats count) refl
     (standing-full s (whole s from) (64 - count) (take count ids) (take count ats) (take n groups) (rows (drop at s))
     (h .standing) (omega arith))
 
 -- a node is walked over
-module _ (s : Str) (from : ℕ) (ids ats groups : List ℕ) (n count at : ℕ) (h : Held s from ids ats groups n count at)
+module _ (s : Str) (from : ℕ) (ids ats groups marks : List ℕ) (n count at : ℕ) (h : Held s from ids ats groups marks n count at)
     (l : count < 64)
     (w : Walk) (i m : ℕ) (after : List ℕ)
     (read : told s w (i, take m after) ≡ nodeAfter (take count ids) (take n groups) (rows (drop at s))) where
@@ -89,16 +94,19 @@ module _ (s : Str) (from : ℕ) (ids ats groups : List ℕ) (n count at : ℕ) (
         record { walk = d .0; index = rw (ids-after, ats-after) (d .1) }
 
     pub held-next :
-        q < length s → length after ≡ length groups → 44 * m + leftAfter s w ≤ 65536
-        → Held s from (set ids count i) (set ats count at) after m (count + 1) q
-    held-next p g r =
+        (ms : List ℕ) → q < length s → length after ≡ length groups → length ms ≡ length marks
+        → 44 * m + leftAfter s w ≤ 65536 → Marked ms (take m after)
+        → Held s from (set ids count i) (set ats count at) after ms m (count + 1) q
+    held-next ms p g j r k =
         let z : 64 - count - 1 ≡ 64 - (count + 1) = omega arith in
         record {
           ids-size = length-set ids count i ∙ h .ids-size;
           ats-size = length-set ats count at ∙ h .ats-size;
           groups-size = g ∙ h .groups-size;
+          marks-size = j ∙ h .marks-size;
           few = omega arith;
           room = rw e at r;
+          marked = k;
           standing = rw (ids-after, ats-after, ← z)
               (standing-more s (whole s from) (64 - count) at i (take count ids) (take count ats) (take n groups)
               (take m after)

@@ -1,3 +1,4 @@
+pub mod MarksLaws
 pub mod FieldsLaws
 pub mod RoomLaws
 pub mod NodesLaws

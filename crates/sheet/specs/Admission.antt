@@ -1,13 +1,14 @@
 -- What the code's answers say of a sheet and its tree. Assumes nothing.
 use mathlib.Core.Path.{_≡_}
+use mathlib.Core.Bool.{true}
 use mathlib.Core.List.{List, [], _∷_, _++_}
-use Prim.Native.Nat.{ℕ}
-use lib.ListN.{drop, take}
+use Prim.Native.Nat.{ℕ, _%_}
+use lib.ListN.{drop, take, getD}
 use Rattle.text.specs.Bytes.{Str}
 use Rattle.row.specs.Rows.{rows, size}
 use Rattle.tree.specs.Tree.{Field, Node, Sheet}
 use Rattle.tree.specs.Reader.{Reading, got, no, Reader, mapR}
-use Rattle.tree.specs.Read.{fieldsOf, groupIds, nodeOf, Admitted, sheet, refused}
+use Rattle.tree.specs.Read.{among, fieldsOf, groupIds, nodeOf, Admitted, sheet, refused}
 use Rattle.tree.specs.Walked.{passed, walked}
 use Rattle.tree.specs.Index.{On, Indexed}
 use Rattle.tree.specs.declared.Walk.{Walk}
@@ -38,6 +39,10 @@ told s (Refused k at) a = no k (rows (drop at s))
 -- the group ids seen after a node's fields
 abbrev pub groupsAfter : List ℕ → Reader (List ℕ)
 groupsAfter seen = mapR (λ fs. seen ++ groupIds fs) (fieldsOf seen)
+
+-- every id that stands among some has its mark set, at the remainder by 8192: an id whose mark is not set is none of them
+pub record Marked (marks ids : List ℕ) : Type 0 where
+  pub set : (id : ℕ) → among id ids ≡ true → getD marks (id % 8192) 0 ≡ 1
 
 -- how many bytes are left after a walk
 abbrev pub leftAfter : Str → Walk → ℕ

@@ -3,14 +3,14 @@ use row::Line;
 use tree::Walk;
 ghost use mathlib.Core.Path.{_≡_};
 ghost use mathlib.Core.List.{[]};
-ghost use Prim.Native.Nat.{_+_, _*_, _≤_};
-ghost use lib.ListN.{length, drop, take};
+ghost use Prim.Native.Nat.{_+_, _*_, _%_, _≤_};
+ghost use lib.ListN.{length, drop, take, set};
 ghost use Rattle.row.specs.Rows.{rows, size};
 ghost use Rattle.tree.specs.Reader.{got};
 ghost use Rattle.tree.specs.Read.{among, paramsOf, nodesOf, admitted};
 ghost use Rattle.tree.specs.Walked.{passed, walked};
 ghost use Rattle.tree.specs.Index.{On, Indexed};
-ghost use Rattle.sheet.specs.Admission.{verdict, IndexOf, told, groupsAfter, leftAfter, nodeAfter, NodesRead};
+ghost use Rattle.sheet.specs.Admission.{verdict, IndexOf, told, Marked, groupsAfter, leftAfter, nodeAfter, NodesRead};
 
 // The ids of the nodes and the positions of their N rows, in the sheet's order: the first `count` of each.
 pub struct Index {
@@ -64,6 +64,25 @@ fn seen(ids: &[u64], count: usize, id: u64) -> bool
     false
 }
 
+// Whether a group id is one of the first `count`. Where its mark is 0 it is none of them, and no search is made.
+fn known(groups: &[u64], count: usize, marks: &[u8], id: u64) -> bool
+    requires { ⌜ (count ≤ length (now groups)) × (length (now marks) ≡ 8192) × Marked (now marks) (take count (now groups)) ⌝ }
+    ensures { λ r. ⌜ r ≡ among id (take count (now (groups .entry))) ⌝ }
+{
+    if marks[(id % 8192) as usize] == 0 {
+        return false;
+    }
+    seen(groups, count, id)
+}
+
+// Sets the mark of a group id.
+fn mark(marks: &mut [u8], id: u64)
+    requires { ⌜ length (now marks) ≡ 8192 ⌝ }
+    ensures { λ r. ⌜ now (marks .exit) ≡ set (now (marks .entry)) (id % 8192) 1 ⌝ }
+{
+    marks[(id % 8192) as usize] = 1;
+}
+
 // The position after the P rows that stand there.
 pub fn params(s: &[u8], from: usize) -> usize
     ensures { λ r. ⌜ got tt (rows (drop r (now (s .entry)))) ≡ passed (paramsOf (rows (drop from (now (s .entry))))) ⌝ }
@@ -81,12 +100,14 @@ pub fn params(s: &[u8], from: usize) -> usize
 }
 
 // The fields of a node: F rows with what belongs to them, and G rows. The ids of all G rows before stand in `groups`, and
-// those of this node are put after them. A G row has 44 bytes or more, so there is room for all of a sheet.
-fn fields(s: &[u8], from: usize, groups: &mut [u64], count: usize) -> Run
-    requires { ⌜ (length (now groups) ≡ 1489) × (44 * count + size (rows (drop from (now s))) ≤ 65536) ⌝ }
+// those of this node are put after them, with their marks. A G row has 44 bytes or more, so there is room for all of a sheet.
+fn fields(s: &[u8], from: usize, groups: &mut [u64], marks: &mut [u8], count: usize) -> Run
+    requires { ⌜ (length (now groups) ≡ 1489) × (length (now marks) ≡ 8192)
+        × (44 * count + size (rows (drop from (now s))) ≤ 65536) × Marked (now marks) (take count (now groups)) ⌝ }
     ensures read { λ r. ⌜ told (now (s .entry)) (r .walk) (take (r .count) (now (groups .exit)))
         ≡ groupsAfter (take count (now (groups .entry))) (rows (drop from (now (s .entry)))) ⌝ }
     ensures room { λ r. ⌜ 44 * r .count + leftAfter (now (s .entry)) (r .walk) ≤ 65536 ⌝ }
+    ensures marked { λ r. ⌜ Marked (now (marks .exit)) (take (r .count) (now (groups .exit))) ⌝ }
 {
     let mut at = from;
     let mut n = count;
@@ -116,13 +137,14 @@ fn fields(s: &[u8], from: usize, groups: &mut [u64], count: usize) -> Run
                 id,
                 discriminant: _,
             } => {
-                if seen(groups, n, id) {
+                if known(groups, n, marks, id) {
                     return Run {
                         walk: Walk::Refused { number: 3, at },
                         count: n,
                     };
                 }
                 groups[n] = id;
+                mark(marks, id);
                 n += 1;
                 at = e;
                 continue;
@@ -138,12 +160,21 @@ fn fields(s: &[u8], from: usize, groups: &mut [u64], count: usize) -> Run
 }
 
 // One node: an N row whose id is none of the first `known` of `ids`, its P rows, its F and G rows.
-fn node(s: &[u8], at: usize, ids: &[u64], known: usize, groups: &mut [u64], count: usize) -> NodeRun
-    requires { ⌜ (known ≤ length (now ids)) × (length (now groups) ≡ 1489)
-        × (44 * count + size (rows (drop at (now s))) ≤ 65536) ⌝ }
+fn node(
+    s: &[u8],
+    at: usize,
+    ids: &[u64],
+    known: usize,
+    groups: &mut [u64],
+    marks: &mut [u8],
+    count: usize,
+) -> NodeRun
+    requires { ⌜ (known ≤ length (now ids)) × (length (now groups) ≡ 1489) × (length (now marks) ≡ 8192)
+        × (44 * count + size (rows (drop at (now s))) ≤ 65536) × Marked (now marks) (take count (now groups)) ⌝ }
     ensures read { λ r. ⌜ told (now (s .entry)) (r .walk) (r .id, take (r .count) (now (groups .exit)))
         ≡ nodeAfter (take known (now (ids .entry))) (take count (now (groups .entry))) (rows (drop at (now (s .entry)))) ⌝ }
     ensures room { λ r. ⌜ 44 * r .count + leftAfter (now (s .entry)) (r .walk) ≤ 65536 ⌝ }
+    ensures marked { λ r. ⌜ Marked (now (marks .exit)) (take (r .count) (now (groups .exit))) ⌝ }
 {
     let g = row::next(s, at);
     let l = g.line;
@@ -171,7 +202,7 @@ fn node(s: &[u8], at: usize, ids: &[u64], known: usize, groups: &mut [u64], coun
             count,
         };
     }
-    let f = fields(s, params(s, e), groups, count);
+    let f = fields(s, params(s, e), groups, marks, count);
     let walk = f.walk;
     NodeRun {
         walk,
@@ -188,11 +219,12 @@ fn nodes(s: &[u8], from: usize) -> IndexRun
     let mut ids = [0u64; 64];
     let mut ats = [0usize; 64];
     let mut groups = [0u64; 1489];
+    let mut marks = [0u8; 8192];
     let mut n: usize = 0;
     let mut count: usize = 0;
     let mut at = from;
     while count < 64 {
-        let m = node(s, at, &ids, count, &mut groups, n);
+        let m = node(s, at, &ids, count, &mut groups, &mut marks, n);
         let w = m.walk;
         match w {
             Walk::Next { at: q } => {

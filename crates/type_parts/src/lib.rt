@@ -11,7 +11,8 @@ ghost use Rattle.text.specs.Text.{Wrote};
 ghost use Rattle.row.specs.Rows.{rows};
 ghost use Rattle.tree.specs.Read.{pointer};
 ghost use Rattle.codegen_types.specs.Leaf.{display, bareName, lifetimeComma};
-ghost use Rattle.codegen_types.specs.TypeString.{primitives, plainString, listModule, anyOwned, parameterString, getQualifiedModule, typeString};
+ghost use Rattle.codegen_types.specs.TypeString.{primitives, plainString, listModule};
+ghost use Rattle.codegen_types.specs.TypeString.{anyOwned, parameterString, getQualifiedModule, typeString};
 ghost use Rattle.find.specs.Find.{namesOf};
 ghost use Rattle.type_parts.specs.Parts.{ForAll, Writes, Listed, Opened, closer};
 
@@ -84,7 +85,8 @@ fn list_module(kind: u64, t: Text, buf: &mut [u8]) -> Text
 
 // A list's text up to its element's.
 pub fn list_head(root: &[u8], kind: u64, leaf: Leaf, t: Text, buf: &mut [u8]) -> Text
-    ensures { λ r. ⌜ Wrote (now (buf .entry)) t (now (root .entry) ++ ascii "::" ++ listModule kind ++ ascii "::" ++ bareName leaf ++ ascii "<" ++ lifetimeComma leaf) (now (buf .exit)) r ⌝ }
+    ensures { λ r. ⌜ Wrote (now (buf .entry)) t (now (root .entry) ++ ascii "::" ++ listModule kind ++ ascii "::" ++ bareName
+        leaf ++ ascii "<" ++ lifetimeComma leaf) (now (buf .exit)) r ⌝ }
 {
     let t = t.bytes(buf, root);
     let t = list_module(kind, t, buf);
@@ -101,7 +103,8 @@ pub fn any_owned(root: &[u8], t: Text, buf: &mut [u8]) -> Text
 
 // What a parameter's trait names.
 fn projected(root: &[u8], name: &[u8], tail: &[u8], t: Text, buf: &mut [u8]) -> Text
-    ensures { λ r. ⌜ Wrote (now (buf .entry)) t (ascii "<" ++ now (name .entry) ++ ascii " as " ++ now (root .entry) ++ now (tail .entry)) (now (buf .exit)) r ⌝ }
+    ensures { λ r. ⌜ Wrote (now (buf .entry)) t (ascii "<" ++ now (name .entry) ++ ascii " as " ++ now (root .entry) ++ now
+        (tail .entry)) (now (buf .exit)) r ⌝ }
 {
     let t = t.byte(buf, b'<');
     let t = t.bytes(buf, name);
@@ -112,7 +115,8 @@ fn projected(root: &[u8], name: &[u8], tail: &[u8], t: Text, buf: &mut [u8]) -> 
 
 // A parameter's text.
 fn parameter(root: &[u8], name: &[u8], leaf: Leaf, t: Text, buf: &mut [u8]) -> Text
-    ensures { λ r. ⌜ Writes (parameterString (now (root .entry)) leaf (now (name .entry))) (now (buf .entry)) t (now (buf .exit)) r ⌝ }
+    ensures { λ r. ⌜ Writes (parameterString (now (root .entry)) leaf (now (name .entry))) (now (buf .entry)) t
+        (now (buf .exit)) r ⌝ }
 {
     match leaf {
         Leaf::Reader(lifetime) => match lifetime {
@@ -142,7 +146,8 @@ pub fn pointer(
     t: Text,
     buf: &mut [u8],
 ) -> Text
-    ensures { λ r. ⌜ ForAll (now (root .entry)) (now (s .entry)) (now (ids .entry)) (now (ats .entry)) (λ sheet. Writes (typeString (pointer a b c) sheet leaf) (now (buf .entry)) t (now (buf .exit)) r) ⌝ }
+    ensures { λ r. ⌜ ForAll (now (root .entry)) (now (s .entry)) (now (ids .entry)) (now (ats .entry))
+        (λ sheet. Writes (typeString (pointer a b c) sheet leaf) (now (buf .entry)) t (now (buf .exit)) r) ⌝ }
 {
     if a == 0 {
         return displayed(root, b"::any_pointer::", leaf, t, buf);
@@ -169,7 +174,8 @@ pub fn qualified_module(
     t: Text,
     buf: &mut [u8],
 ) -> Text
-    ensures { λ r. ⌜ ForAll (now (root .entry)) (now (s .entry)) (now (ids .entry)) (now (ats .entry)) (λ sheet. Writes (getQualifiedModule sheet id) (now (buf .entry)) t (now (buf .exit)) r) ⌝ }
+    ensures { λ r. ⌜ ForAll (now (root .entry)) (now (s .entry)) (now (ids .entry)) (now (ats .entry))
+        (λ sheet. Writes (getQualifiedModule sheet id) (now (buf .entry)) t (now (buf .exit)) r) ⌝ }
 {
     let Found::At(node) = find::node(ids, ats, id) else {
         return t;
@@ -201,7 +207,8 @@ pub fn inherited(s: &[u8], from: usize, first: Arguments, buf: &mut [u8]) -> Arg
 
 // For each parameter one that is not bound.
 pub fn unbound(root: &[u8], s: &[u8], from: usize, first: Arguments, buf: &mut [u8]) -> Arguments
-    ensures { λ r. ⌜ Listed (now (buf .entry)) first (map (λ p. anyOwned (now (root .entry))) (namesOf (rows (drop from (now (s .entry)))))) (now (buf .exit)) r ⌝ }
+    ensures { λ r. ⌜ Listed (now (buf .entry)) first (map (λ p. anyOwned (now (root .entry)))
+        (namesOf (rows (drop from (now (s .entry)))))) (now (buf .exit)) r ⌝ }
 {
     let mut at = from;
     let mut p = first;

@@ -28,7 +28,8 @@ fn leaf_refusal(leaf: Leaf) -> Refusal
 
 // The module of a node that may not be there.
 fn module_refusal(s: &[u8], ids: &[u64], ats: &[usize], id: u64) -> Refusal
-    ensures { λ r. ⌜ ForAll (now (s .entry)) (now (ids .entry)) (now (ats .entry)) (λ sheet. r ≡ refusalOf (getQualifiedModule sheet id)) ⌝ }
+    ensures { λ r. ⌜ ForAll (now (s .entry)) (now (ids .entry)) (now (ats .entry))
+        (λ sheet. r ≡ refusalOf (getQualifiedModule sheet id)) ⌝ }
 {
     match find::node(ids, ats, id) {
         Found::At(_) => Refusal::None,
@@ -46,7 +47,8 @@ fn pointer_refusal(
     c: u64,
     leaf: Leaf,
 ) -> Refusal
-    ensures { λ r. ⌜ ForAll (now (s .entry)) (now (ids .entry)) (now (ats .entry)) (λ sheet. r ≡ refusalOf (typeString (pointer a b c) sheet leaf)) ⌝ }
+    ensures { λ r. ⌜ ForAll (now (s .entry)) (now (ids .entry)) (now (ats .entry))
+        (λ sheet. r ≡ refusalOf (typeString (pointer a b c) sheet leaf)) ⌝ }
 {
     if a == 0 {
         return Refusal::None;
@@ -113,7 +115,8 @@ fn list_refusal(s: &[u8], ids: &[u64], ats: &[usize], at: usize, left: usize, le
     refusal(s, ids, ats, at, left, codegen_types::element_leaf(kind))
 }
 
-// The refusal of do_branding for n scopes from a position on: the first along the chain of parents, innermost node first. A node that was seen on
+// The refusal of do_branding for n scopes from a position on: the first along the chain of parents, innermost node first. A
+// node that was seen on
 // the chain is not evaluated again: parents may form a cycle.
 fn brand_refusal(
     s: &[u8],

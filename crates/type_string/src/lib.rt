@@ -1,4 +1,5 @@
-// `type_string` and `do_branding` of codegen_types.rs: each calls the other, and the levels of a type that are left fall at each call. The request
+// `type_string` and `do_branding` of codegen_types.rs: each calls the other, and the levels of a type that are left fall at
+// each call. The request
 // is known not to be refused (crate type_refusal). Over an empty buffer the same writers measure.
 use codegen_types::Leaf;
 use find::Found;
@@ -18,7 +19,8 @@ pub fn type_string(
     t: Text,
     buf: &mut [u8],
 ) -> Text
-    ensures { λ r. ⌜ TypeTold (now (root .entry)) (now (s .entry)) (now (ids .entry)) (now (ats .entry)) at 16 leaf (now (buf .entry)) t (now (buf .exit)) r ⌝ }
+    ensures { λ r. ⌜ TypeTold (now (root .entry)) (now (s .entry)) (now (ids .entry)) (now (ats .entry)) at 16 leaf
+        (now (buf .entry)) t (now (buf .exit)) r ⌝ }
 {
     write_type(root, s, ids, ats, at, 16, leaf, t, buf)
 }
@@ -35,7 +37,8 @@ fn write_type(
     t: Text,
     buf: &mut [u8],
 ) -> Text
-    ensures { λ r. ⌜ TypeTold (now (root .entry)) (now (s .entry)) (now (ids .entry)) (now (ats .entry)) at left leaf (now (buf .entry)) t (now (buf .exit)) r ⌝ }
+    ensures { λ r. ⌜ TypeTold (now (root .entry)) (now (s .entry)) (now (ids .entry)) (now (ats .entry)) at left leaf
+        (now (buf .entry)) t (now (buf .exit)) r ⌝ }
 {
     if left == 0 {
         return t;
@@ -72,7 +75,8 @@ fn write_list(
     t: Text,
     buf: &mut [u8],
 ) -> Text
-    ensures { λ r. ⌜ ListTold (now (root .entry)) (now (s .entry)) (now (ids .entry)) (now (ats .entry)) at left leaf (now (buf .entry)) t (now (buf .exit)) r ⌝ }
+    ensures { λ r. ⌜ ListTold (now (root .entry)) (now (s .entry)) (now (ids .entry)) (now (ats .entry)) at left leaf
+        (now (buf .entry)) t (now (buf .exit)) r ⌝ }
 {
     let kind = find::kind(s, at);
     if kind == 12 {
@@ -110,7 +114,8 @@ fn do_branding(
     t: Text,
     buf: &mut [u8],
 ) -> Text
-    ensures { λ r. ⌜ BrandTold (now (root .entry)) (now (s .entry)) (now (ids .entry)) (now (ats .entry)) id at n left leaf (now (buf .entry)) t (now (buf .exit)) r ⌝ }
+    ensures { λ r. ⌜ BrandTold (now (root .entry)) (now (s .entry)) (now (ids .entry)) (now (ats .entry)) id at n left leaf
+        (now (buf .entry)) t (now (buf .exit)) r ⌝ }
 {
     let Found::At(node) = find::node(ids, ats, id) else {
         return t;
@@ -136,7 +141,8 @@ fn write_chain(
     p: Arguments,
     buf: &mut [u8],
 ) -> Arguments
-    ensures { λ r. ⌜ ChainTold (now (root .entry)) (now (s .entry)) (now (ids .entry)) (now (ats .entry)) id nodes at n left (now (buf .entry)) p (now (buf .exit)) r ⌝ }
+    ensures { λ r. ⌜ ChainTold (now (root .entry)) (now (s .entry)) (now (ids .entry)) (now (ats .entry)) id nodes at n left
+        (now (buf .entry)) p (now (buf .exit)) r ⌝ }
 {
     if nodes == 0 {
         return p;
@@ -167,7 +173,8 @@ fn write_own(
     p: Arguments,
     buf: &mut [u8],
 ) -> Arguments
-    ensures { λ r. ⌜ OwnTold (now (root .entry)) (now (s .entry)) (now (ids .entry)) (now (ats .entry)) node id at n left (now (buf .entry)) p (now (buf .exit)) r ⌝ }
+    ensures { λ r. ⌜ OwnTold (now (root .entry)) (now (s .entry)) (now (ids .entry)) (now (ats .entry)) node id at n left
+        (now (buf .entry)) p (now (buf .exit)) r ⌝ }
 {
     let row = find::node_row(s, node);
     let params = row.params;
@@ -197,7 +204,8 @@ fn write_binds(
     first: Arguments,
     buf: &mut [u8],
 ) -> Arguments
-    ensures { λ r. ⌜ BindsTold (now (root .entry)) (now (s .entry)) (now (ids .entry)) (now (ats .entry)) from count left (now (buf .entry)) first (now (buf .exit)) r ⌝ }
+    ensures { λ r. ⌜ BindsTold (now (root .entry)) (now (s .entry)) (now (ids .entry)) (now (ats .entry)) from count left
+        (now (buf .entry)) first (now (buf .exit)) r ⌝ }
 {
     let mut at = from;
     let mut n = count;
@@ -224,7 +232,8 @@ fn write_binding(
     t: Text,
     buf: &mut [u8],
 ) -> Text
-    ensures { λ r. ⌜ BindTold (now (root .entry)) (now (s .entry)) (now (ids .entry)) (now (ats .entry)) at left (now (buf .entry)) t (now (buf .exit)) r ⌝ }
+    ensures { λ r. ⌜ BindTold (now (root .entry)) (now (s .entry)) (now (ids .entry)) (now (ats .entry)) at left
+        (now (buf .entry)) t (now (buf .exit)) r ⌝ }
 {
     let g = row::next(s, at);
     let line = g.line;

@@ -13,9 +13,10 @@ type Made = (String, Box<dyn Fn() -> Vec<u8>>);
 
 /// The sheets that admission is measured on.
 pub fn admitted() -> Vec<Made> {
-    let shapes: [(&str, fn(usize) -> Sheet); 6] = [
+    let shapes: [(&str, fn(usize) -> Sheet); 7] = [
         ("ordinary", ordinary),
         ("groups", |size| filled(size, groups)),
+        ("groups-one-mark", |size| filled(size, groups_one_mark)),
         ("short-lines", |size| filled(size, short_lines)),
         ("deep-types", |size| filled(size, deep_types)),
         ("parameters", |size| filled(size, parameters)),
@@ -63,6 +64,11 @@ fn structs(count: usize) -> Vec<Node> {
 
 fn groups(count: usize) -> Vec<Node> {
     vec![(0..count as u64).fold(node(1, 0, "bed", &[]), |node, id| node.group(group("g", 1_000_000 + id)))]
+}
+
+/// Groups whose ids all fall on one of the 8,192 marks by which `sheet::known` tells new ids.
+fn groups_one_mark(count: usize) -> Vec<Node> {
+    vec![(1..=count as u64).fold(node(1, 0, "bed", &[]), |node, id| node.group(group("g", id * 8_192)))]
 }
 
 /// As many lines as a sheet can have: unbound bindings.

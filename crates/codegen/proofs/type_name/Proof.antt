@@ -17,8 +17,7 @@ slice-aggregate-bytes c =
 
 returns : tie.Need-returns
 returns c =
-    let c2 = c .before .before in
-    let c1 = c2 .before .before .before .before in
+    let c2 = c .before .before in let c1 = c2 .before .before .before .before in
     rw (c1 .primitive .ensures .bytes) at (c2 .bytes3 .ensures)
 
 pub type-name-spec : {M : Type 1} → statement M

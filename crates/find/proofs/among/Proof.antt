@@ -1,4 +1,5 @@
--- `find::among` meets its contract. The loop's invariant: the search from the start answers what it answers from here. Assumes nothing.
+-- `find::among` meets its contract. The loop's invariant: the search from the start answers what it answers from here. Assumes
+-- nothing.
 use Rattle.find.proofs.Laws.{among-out, among-hit, among-miss}
 use Rattle.tree.specs.Read.{among}
 use mathlib.Core.Path.{_≡_, refl, sym, _∙_}
@@ -25,7 +26,8 @@ returns c =
 
 loop-again : tie.Need-loop-again Inv-loop μ-loop
 loop-again c =
-    (omega arith, (c .before .before .before .loop .inv .1) ∙ among-miss _ _ _ (c .before .before .loop-test .taken) (c .if1 .left))
+    let c2 = c .before .before in let c3 = c2 .before in
+    (omega arith, (c3 .loop .inv .1) ∙ among-miss _ _ _ (c2 .loop-test .taken) (c .if1 .left))
 
 returns-2 : tie.Need-returns-2 Inv-loop μ-loop
 returns-2 c =

@@ -17,11 +17,13 @@ returns c =
 
 returns-2 : tie.Need-returns-2
 returns-2 c =
-    rw (sym (c .before .before .before .before .next .ensures .0) ∙ (c .before .before .line .given .1), lt-ltb _ _ (c .if1 .taken)) refl
+    let c2 = c .before .before in let c4 = c2 .before .before in
+    rw (sym (c4 .next .ensures .0) ∙ (c2 .line .given .1), lt-ltb _ _ (c .if1 .taken)) refl
 
 returns-3 : tie.Need-returns-3
 returns-3 c =
-    rw (sym (c .before .before .before .before .next .ensures .0) ∙ (c .before .before .line .given .1), le-ltb _ _ (c .if1 .left)) refl
+    let c2 = c .before .before in let c4 = c2 .before .before in
+    rw (sym (c4 .next .ensures .0) ∙ (c2 .line .given .1), le-ltb _ _ (c .if1 .left)) refl
 
 pub kind-spec : {M : Type 1} → statement M
 kind-spec = tie.close (tie.spec next-requires enum-known-line returns returns-2 returns-3)

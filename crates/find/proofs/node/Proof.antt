@@ -1,4 +1,5 @@
--- `find::node` meets its contract. The loop's invariant: the search from the start answers what it answers from here. Assumes nothing.
+-- `find::node` meets its contract. The loop's invariant: the search from the start answers what it answers from here. Assumes
+-- nothing.
 use Rattle.find.proofs.Laws.{lookup-end, lookup-out, lookup-hit, lookup-miss}
 use Rattle.find.specs.Find.{lookup}
 use mathlib.Core.Path.{_≡_, refl, sym, _∙_}
@@ -25,11 +26,13 @@ returns c =
 
 returns-2 : tie.Need-returns-2 Inv-loop μ-loop
 returns-2 c =
-    sym ((c .before .before .before .before .before .loop .inv .1) ∙ lookup-hit _ _ _ _ (c .before .before .before .before .loop-test .taken) (omega arith) (c .before .if2 .taken))
+    let c1 = c .before in let c4 = c1 .before .before .before in let c5 = c4 .before in
+    sym ((c5 .loop .inv .1) ∙ lookup-hit _ _ _ _ (c4 .loop-test .taken) (omega arith) (c1 .if2 .taken))
 
 loop-again : tie.Need-loop-again Inv-loop μ-loop
 loop-again c =
-    (omega arith, (c .before .before .before .before .loop .inv .1) ∙ lookup-miss _ _ _ _ (c .before .before .before .loop-test .taken) (omega arith) (c .if2 .left))
+    let c3 = c .before .before .before in let c4 = c3 .before in
+    (omega arith, (c4 .loop .inv .1) ∙ lookup-miss _ _ _ _ (c3 .loop-test .taken) (omega arith) (c .if2 .left))
 
 returns-3 : tie.Need-returns-3 Inv-loop μ-loop
 returns-3 c =

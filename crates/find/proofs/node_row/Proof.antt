@@ -6,7 +6,9 @@ use Rattle.find.proofs.node_row.Statement.{statement}
 use Rattle.find.proofs.node_row.Tie as tie
 
 returns : tie.Need-returns
-returns c = (rw (sym (c .before .before .before .next .ensures .0) ∙ (c .before .line .given .1)) refl, c .before .before .before .next .ensures .1)
+returns c =
+    let c1 = c .before in let c3 = c1 .before .before in
+    (rw (sym (c3 .next .ensures .0) ∙ (c1 .line .given .1)) refl, c3 .next .ensures .1)
 
 returns-2 : tie.Need-returns-2
 returns-2 c = (rw (← (c .before .next .ensures .0), not-node _ _ _ (c .match .keys2)) refl, c .before .next .ensures .1)

@@ -1,4 +1,5 @@
--- `find::parameter` meets its contract. The loop's invariant: the name asked for is the one that is left to be found from here on. Assumes nothing.
+-- `find::parameter` meets its contract. The loop's invariant: the name asked for is the one that is left to be found from here
+-- on. Assumes nothing.
 use Rattle.find.proofs.Laws.{name-more, name-none, name-here}
 use Rattle.find.specs.Find.{namesOf, nameAt}
 use Rattle.row.specs.Rows.{rows}
@@ -21,15 +22,21 @@ loop-holds c =
 
 returns : tie.Need-returns Inv-loop μ-loop
 returns c =
-    sym ((c .before .before .before .loop .inv) ∙ name-none _ _ _ _ (c .before .before .next .ensures .0) (c .before .before .next .ensures .1) (c .before .is-parameter .ensures) _ (not-true _ (c .if1 .taken)))
+    let c1 = c .before in let c2 = c1 .before in let c3 = c2 .before in
+    sym ((c3 .loop .inv) ∙ name-none _ _ _ _ (c2 .next .ensures .0) (c2 .next .ensures .1) (c1 .is-parameter .ensures) _
+    (not-true _ (c .if1 .taken)))
 
 returns-2 : tie.Need-returns-2 Inv-loop μ-loop
 returns-2 c =
-    sym ((c .before .before .before .before .loop .inv) ∙ name-here _ _ _ _ (c .before .before .before .next .ensures .0) (c .before .before .before .next .ensures .1) (c .before .before .is-parameter .ensures) _ (c .if2 .taken) (not-false _ (c .before .if1 .left)))
+    let c1 = c .before in let c2 = c1 .before in let c3 = c2 .before in let c4 = c3 .before in
+    sym ((c4 .loop .inv) ∙ name-here _ _ _ _ (c3 .next .ensures .0) (c3 .next .ensures .1) (c2 .is-parameter .ensures) _
+    (c .if2 .taken) (not-false _ (c1 .if1 .left)))
 
 loop-again : tie.Need-loop-again Inv-loop μ-loop
 loop-again c =
-    (c .before .before .before .before .loop .inv) ∙ name-more _ _ _ _ (c .before .before .before .next .ensures .0) (c .before .before .before .next .ensures .1) (c .before .before .is-parameter .ensures) _ (c .if2 .left) (not-false _ (c .before .if1 .left))
+    let c1 = c .before in let c2 = c1 .before in let c3 = c2 .before in let c4 = c3 .before in
+    (c4 .loop .inv) ∙ name-more _ _ _ _ (c3 .next .ensures .0) (c3 .next .ensures .1) (c2 .is-parameter .ensures) _
+    (c .if2 .left) (not-false _ (c1 .if1 .left))
 
 pub parameter-spec : {M : Type 1} → statement M
 parameter-spec =

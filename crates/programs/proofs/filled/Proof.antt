@@ -8,10 +8,12 @@ use Rattle.programs.proofs.filled.Statement.{statement}
 use Rattle.programs.proofs.filled.Tie as tie
 
 returns : tie.Need-returns
-returns c = (omega arith, sym (length-take-le _ (now (c .before .before .before .args .buf)) (omega arith)))
+returns c =
+    (omega arith, (omega arith, sym (length-take-le _ (now (c .before .before .before .args .buf)) (omega arith))))
 
 returns-2 : tie.Need-returns-2
-returns-2 c = (omega arith, sym (length-take-le _ (now (c .before .before .before .args .buf)) (omega arith)))
+returns-2 c =
+    (omega arith, (omega arith, sym (length-take-le _ (now (c .before .before .before .args .buf)) (omega arith))))
 
 pub filled-spec : {M : Type 1} → statement M
 filled-spec = tie.close (tie.spec (λ c κs. search needs) returns returns-2)

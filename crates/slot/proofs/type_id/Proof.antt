@@ -12,8 +12,7 @@ returns c =
 
 returns-2 : tie.Need-returns-2
 returns-2 c =
-    let c2 = c .before in
-    let c1 = c2 .before .before in
+    let c2 = c .before in let c1 = c2 .before .before in
     rw (sym (c1 .next .ensures .0) ∙ (c2 .line .given .1)) refl
 
 pub type-id-spec : {M : Type 1} → statement M

@@ -6,7 +6,9 @@ use Rattle.type_parts.proofs.displayed.Tie as tie
 
 returns : tie.Need-returns
 returns c =
-    (c .before .before .before .before .before .before .before .before .before .before .bytes .ensures ⨾ c .before .before .before .before .before .before .bytes2 .ensures ⨾ c .before .before .display .ensures)
+    let c2 = c .before .before in let c6 = c2 .before .before .before .before in
+    let c10 = c6 .before .before .before .before in
+    (c10 .bytes .ensures ⨾ c6 .bytes2 .ensures ⨾ c2 .display .ensures)
 
 pub displayed-spec : {M : Type 1} → statement M
 displayed-spec =

@@ -1,4 +1,5 @@
--- `type_parts::inherited` meets its contract. The loop's invariant: whatever the names from here on make of what is written, all names make of the start. Assumes nothing.
+-- `type_parts::inherited` meets its contract. The loop's invariant: whatever the names from here on make of what is written,
+-- all names make of the start. Assumes nothing.
 use Rattle.type_parts.proofs.Laws as law
 use Rattle.type_parts.specs.declared.Arguments.{Arguments}
 use Rattle.type_parts.specs.Parts.{Listed}
@@ -16,7 +17,9 @@ use Rattle.type_parts.proofs.inherited.Statement.{statement}
 use Rattle.type_parts.proofs.inherited.Tie as tie
 
 abbrev Inv-loop : tie.InvT-loop
-Inv-loop s from buf₀ at₀ p₀ buf at p = (length buf ≡ length buf₀) × ((l′ : List ℕ) (p′ : Arguments) → Listed buf p (namesOf (rows (drop at s))) l′ p′ → Listed buf₀ p₀ (namesOf (rows (drop from s))) l′ p′)
+Inv-loop s from buf₀ at₀ p₀ buf at p = (length buf ≡ length buf₀) ×
+    ((l′ : List ℕ) (p′ : Arguments) → Listed buf p (namesOf (rows (drop at s))) l′ p′
+    → Listed buf₀ p₀ (namesOf (rows (drop from s))) l′ p′)
 
 abbrev μ-loop : tie.MeasureT-loop
 μ-loop s from buf₀ at₀ p₀ buf at p = length (rows (drop at s))
@@ -27,15 +30,30 @@ loop-holds c =
 
 returns : tie.Need-returns Inv-loop μ-loop
 returns c =
-    (c .before .before .before .loop .inv .1) _ _ (rw (law.names-end _ _ _ _ (c .before .before .next .ensures .0) (c .before .before .next .ensures .1) (c .before .is-parameter .ensures) (not-true _ (c .if1 .taken))) (law.listed-none _ _))
+    let c1 = c .before in let c2 = c1 .before in let c3 = c2 .before in
+    (c3 .loop .inv .1) _ _ (rw (law.names-end _ _ _ _ (c2 .next .ensures .0) (c2 .next .ensures .1) (c1 .is-parameter .ensures)
+    (not-true _ (c .if1 .taken))) (law.listed-none _ _))
 
 loop-less : tie.Need-loop-less Inv-loop μ-loop
 loop-less c =
-    law.fewer _ _ _ _ (c .before .before .before .before .before .before .before .before .before .before .before .before .next .ensures .0) (c .before .before .before .before .before .before .before .before .before .before .before .before .next .ensures .1) (c .before .before .before .before .before .before .before .before .before .before .before .is-parameter .ensures) (not-false _ (c .before .before .before .before .before .before .before .before .before .before .if1 .left))
+    let c10 = c .before .before .before .before .before .before .before .before .before .before in let c11 = c10 .before in
+    let c12 = c11 .before in
+    law.fewer _ _ _ _ (c12 .next .ensures .0) (c12 .next .ensures .1) (c11 .is-parameter .ensures)
+    (not-false _ (c10 .if1 .left))
 
 loop-again : tie.Need-loop-again Inv-loop μ-loop
 loop-again c =
-    (omega arith, λ l′ p′ h. (c .before .before .before .before .before .before .before .before .before .before .before .before .before .loop .inv .1) l′ p′ (rw (law.names-on _ _ _ _ (c .before .before .before .before .before .before .before .before .before .before .before .before .next .ensures .0) (c .before .before .before .before .before .before .before .before .before .before .before .before .next .ensures .1) (c .before .before .before .before .before .before .before .before .before .before .before .is-parameter .ensures) (not-false _ (c .before .before .before .before .before .before .before .before .before .before .if1 .left)), ← (c .before .before .before .before .text .ensures)) (law.listed-cons ((c .before .before .before .before .before .before .before .byte .ensures) ⨾ (c .before .before .bytes .ensures)) h)))
+    let c2 = c .before .before in let c4 = c2 .before .before in let c7 = c4 .before .before .before in
+    let c10 = c7 .before .before .before in let c11 = c10 .before in let c12 = c11 .before in
+    let c13 = c12 .before in (
+      omega arith,
+      λ l′ p′ h. (c13 .loop .inv .1) l′ p′ (rw (
+        law.names-on _ _ _ _ (c12 .next .ensures .0) (c12 .next .ensures .1)
+            (c11 .is-parameter .ensures) (not-false _ (c10 .if1 .left)),
+        ← (c4 .text .ensures),
+      )
+          (law.listed-cons ((c7 .byte .ensures) ⨾ (c2 .bytes .ensures)) h)),
+    )
 
 pub inherited-spec : {M : Type 1} → statement M
 inherited-spec =

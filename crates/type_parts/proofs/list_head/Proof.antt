@@ -10,7 +10,11 @@ use Rattle.type_parts.proofs.list_head.Tie as tie
 
 returns : tie.Need-returns
 returns c =
-    law.three-threes ((c .before .before .before .before .before .before .before .before .before .before .before .before .before .before .args .root) .now) (ascii "::") (listModule (c .before .before .before .before .before .before .before .before .before .before .before .before .before .before .args .kind)) (ascii "::") (bareName (c .before .before .before .before .before .before .before .before .before .before .before .before .before .before .args .leaf)) (ascii "<") (lifetimeComma (c .before .before .before .before .before .before .before .before .before .before .before .before .before .before .args .leaf)) ((c .before .before .before .before .before .before .before .before .before .before .bytes .ensures ⨾ c .before .before .before .before .before .before .list-module .ensures ⨾ c .before .before .list-leaf .ensures))
+    let c2 = c .before .before in let c6 = c2 .before .before .before .before in
+    let c10 = c6 .before .before .before .before in let c14 = c10 .before .before .before .before in
+    law.three-threes ((c14 .args .root) .now) (ascii "::") (listModule (c14 .args .kind)) (ascii "::")
+    (bareName (c14 .args .leaf)) (ascii "<") (lifetimeComma (c14 .args .leaf))
+    ((c10 .bytes .ensures ⨾ c6 .list-module .ensures ⨾ c2 .list-leaf .ensures))
 
 pub list-head-spec : {M : Type 1} → statement M
 list-head-spec =

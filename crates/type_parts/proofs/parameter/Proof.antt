@@ -13,22 +13,38 @@ enum-told c = search needs
 returns : tie.Need-returns
 unfolding parameterString
 returns c =
-    rw ((c .before .before .before .before .before .before .before .before .leaf .given .1), (c .before .before .before .before .before .enum-told .given .1)) (law.in-three (ascii "<" ++ (c .before .before .before .before .before .before .before .before .before .before .before .before .before .args .name .now) ++ ascii " as " ++ (c .before .before .before .before .before .before .before .before .before .before .before .before .before .args .root .now)) (ascii "::traits::Owned>::Reader<") (ascii "'a") (ascii ">") (c .before .before .projected .ensures))
+    let c2 = c .before .before in let c5 = c2 .before .before .before in let c8 = c5 .before .before .before in
+    let c13 = c8 .before .before .before .before .before in
+    rw ((c8 .leaf .given .1), (c5 .enum-told .given .1)) (law.in-three
+    (ascii "<" ++ (c13 .args .name .now) ++ ascii " as " ++ (c13 .args .root .now)) (ascii "::traits::Owned>::Reader<")
+    (ascii "'a") (ascii ">") (c2 .projected .ensures))
 
 returns-2 : tie.Need-returns-2
 unfolding parameterString
 returns-2 c =
-    rw ((c .before .before .before .before .before .before .before .before .leaf .given .1), (c .before .before .before .before .before .enum-told2 .given .1)) (law.in-three (ascii "<" ++ (c .before .before .before .before .before .before .before .before .before .before .before .before .before .args .name .now) ++ ascii " as " ++ (c .before .before .before .before .before .before .before .before .before .before .before .before .before .args .root .now)) (ascii "::traits::Owned>::Reader<") (ascii "'_") (ascii ">") (c .before .before .projected2 .ensures))
+    let c2 = c .before .before in let c5 = c2 .before .before .before in let c8 = c5 .before .before .before in
+    let c13 = c8 .before .before .before .before .before in
+    rw ((c8 .leaf .given .1), (c5 .enum-told2 .given .1)) (law.in-three
+    (ascii "<" ++ (c13 .args .name .now) ++ ascii " as " ++ (c13 .args .root .now)) (ascii "::traits::Owned>::Reader<")
+    (ascii "'_") (ascii ">") (c2 .projected2 .ensures))
 
 returns-3 : tie.Need-returns-3
 unfolding parameterString
 returns-3 c =
-    rw ((c .before .before .before .before .before .before .before .before .leaf2 .given .1), (c .before .before .before .before .before .enum-told3 .given .1)) (law.in-three (ascii "<" ++ (c .before .before .before .before .before .before .before .before .before .before .before .before .before .args .name .now) ++ ascii " as " ++ (c .before .before .before .before .before .before .before .before .before .before .before .before .before .args .root .now)) (ascii "::traits::Owned>::Builder<") (ascii "'a") (ascii ">") (c .before .before .projected3 .ensures))
+    let c2 = c .before .before in let c5 = c2 .before .before .before in let c8 = c5 .before .before .before in
+    let c13 = c8 .before .before .before .before .before in
+    rw ((c8 .leaf2 .given .1), (c5 .enum-told3 .given .1)) (law.in-three
+    (ascii "<" ++ (c13 .args .name .now) ++ ascii " as " ++ (c13 .args .root .now)) (ascii "::traits::Owned>::Builder<")
+    (ascii "'a") (ascii ">") (c2 .projected3 .ensures))
 
 returns-4 : tie.Need-returns-4
 unfolding parameterString
 returns-4 c =
-    rw ((c .before .before .before .before .before .before .before .before .leaf2 .given .1), (c .before .before .before .before .before .enum-told4 .given .1)) (law.in-three (ascii "<" ++ (c .before .before .before .before .before .before .before .before .before .before .before .before .before .args .name .now) ++ ascii " as " ++ (c .before .before .before .before .before .before .before .before .before .before .before .before .before .args .root .now)) (ascii "::traits::Owned>::Builder<") (ascii "'_") (ascii ">") (c .before .before .projected4 .ensures))
+    let c2 = c .before .before in let c5 = c2 .before .before .before in let c8 = c5 .before .before .before in
+    let c13 = c8 .before .before .before .before .before in
+    rw ((c8 .leaf2 .given .1), (c5 .enum-told4 .given .1)) (law.in-three
+    (ascii "<" ++ (c13 .args .name .now) ++ ascii " as " ++ (c13 .args .root .now)) (ascii "::traits::Owned>::Builder<")
+    (ascii "'_") (ascii ">") (c2 .projected4 .ensures))
 
 returns-5 : tie.Need-returns-5
 unfolding parameterString

@@ -11,11 +11,14 @@ returns c =
 
 returns-2 : tie.Need-returns-2
 returns-2 c =
-    λ h. rw (ne-eqb _ _ (c .before .before .before .before .before .before .if1 .left), eq-eqb _ _ (c .before .before .before .before .before .if2 .taken)) (c .before .before .displayed2 .ensures)
+    let c2 = c .before .before in let c5 = c2 .before .before .before in let c6 = c5 .before in
+    λ h. rw (ne-eqb _ _ (c6 .if1 .left), eq-eqb _ _ (c5 .if2 .taken)) (c2 .displayed2 .ensures)
 
 returns-3 : tie.Need-returns-3
 returns-3 c =
-    λ h. rw (ne-eqb _ _ (c .before .before .before .before .before .if1 .left), ne-eqb _ _ (c .before .before .before .before .if2 .left)) ((c .before .before .primitive .ensures) (let y = (c .before .before .before .before .before .if1 .left) in let z = (c .before .before .before .before .if2 .left) in omega arith))
+    let c2 = c .before .before in let c4 = c2 .before .before in let c5 = c4 .before in
+    λ h. rw (ne-eqb _ _ (c5 .if1 .left), ne-eqb _ _ (c4 .if2 .left))
+    ((c2 .primitive .ensures) (let y = (c5 .if1 .left) in let z = (c4 .if2 .left) in omega arith))
 
 pub plain-spec : {M : Type 1} → statement M
 plain-spec =

@@ -53,7 +53,16 @@ returns-11 c =
 
 returns-12 : tie.Need-returns-12
 returns-12 c =
-    λ h. let e : (c .before .before .before .before .before .before .before .args .kind) ≡ 11 = (let y : 11 ≤ (c .before .before .before .before .before .before .before .args .kind) = above 10 (c .before .before .before .before .before .before .before .args .kind) (above 9 (c .before .before .before .before .before .before .before .args .kind) (above 8 (c .before .before .before .before .before .before .before .args .kind) (above 7 (c .before .before .before .before .before .before .before .args .kind) (above 6 (c .before .before .before .before .before .before .before .args .kind) (above 5 (c .before .before .before .before .before .before .before .args .kind) (above 4 (c .before .before .before .before .before .before .before .args .kind) (above 3 (c .before .before .before .before .before .before .before .args .kind) (above 2 (c .before .before .before .before .before .before .before .args .kind) (above 1 (c .before .before .before .before .before .before .before .args .kind) (above 0 (c .before .before .before .before .before .before .before .args .kind) (omega arith) (c .before .before .before .before .before .match .rest .0 .0 .0 .0 .0 .0 .0 .0 .0 .0 .1)) (c .before .before .before .before .before .match .rest .0 .0 .0 .0 .0 .0 .0 .0 .0 .1)) (c .before .before .before .before .before .match .rest .0 .0 .0 .0 .0 .0 .0 .0 .1)) (c .before .before .before .before .before .match .rest .0 .0 .0 .0 .0 .0 .0 .1)) (c .before .before .before .before .before .match .rest .0 .0 .0 .0 .0 .0 .1)) (c .before .before .before .before .before .match .rest .0 .0 .0 .0 .0 .1)) (c .before .before .before .before .before .match .rest .0 .0 .0 .0 .1)) (c .before .before .before .before .before .match .rest .0 .0 .0 .1)) (c .before .before .before .before .before .match .rest .0 .0 .1)) (c .before .before .before .before .before .match .rest .0 .1)) (c .before .before .before .before .before .match .rest .1) in omega arith) in rw e (c .before .before .bytes12 .ensures)
+    let c2 = c .before .before in let c5 = c2 .before .before .before in let c7 = c5 .before .before in
+    λ h. let e : (c7 .args .kind) ≡ 11 = (let y : 11 ≤ (c7 .args .kind) = above 10 (c7 .args .kind)
+    (above 9 (c7 .args .kind) (above 8 (c7 .args .kind) (above 7 (c7 .args .kind)
+    (above 6 (c7 .args .kind) (above 5 (c7 .args .kind) (above 4 (c7 .args .kind)
+    (above 3 (c7 .args .kind) (above 2 (c7 .args .kind) (above 1 (c7 .args .kind)
+    (above 0 (c7 .args .kind) (omega arith) (c5 .match .rest .0 .0 .0 .0 .0 .0 .0 .0 .0 .0 .1))
+    (c5 .match .rest .0 .0 .0 .0 .0 .0 .0 .0 .0 .1)) (c5 .match .rest .0 .0 .0 .0 .0 .0 .0 .0 .1))
+    (c5 .match .rest .0 .0 .0 .0 .0 .0 .0 .1)) (c5 .match .rest .0 .0 .0 .0 .0 .0 .1)) (c5 .match .rest .0 .0 .0 .0 .0 .1))
+    (c5 .match .rest .0 .0 .0 .0 .1)) (c5 .match .rest .0 .0 .0 .1)) (c5 .match .rest .0 .0 .1)) (c5 .match .rest .0 .1))
+    (c5 .match .rest .1) in omega arith) in rw e (c2 .bytes12 .ensures)
 
 pub primitive-spec : {M : Type 1} → statement M
 primitive-spec =

@@ -13,11 +13,19 @@ enum-told c = search needs
 
 returns : tie.Need-returns
 returns c =
-    λ ns x. module-none ((c .before .before .before .before .before .before .before .before .args .s) .now) (sheetOf ((c .before .before .before .before .before .before .before .before .args .root) .now) ns) ((c .before .before .before .before .before .before .before .before .args .ids) .now) ((c .before .before .before .before .before .before .before .before .args .ats) .now) _ _ (c .before .before .node .ensures) x (λ (o : Out Str). Writes o ((c .before .before .before .before .before .before .before .before .args .buf) .now) (c .before .before .before .before .before .before .before .before .args .t) ((c .before .before .before .before .before .before .before .before .args .buf) .now) (c .before .before .before .before .before .before .before .before .args .t)) (c .enum-told .given .1) tt
+    let c2 = c .before .before in let c8 = c2 .before .before .before .before .before .before in
+    λ ns x. module-none ((c8 .args .s) .now) (sheetOf ((c8 .args .root) .now) ns) ((c8 .args .ids) .now) ((c8 .args .ats) .now)
+    _ _ (c2 .node .ensures) x (λ (o : Out Str). Writes o ((c8 .args .buf) .now) (c8 .args .t) ((c8 .args .buf) .now)
+    (c8 .args .t)) (c .enum-told .given .1) tt
 
 returns-2 : tie.Need-returns-2
 returns-2 c =
-    λ ns x. module-at ((c .before .before .before .before .before .before .before .before .before .before .before .before .before .before .args .s) .now) (sheetOf ((c .before .before .before .before .before .before .before .before .before .before .before .before .before .before .args .root) .now) ns) ((c .before .before .before .before .before .before .before .before .before .before .before .before .before .before .args .ids) .now) ((c .before .before .before .before .before .before .before .before .before .before .before .before .before .before .args .ats) .now) _ _ (c .before .before .before .before .before .before .before .before .node .ensures) x (λ (o : Out Str). Writes o ((c .before .before .before .before .before .before .before .before .before .before .before .before .before .before .args .buf) .now) (c .before .before .before .before .before .before .before .before .before .before .before .before .before .before .args .t) (c .before .before .bytes .last .1 .0) (c .before .before .bytes .result)) (c .before .before .before .before .before .before .node2 .given .0 .0) (c .before .before .before .before .before .before .node2 .given .1) (rw (c .before .before .before .before .text .ensures) at (c .before .before .bytes .ensures))
+    let c2 = c .before .before in let c4 = c2 .before .before in let c6 = c4 .before .before in let c8 = c6 .before .before in
+    let c14 = c8 .before .before .before .before .before .before in
+    λ ns x. module-at ((c14 .args .s) .now) (sheetOf ((c14 .args .root) .now) ns) ((c14 .args .ids) .now)
+    ((c14 .args .ats) .now) _ _ (c8 .node .ensures) x (λ (o : Out Str). Writes o ((c14 .args .buf) .now) (c14 .args .t)
+    (c2 .bytes .last .1 .0) (c2 .bytes .result)) (c6 .node2 .given .0 .0) (c6 .node2 .given .1)
+    (rw (c4 .text .ensures) at (c2 .bytes .ensures))
 
 pub qualified-module-spec : {M : Type 1} → statement M
 qualified-module-spec =

@@ -1,5 +1,7 @@
--- The walk that looks for a refusal, six functions that call each other, meets its contracts: each return is one law of Laws.antt. It ends, since
--- the type levels left fall at each way round. The loop over bindings: what is met from here on is met by the whole. The loop over a node's
+-- The walk that looks for a refusal, six functions that call each other, meets its contracts: each return is one law of
+-- Laws.antt. It ends, since
+-- the type levels left fall at each way round. The loop over bindings: what is met from here on is met by the whole. The loop
+-- over a node's
 -- parents: so it is, and no node that was seen has a refusal of its own. Assumes nothing.
 use lib.Seq.{length-take-le}
 use lib.ListN.{length, length-set, drop}
@@ -30,22 +32,33 @@ use borrow.Fn.Kinds.{In}
 use borrow.Fn.PlainCycle.{Measures, is, falls, and}
 use Rattle.type_refusal.proofs.binding_refusal.Reads as binding-refusal
 use Rattle.type_refusal.proofs.binding_refusal.Kinds as binding-refusal-kinds
-use Rattle.type_refusal.proofs.+binding_refusal+binds_refusal+brand_refusal+list_refusal+own_refusal+refusal.Lts-binding_refusal as binding-refusal-lts
+use
+    Rattle.type_refusal.proofs.+binding_refusal+binds_refusal+brand_refusal+list_refusal+own_refusal+refusal.Lts-binding_refusal
+    as binding-refusal-lts
 use Rattle.type_refusal.proofs.binds_refusal.Reads as binds-refusal
 use Rattle.type_refusal.proofs.binds_refusal.Kinds as binds-refusal-kinds
-use Rattle.type_refusal.proofs.+binding_refusal+binds_refusal+brand_refusal+list_refusal+own_refusal+refusal.Lts-binds_refusal as binds-refusal-lts
+use
+    Rattle.type_refusal.proofs.+binding_refusal+binds_refusal+brand_refusal+list_refusal+own_refusal+refusal.Lts-binds_refusal
+    as binds-refusal-lts
 use Rattle.type_refusal.proofs.brand_refusal.Reads as brand-refusal
 use Rattle.type_refusal.proofs.brand_refusal.Kinds as brand-refusal-kinds
-use Rattle.type_refusal.proofs.+binding_refusal+binds_refusal+brand_refusal+list_refusal+own_refusal+refusal.Lts-brand_refusal as brand-refusal-lts
+use
+    Rattle.type_refusal.proofs.+binding_refusal+binds_refusal+brand_refusal+list_refusal+own_refusal+refusal.Lts-brand_refusal
+    as brand-refusal-lts
 use Rattle.type_refusal.proofs.list_refusal.Reads as list-refusal
 use Rattle.type_refusal.proofs.list_refusal.Kinds as list-refusal-kinds
-use Rattle.type_refusal.proofs.+binding_refusal+binds_refusal+brand_refusal+list_refusal+own_refusal+refusal.Lts-list_refusal as list-refusal-lts
+use
+    Rattle.type_refusal.proofs.+binding_refusal+binds_refusal+brand_refusal+list_refusal+own_refusal+refusal.Lts-list_refusal
+    as list-refusal-lts
 use Rattle.type_refusal.proofs.own_refusal.Reads as own-refusal
 use Rattle.type_refusal.proofs.own_refusal.Kinds as own-refusal-kinds
-use Rattle.type_refusal.proofs.+binding_refusal+binds_refusal+brand_refusal+list_refusal+own_refusal+refusal.Lts-own_refusal as own-refusal-lts
+use
+    Rattle.type_refusal.proofs.+binding_refusal+binds_refusal+brand_refusal+list_refusal+own_refusal+refusal.Lts-own_refusal
+    as own-refusal-lts
 use Rattle.type_refusal.proofs.refusal.Reads as refusal
 use Rattle.type_refusal.proofs.refusal.Kinds as refusal-kinds
-use Rattle.type_refusal.proofs.+binding_refusal+binds_refusal+brand_refusal+list_refusal+own_refusal+refusal.Lts-refusal as refusal-lts
+use Rattle.type_refusal.proofs.+binding_refusal+binds_refusal+brand_refusal+list_refusal+own_refusal+refusal.Lts-refusal
+    as refusal-lts
 use Rattle.codegen_types.proofs.element_leaf.Reads as element-leaf-reads
 use Rattle.find.proofs.among.Reads as among-reads
 use Rattle.find.proofs.count_is.Reads as count-is-reads
@@ -155,145 +168,283 @@ abbrev binds-refusal-calls : ℕ → binds-refusal-lts.Claims
 binds-refusal-calls t = (binding-refusal-below t, binding-refusal.Post, past-reads.Asked, past-reads.Learnt)
 
 abbrev brand-refusal-calls : ℕ → brand-refusal-lts.Claims
-brand-refusal-calls t = (node-reads.Asked, node-reads.Learnt, own-refusal-below t, own-refusal.Post, node-row-reads.Asked, node-row-reads.Learnt)
+brand-refusal-calls t = (
+  node-reads.Asked,
+  node-reads.Learnt,
+  own-refusal-below t,
+  own-refusal.Post,
+  node-row-reads.Asked,
+  node-row-reads.Learnt,
+)
 
 abbrev list-refusal-calls : ℕ → list-refusal-lts.Claims
-list-refusal-calls t = (kind-reads.Asked, kind-reads.Learnt, element-leaf-reads.Asked, element-leaf-reads.Learnt, refusal-below t, refusal.Post)
+list-refusal-calls t = (
+  kind-reads.Asked,
+  kind-reads.Learnt,
+  element-leaf-reads.Asked,
+  element-leaf-reads.Learnt,
+  refusal-below
+      t,
+  refusal.Post,
+)
 
 abbrev own-refusal-calls : ℕ → own-refusal-lts.Claims
-own-refusal-calls t = (among-reads.Asked, among-reads.Learnt, scope-reads.Asked, scope-reads.Learnt, next-reads.Asked, next-reads.Learnt, node-row-reads.Asked, node-row-reads.Learnt, count-is-reads.Asked, count-is-reads.Learnt, binds-refusal-below t, binds-refusal.Post)
+own-refusal-calls t = (
+  among-reads.Asked,
+  among-reads.Learnt,
+  scope-reads.Asked,
+  scope-reads.Learnt,
+  next-reads.Asked,
+  next-reads.Learnt,
+  node-row-reads.Asked,
+  node-row-reads.Learnt,
+  count-is-reads.Asked,
+  count-is-reads.Learnt,
+  binds-refusal-below t,
+  binds-refusal.Post,
+)
 
 abbrev refusal-calls : ℕ → refusal-lts.Claims
-refusal-calls t = (next-reads.Asked, next-reads.Learnt, list-refusal-below t, list-refusal.Post, module-refusal-reads.Asked, module-refusal-reads.Learnt, brand-refusal-below t, brand-refusal.Post, pointer-refusal-reads.Asked, pointer-refusal-reads.Learnt)
+refusal-calls t = (
+  next-reads.Asked,
+  next-reads.Learnt,
+  list-refusal-below t,
+  list-refusal.Post,
+  module-refusal-reads.Asked,
+  module-refusal-reads.Learnt,
+  brand-refusal-below t,
+  brand-refusal.Post,
+  pointer-refusal-reads.Asked,
+  pointer-refusal-reads.Learnt,
+)
 
-binding-refusal-refusal-requires : (t : ℕ) → binding-refusal-lts.Need-refusal-requires (binding-refusal-calls t) (binding-refusal-at t) binding-refusal.Post
+binding-refusal-refusal-requires : (t : ℕ) → binding-refusal-lts.Need-refusal-requires (binding-refusal-calls t)
+    (binding-refusal-at t) binding-refusal.Post
 binding-refusal-refusal-requires t c κs =
     (omega (arith, (c .before .before .before .before .before .pre .0)), tt)
 
-binding-refusal-returns : (t : ℕ) → binding-refusal-lts.Need-returns (binding-refusal-calls t) (binding-refusal-at t) binding-refusal.Post
+binding-refusal-returns : (t : ℕ) → binding-refusal-lts.Need-returns (binding-refusal-calls t) (binding-refusal-at t)
+    binding-refusal.Post
 unfolding allOf bindingsOf
 binding-refusal-returns t c =
-    λ root ns x. read-law.bind-unbound _ _ (λ f. None ≡ refusalOf (allOf (bindingsOf (f stop) (sheetOf root ns)))) _ (c .before .before .next .ensures .0) (c .enum-told .given .1) refl
+    let c2 = c .before .before in
+    λ root ns x. read-law.bind-unbound _ _ (λ f. None ≡ refusalOf (allOf (bindingsOf (f stop) (sheetOf root ns)))) _
+    (c2 .next .ensures .0) (c .enum-told .given .1) refl
 
-binding-refusal-returns-2 : (t : ℕ) → binding-refusal-lts.Need-returns-2 (binding-refusal-calls t) (binding-refusal-at t) binding-refusal.Post
+binding-refusal-returns-2 : (t : ℕ) → binding-refusal-lts.Need-returns-2 (binding-refusal-calls t) (binding-refusal-at t)
+    binding-refusal.Post
 binding-refusal-returns-2 t c =
-    λ root ns x. read-law.bind-typed _ _ (λ f. (c .refusal .result) ≡ refusalOf (allOf (bindingsOf (f stop) (sheetOf root ns)))) _ (c .before .before .next .ensures .0) (c .before .match .keys2) (on-one (λ ty. (c .refusal .result) ≡ refusalOf (typeString ty (sheetOf root ns) Owned)) (λ t. (c .refusal .result) ≡ refusalOf (allOf (bindingsOf (bound t stop) (sheetOf root ns)))) (typeOf (c .before .before .before .before .before .before .args .left) (rows (drop (c .before .before .before .before .before .before .args .at) ((c .before .before .before .before .before .before .args .s) .now)))) (λ t e. law.bind-one (sheetOf root ns) t (c .refusal .result) e) ((c .refusal .ensures) root ns x))
+    let c1 = c .before in let c2 = c1 .before in let c6 = c2 .before .before .before .before in
+    λ root ns x. read-law.bind-typed _ _ (λ f. (c .refusal .result) ≡ refusalOf (allOf (bindingsOf (f stop) (sheetOf root ns))))
+    _ (c2 .next .ensures .0) (c1 .match .keys2) (on-one (λ ty. (c .refusal .result) ≡ refusalOf
+    (typeString ty (sheetOf root ns) Owned)) (λ t. (c .refusal .result) ≡ refusalOf
+    (allOf (bindingsOf (bound t stop) (sheetOf root ns))))
+    (typeOf (c6 .args .left) (rows (drop (c6 .args .at) ((c6 .args .s) .now))))
+    (λ t e. law.bind-one (sheetOf root ns) t (c .refusal .result) e) ((c .refusal .ensures) root ns x))
 
 abbrev binds-refusal-Inv-loop : binds-refusal-lts.InvT-loop
-binds-refusal-Inv-loop s ids ats from count left at₀ n₀ at n = (root : Str) (ns : List Node) → Indexed s ns ids ats → (r : Refusal)
-    → On (times (bindingOf (typeOf left)) stop n (rows (drop at s))) (λ bs. r ≡ refusalOf (allOf (bindingsOf bs (sheetOf root ns))))
-    → On (times (bindingOf (typeOf left)) stop count (rows (drop from s))) (λ bs. r ≡ refusalOf (allOf (bindingsOf bs (sheetOf root ns))))
+binds-refusal-Inv-loop s ids ats from count left at₀ n₀ at n = (root : Str) (ns : List Node) → Indexed s ns ids ats
+    → (r : Refusal)
+    → On (times (bindingOf (typeOf left)) stop n (rows (drop at s)))
+    (λ bs. r ≡ refusalOf (allOf (bindingsOf bs (sheetOf root ns))))
+    → On (times (bindingOf (typeOf left)) stop count (rows (drop from s)))
+    (λ bs. r ≡ refusalOf (allOf (bindingsOf bs (sheetOf root ns))))
 
 abbrev binds-refusal-μ-loop : binds-refusal-lts.MeasureT-loop
 binds-refusal-μ-loop s ids ats from count left at₀ n₀ at n = n
 
-binds-refusal-loop-holds : (t : ℕ) → binds-refusal-lts.Need-loop-holds (binds-refusal-calls t) (binds-refusal-at t) binds-refusal.Post binds-refusal-Inv-loop binds-refusal-μ-loop
+binds-refusal-loop-holds : (t : ℕ) → binds-refusal-lts.Need-loop-holds (binds-refusal-calls t) (binds-refusal-at t)
+    binds-refusal.Post binds-refusal-Inv-loop binds-refusal-μ-loop
 binds-refusal-loop-holds t c =
     λ root ns x r h. h
 
-binds-refusal-binding-refusal-requires : (t : ℕ) → binds-refusal-lts.Need-binding-refusal-requires (binds-refusal-calls t) (binds-refusal-at t) binds-refusal.Post binds-refusal-Inv-loop binds-refusal-μ-loop
+binds-refusal-binding-refusal-requires : (t : ℕ) → binds-refusal-lts.Need-binding-refusal-requires (binds-refusal-calls t)
+    (binds-refusal-at t) binds-refusal.Post binds-refusal-Inv-loop binds-refusal-μ-loop
 binds-refusal-binding-refusal-requires t c κs =
     (omega (arith, (c .before .before .before .before .before .pre .0)), tt)
 
-binds-refusal-returns : (t : ℕ) → binds-refusal-lts.Need-returns (binds-refusal-calls t) (binds-refusal-at t) binds-refusal.Post binds-refusal-Inv-loop binds-refusal-μ-loop
+binds-refusal-returns : (t : ℕ) → binds-refusal-lts.Need-returns (binds-refusal-calls t) (binds-refusal-at t) binds-refusal.Post
+    binds-refusal-Inv-loop binds-refusal-μ-loop
 binds-refusal-returns t c =
-    λ root ns x. (c .before .before .before .before .loop .inv) root ns x (c .before .before .binding-refusal .result) (law.binds-stop (sheetOf root ns) _ _ _ _ (c .before .before .before .loop-test .taken) refl _ ((c .before .before .binding-refusal .ensures) root ns x) _ (c .enum-told2 .given .1))
+    let c2 = c .before .before in let c3 = c2 .before in let c4 = c3 .before in
+    λ root ns x. (c4 .loop .inv) root ns x (c2 .binding-refusal .result)
+    (law.binds-stop (sheetOf root ns) _ _ _ _ (c3 .loop-test .taken) refl _ ((c2 .binding-refusal .ensures) root ns x) _
+    (c .enum-told2 .given .1))
 
-binds-refusal-loop-again : (t : ℕ) → binds-refusal-lts.Need-loop-again (binds-refusal-calls t) (binds-refusal-at t) binds-refusal.Post binds-refusal-Inv-loop binds-refusal-μ-loop
+binds-refusal-loop-again : (t : ℕ) → binds-refusal-lts.Need-loop-again (binds-refusal-calls t) (binds-refusal-at t)
+    binds-refusal.Post binds-refusal-Inv-loop binds-refusal-μ-loop
 binds-refusal-loop-again t c =
-    λ root ns x r h. (c .before .before .before .before .before .loop .inv) root ns x r (law.binds-on (sheetOf root ns) _ _ _ _ (c .before .before .before .before .loop-test .taken) (c .past .ensures) _ ((c .before .before .before .binding-refusal .ensures) root ns x) r (c .before .enum-told .given .1) h)
+    let c1 = c .before in let c3 = c1 .before .before in let c4 = c3 .before in let c5 = c4 .before in
+    λ root ns x r h. (c5 .loop .inv) root ns x r (law.binds-on (sheetOf root ns) _ _ _ _ (c4 .loop-test .taken)
+    (c .past .ensures) _ ((c3 .binding-refusal .ensures) root ns x) r (c1 .enum-told .given .1) h)
 
-binds-refusal-returns-2 : (t : ℕ) → binds-refusal-lts.Need-returns-2 (binds-refusal-calls t) (binds-refusal-at t) binds-refusal.Post binds-refusal-Inv-loop binds-refusal-μ-loop
+binds-refusal-returns-2 : (t : ℕ) → binds-refusal-lts.Need-returns-2 (binds-refusal-calls t) (binds-refusal-at t)
+    binds-refusal.Post binds-refusal-Inv-loop binds-refusal-μ-loop
 binds-refusal-returns-2 t c =
     λ root ns x. (c .before .loop .inv) root ns x None (law.binds-none (sheetOf root ns) _ _ _ (c .loop-test .left))
 
 abbrev brand-refusal-Inv-loop : brand-refusal-lts.InvT-loop
-brand-refusal-Inv-loop s ids ats id at n left seen₀ k₀ current₀ seen k current = (k ≤ 16) × (length seen ≡ 16) × ((root : Str) (ns : List Node) → Indexed s ns ids ats
-    → On (times (read.scopeOf (typeOf left)) end n (rows (drop at s))) (λ ss. Chained (sheetOf root ns) (scopesOf ss (sheetOf root ns)) id current k seen))
+brand-refusal-Inv-loop s ids ats id at n left seen₀ k₀ current₀ seen k current = (k ≤ 16) × (length seen ≡ 16) ×
+    ((root : Str) (ns : List Node) → Indexed s ns ids ats
+    → On (times (read.scopeOf (typeOf left)) end n (rows (drop at s)))
+    (λ ss. Chained (sheetOf root ns) (scopesOf ss (sheetOf root ns)) id current k seen))
 
 abbrev brand-refusal-μ-loop : brand-refusal-lts.MeasureT-loop
 brand-refusal-μ-loop s ids ats id at n left seen₀ k₀ current₀ seen k current = 16 - k
 
-brand-refusal-loop-holds : (t : ℕ) → brand-refusal-lts.Need-loop-holds (brand-refusal-calls t) (brand-refusal-at t) brand-refusal.Post brand-refusal-Inv-loop brand-refusal-μ-loop
+brand-refusal-loop-holds : (t : ℕ) → brand-refusal-lts.Need-loop-holds (brand-refusal-calls t) (brand-refusal-at t)
+    brand-refusal.Post brand-refusal-Inv-loop brand-refusal-μ-loop
 brand-refusal-loop-holds t c =
-    (omega arith, refl, λ root ns x. law.brand-start (sheetOf root ns) (times (read.scopeOf (typeOf (c .before .before .before .args .left))) end (c .before .before .before .args .n) (rows (drop (c .before .before .before .args .at) ((c .before .before .before .args .s) .now)))) (c .before .before .before .args .id) _)
+    let c3 = c .before .before .before in (
+      omega arith,
+      refl,
+      λ root ns x. law.brand-start (sheetOf root ns)
+          (times (read.scopeOf (typeOf (c3 .args .left))) end (c3 .args .n) (rows (drop (c3 .args .at) ((c3 .args .s) .now))))
+          (c3 .args .id) _,
+    )
 
-brand-refusal-returns : (t : ℕ) → brand-refusal-lts.Need-returns (brand-refusal-calls t) (brand-refusal-at t) brand-refusal.Post brand-refusal-Inv-loop brand-refusal-μ-loop
+brand-refusal-returns : (t : ℕ) → brand-refusal-lts.Need-returns (brand-refusal-calls t) (brand-refusal-at t) brand-refusal.Post
+    brand-refusal-Inv-loop brand-refusal-μ-loop
 brand-refusal-returns t c =
-    λ root ns x. law.brand-5 ((c .before .before .before .before .before .before .before .before .args .s) .now) ns ((c .before .before .before .before .before .before .before .before .args .ids) .now) ((c .before .before .before .before .before .before .before .before .args .ats) .now) root (times (read.scopeOf (typeOf (c .before .before .before .before .before .before .before .before .args .left))) end (c .before .before .before .before .before .before .before .before .args .n) (rows (drop (c .before .before .before .before .before .before .before .before .args .at) ((c .before .before .before .before .before .before .before .before .args .s) .now)))) (c .before .before .before .before .before .before .before .before .args .id) (c .before .before .before .before .loop .current) (c .before .before .before .before .loop .k) (c .before .before .before .before .loop .seen) (c .before .before .before .loop-test .taken) _ (c .before .before .node .ensures) x ((c .before .before .before .before .loop .inv .2) root ns x) (c .enum-told .given .1)
+    let c2 = c .before .before in let c3 = c2 .before in let c4 = c3 .before in let c8 = c4 .before .before .before .before in
+    λ root ns x. law.brand-5 ((c8 .args .s) .now) ns ((c8 .args .ids) .now) ((c8 .args .ats) .now) root
+    (times (read.scopeOf (typeOf (c8 .args .left))) end (c8 .args .n) (rows (drop (c8 .args .at) ((c8 .args .s) .now))))
+    (c8 .args .id) (c4 .loop .current) (c4 .loop .k) (c4 .loop .seen) (c3 .loop-test .taken) _ (c2 .node .ensures) x
+    ((c4 .loop .inv .2) root ns x) (c .enum-told .given .1)
 
 brand-refusal-slice-aggregate-own-refusal :
-    (t : ℕ) → brand-refusal-lts.Need-slice-aggregate-own-refusal (brand-refusal-calls t) (brand-refusal-at t) brand-refusal.Post brand-refusal-Inv-loop brand-refusal-μ-loop
+    (t : ℕ) → brand-refusal-lts.Need-slice-aggregate-own-refusal (brand-refusal-calls t) (brand-refusal-at t) brand-refusal.Post
+    brand-refusal-Inv-loop brand-refusal-μ-loop
 brand-refusal-slice-aggregate-own-refusal t c =
-    sym (length-take-le (c .before .before .before .before .before .before .loop .k) (c .before .before .before .before .before .before .loop .seen) (let h = (c .before .before .before .before .before .before .loop .inv .1) in omega arith))
+    let c6 = c .before .before .before .before .before .before in
+    sym (length-take-le (c6 .loop .k) (c6 .loop .seen) (let h = (c6 .loop .inv .1) in omega arith))
 
-brand-refusal-own-refusal-requires : (t : ℕ) → brand-refusal-lts.Need-own-refusal-requires (brand-refusal-calls t) (brand-refusal-at t) brand-refusal.Post brand-refusal-Inv-loop brand-refusal-μ-loop
+brand-refusal-own-refusal-requires : (t : ℕ) → brand-refusal-lts.Need-own-refusal-requires (brand-refusal-calls t)
+    (brand-refusal-at t) brand-refusal.Post brand-refusal-Inv-loop brand-refusal-μ-loop
 brand-refusal-own-refusal-requires t c κs =
     (omega (arith, (c .before .before .before .before .before .before .before .before .before .before .pre .0)), tt)
 
-brand-refusal-returns-2 : (t : ℕ) → brand-refusal-lts.Need-returns-2 (brand-refusal-calls t) (brand-refusal-at t) brand-refusal.Post brand-refusal-Inv-loop brand-refusal-μ-loop
+brand-refusal-returns-2 : (t : ℕ) → brand-refusal-lts.Need-returns-2 (brand-refusal-calls t) (brand-refusal-at t)
+    brand-refusal.Post brand-refusal-Inv-loop brand-refusal-μ-loop
 brand-refusal-returns-2 t c =
-    λ root ns x. law.brand-own ((c .before .before .before .before .before .before .before .before .before .before .before .before .before .args .s) .now) ns ((c .before .before .before .before .before .before .before .before .before .before .before .before .before .args .ids) .now) ((c .before .before .before .before .before .before .before .before .before .before .before .before .before .args .ats) .now) root (times (read.scopeOf (typeOf (c .before .before .before .before .before .before .before .before .before .before .before .before .before .args .left))) end (c .before .before .before .before .before .before .before .before .before .before .before .before .before .args .n) (rows (drop (c .before .before .before .before .before .before .before .before .before .before .before .before .before .args .at) ((c .before .before .before .before .before .before .before .before .before .before .before .before .before .args .s) .now)))) (c .before .before .before .before .before .before .before .before .before .before .before .before .before .args .id) (c .before .before .before .before .before .before .before .before .before .loop .current) (c .before .before .before .before .before .before .before .before .before .loop .k) (c .before .before .before .before .before .before .before .before .before .loop .seen) (c .before .before .before .before .before .before .before .before .loop-test .taken) _ (c .before .before .before .before .before .before .before .node .ensures) x ((c .before .before .before .before .before .before .before .before .before .loop .inv .2) root ns x) (c .before .before .before .before .before .node2 .given .0 .0) (c .before .before .before .before .before .node2 .given .1) _ ((c .before .before .own-refusal .ensures) root ns x) _ (c .enum-told3 .given .1)
+    let c2 = c .before .before in let c5 = c2 .before .before .before in let c7 = c5 .before .before in let c8 = c7 .before in
+    let c9 = c8 .before in let c13 = c9 .before .before .before .before in
+    λ root ns x. law.brand-own ((c13 .args .s) .now) ns ((c13 .args .ids) .now) ((c13 .args .ats) .now) root
+    (times (read.scopeOf (typeOf (c13 .args .left))) end (c13 .args .n) (rows (drop (c13 .args .at) ((c13 .args .s) .now))))
+    (c13 .args .id) (c9 .loop .current) (c9 .loop .k) (c9 .loop .seen) (c8 .loop-test .taken) _ (c7 .node .ensures) x
+    ((c9 .loop .inv .2) root ns x) (c5 .node2 .given .0 .0) (c5 .node2 .given .1) _ ((c2 .own-refusal .ensures) root ns x) _
+    (c .enum-told3 .given .1)
 
-brand-refusal-returns-3 : (t : ℕ) → brand-refusal-lts.Need-returns-3 (brand-refusal-calls t) (brand-refusal-at t) brand-refusal.Post brand-refusal-Inv-loop brand-refusal-μ-loop
+brand-refusal-returns-3 : (t : ℕ) → brand-refusal-lts.Need-returns-3 (brand-refusal-calls t) (brand-refusal-at t)
+    brand-refusal.Post brand-refusal-Inv-loop brand-refusal-μ-loop
 brand-refusal-returns-3 t c =
-    λ root ns x. law.brand-top ((c .before .before .before .before .before .before .before .before .before .before .before .before .before .before .before .before .args .s) .now) ns ((c .before .before .before .before .before .before .before .before .before .before .before .before .before .before .before .before .args .ids) .now) ((c .before .before .before .before .before .before .before .before .before .before .before .before .before .before .before .before .args .ats) .now) root (times (read.scopeOf (typeOf (c .before .before .before .before .before .before .before .before .before .before .before .before .before .before .before .before .args .left))) end (c .before .before .before .before .before .before .before .before .before .before .before .before .before .before .before .before .args .n) (rows (drop (c .before .before .before .before .before .before .before .before .before .before .before .before .before .before .before .before .args .at) ((c .before .before .before .before .before .before .before .before .before .before .before .before .before .before .before .before .args .s) .now)))) (c .before .before .before .before .before .before .before .before .before .before .before .before .before .before .before .before .args .id) (c .before .before .before .before .before .before .before .before .before .before .before .before .loop .current) (c .before .before .before .before .before .before .before .before .before .before .before .before .loop .k) (c .before .before .before .before .before .before .before .before .before .before .before .before .loop .seen) (c .before .before .before .before .before .before .before .before .before .before .before .loop-test .taken) _ (c .before .before .before .before .before .before .before .before .before .before .node .ensures) x ((c .before .before .before .before .before .before .before .before .before .before .before .before .loop .inv .2) root ns x) (c .before .before .before .before .before .before .before .before .node2 .given .0 .0) (c .before .before .before .before .before .before .before .before .node2 .given .1) _ ((c .before .before .before .before .before .own-refusal .ensures) root ns x) _ (c .before .before .node-row .ensures .0) (c .before .before .before .enum-told2 .given .1) (c .if1 .taken)
+    let c2 = c .before .before in let c3 = c2 .before in let c5 = c3 .before .before in let c8 = c5 .before .before .before in
+    let c10 = c8 .before .before in let c11 = c10 .before in let c12 = c11 .before in
+    let c16 = c12 .before .before .before .before in
+    λ root ns x. law.brand-top ((c16 .args .s) .now) ns ((c16 .args .ids) .now) ((c16 .args .ats) .now) root
+    (times (read.scopeOf (typeOf (c16 .args .left))) end (c16 .args .n) (rows (drop (c16 .args .at) ((c16 .args .s) .now))))
+    (c16 .args .id) (c12 .loop .current) (c12 .loop .k) (c12 .loop .seen) (c11 .loop-test .taken) _ (c10 .node .ensures) x
+    ((c12 .loop .inv .2) root ns x) (c8 .node2 .given .0 .0) (c8 .node2 .given .1) _ ((c5 .own-refusal .ensures) root ns x)
+    _ (c2 .node-row .ensures .0) (c3 .enum-told2 .given .1) (c .if1 .taken)
 
-brand-refusal-loop-again : (t : ℕ) → brand-refusal-lts.Need-loop-again (brand-refusal-calls t) (brand-refusal-at t) brand-refusal.Post brand-refusal-Inv-loop brand-refusal-μ-loop
+brand-refusal-loop-again : (t : ℕ) → brand-refusal-lts.Need-loop-again (brand-refusal-calls t) (brand-refusal-at t)
+    brand-refusal.Post brand-refusal-Inv-loop brand-refusal-μ-loop
 brand-refusal-loop-again t c =
-    (omega arith, length-set (c .before .before .before .before .before .before .before .before .before .before .before .before .loop .seen) (c .before .before .before .before .before .before .before .before .before .before .before .before .loop .k) (c .before .before .before .before .before .before .before .before .before .before .before .before .loop .current) ∙ (c .before .before .before .before .before .before .before .before .before .before .before .before .loop .inv .1), λ root ns x. law.brand-next ((c .before .before .before .before .before .before .before .before .before .before .before .before .before .before .before .before .args .s) .now) ns ((c .before .before .before .before .before .before .before .before .before .before .before .before .before .before .before .before .args .ids) .now) ((c .before .before .before .before .before .before .before .before .before .before .before .before .before .before .before .before .args .ats) .now) root (times (read.scopeOf (typeOf (c .before .before .before .before .before .before .before .before .before .before .before .before .before .before .before .before .args .left))) end (c .before .before .before .before .before .before .before .before .before .before .before .before .before .before .before .before .args .n) (rows (drop (c .before .before .before .before .before .before .before .before .before .before .before .before .before .before .before .before .args .at) ((c .before .before .before .before .before .before .before .before .before .before .before .before .before .before .before .before .args .s) .now)))) (c .before .before .before .before .before .before .before .before .before .before .before .before .before .before .before .before .args .id) (c .before .before .before .before .before .before .before .before .before .before .before .before .loop .current) (c .before .before .before .before .before .before .before .before .before .before .before .before .loop .k) (c .before .before .before .before .before .before .before .before .before .before .before .before .loop .seen) (c .before .before .before .before .before .before .before .before .before .before .before .loop-test .taken) _ (c .before .before .before .before .before .before .before .before .before .before .node .ensures) x ((c .before .before .before .before .before .before .before .before .before .before .before .before .loop .inv .2) root ns x) (c .before .before .before .before .before .before .before .before .node2 .given .0 .0) (c .before .before .before .before .before .before .before .before .node2 .given .1) _ ((c .before .before .before .before .before .own-refusal .ensures) root ns x) _ (c .before .before .node-row .ensures .0) (c .before .before .before .enum-told2 .given .1) (c .before .before .before .before .before .before .before .before .before .before .before .before .loop .inv .1) (c .if1 .left))
+    let c2 = c .before .before in let c3 = c2 .before in let c5 = c3 .before .before in let c8 = c5 .before .before .before in
+    let c10 = c8 .before .before in let c11 = c10 .before in let c12 = c11 .before in
+    let c16 = c12 .before .before .before .before in (
+      omega arith,
+      length-set (c12 .loop .seen) (c12 .loop .k) (c12 .loop .current) ∙ (c12 .loop .inv .1),
+      λ root ns x.
+          law.brand-next ((c16 .args .s) .now) ns ((c16 .args .ids) .now) ((c16 .args .ats) .now) root
+          (times (read.scopeOf (typeOf (c16 .args .left))) end (c16 .args .n) (rows (drop (c16 .args .at) ((c16 .args .s) .now))))
+          (c16 .args .id) (c12 .loop .current) (c12 .loop .k) (c12 .loop .seen) (c11 .loop-test .taken) _ (c10 .node .ensures) x
+          ((c12 .loop .inv .2) root ns x) (c8 .node2 .given .0 .0) (c8 .node2 .given .1) _ ((c5 .own-refusal .ensures) root ns x)
+          _ (c2 .node-row .ensures .0) (c3 .enum-told2 .given .1) (c12 .loop .inv .1) (c .if1 .left),
+    )
 
-brand-refusal-returns-4 : (t : ℕ) → brand-refusal-lts.Need-returns-4 (brand-refusal-calls t) (brand-refusal-at t) brand-refusal.Post brand-refusal-Inv-loop brand-refusal-μ-loop
+brand-refusal-returns-4 : (t : ℕ) → brand-refusal-lts.Need-returns-4 (brand-refusal-calls t) (brand-refusal-at t)
+    brand-refusal.Post brand-refusal-Inv-loop brand-refusal-μ-loop
 brand-refusal-returns-4 t c =
-    λ root ns x. law.brand-4 (sheetOf root ns) (times (read.scopeOf (typeOf (c .before .before .before .before .before .args .left))) end (c .before .before .before .before .before .args .n) (rows (drop (c .before .before .before .before .before .args .at) ((c .before .before .before .before .before .args .s) .now)))) (c .before .before .before .before .before .args .id) (c .before .loop .current) (c .before .loop .k) (c .before .loop .seen) (c .loop-test .left) ((c .before .loop .inv .2) root ns x)
+    let c1 = c .before in let c5 = c1 .before .before .before .before in
+    λ root ns x. law.brand-4 (sheetOf root ns) (times (read.scopeOf (typeOf (c5 .args .left))) end (c5 .args .n)
+    (rows (drop (c5 .args .at) ((c5 .args .s) .now)))) (c5 .args .id) (c1 .loop .current) (c1 .loop .k) (c1 .loop .seen)
+    (c .loop-test .left) ((c1 .loop .inv .2) root ns x)
 
 list-refusal-returns : (t : ℕ) → list-refusal-lts.Need-returns (list-refusal-calls t) (list-refusal-at t) list-refusal.Post
 list-refusal-returns t c =
-    λ root ns x. law.list-text (sheetOf root ns) (c .before .before .before .before .before .args .leaf) _ _ _ (c .before .kind .ensures) (c .if1 .taken)
+    let c1 = c .before in let c5 = c1 .before .before .before .before in
+    λ root ns x. law.list-text (sheetOf root ns) (c5 .args .leaf) _ _ _ (c1 .kind .ensures) (c .if1 .taken)
 
 list-refusal-returns-2 : (t : ℕ) → list-refusal-lts.Need-returns-2 (list-refusal-calls t) (list-refusal-at t) list-refusal.Post
 list-refusal-returns-2 t c =
-    λ root ns x. law.list-data (sheetOf root ns) (c .before .before .before .before .before .before .args .leaf) _ _ _ (c .before .before .kind .ensures) (c .before .if1 .left) (c .if2 .taken)
+    let c1 = c .before in let c2 = c1 .before in let c6 = c2 .before .before .before .before in
+    λ root ns x. law.list-data (sheetOf root ns) (c6 .args .leaf) _ _ _ (c2 .kind .ensures) (c1 .if1 .left) (c .if2 .taken)
 
 list-refusal-returns-3 : (t : ℕ) → list-refusal-lts.Need-returns-3 (list-refusal-calls t) (list-refusal-at t) list-refusal.Post
 list-refusal-returns-3 t c =
-    λ root ns x. law.list-any (sheetOf root ns) (c .before .before .before .before .before .before .before .args .leaf) _ _ _ (c .before .before .before .kind .ensures) (c .before .before .if1 .left) (c .before .if2 .left) (c .if3 .taken)
+    let c1 = c .before in let c2 = c1 .before in let c3 = c2 .before in let c7 = c3 .before .before .before .before in
+    λ root ns x. law.list-any (sheetOf root ns) (c7 .args .leaf) _ _ _ (c3 .kind .ensures) (c2 .if1 .left) (c1 .if2 .left)
+    (c .if3 .taken)
 
-list-refusal-refusal-requires : (t : ℕ) → list-refusal-lts.Need-refusal-requires (list-refusal-calls t) (list-refusal-at t) list-refusal.Post
+list-refusal-refusal-requires : (t : ℕ) → list-refusal-lts.Need-refusal-requires (list-refusal-calls t) (list-refusal-at t)
+    list-refusal.Post
 list-refusal-refusal-requires t c κs =
     (omega (arith, (c .before .before .before .before .before .before .before .before .pre .0)), tt)
 
 list-refusal-returns-4 : (t : ℕ) → list-refusal-lts.Need-returns-4 (list-refusal-calls t) (list-refusal-at t) list-refusal.Post
 list-refusal-returns-4 t c =
-    λ root ns x. law.list-inner (sheetOf root ns) (c .before .before .before .before .before .before .before .before .before .args .leaf) _ _ _ (c .before .before .before .before .before .kind .ensures) _ _ (c .before .before .before .before .if1 .left) (c .before .before .before .if2 .left) (c .before .before .if3 .left) (c .before .element-leaf .ensures) ((c .refusal .ensures) root ns x)
+    let c1 = c .before in let c2 = c1 .before in let c3 = c2 .before in let c4 = c3 .before in let c5 = c4 .before in
+    let c9 = c5 .before .before .before .before in
+    λ root ns x. law.list-inner (sheetOf root ns) (c9 .args .leaf) _ _ _ (c5 .kind .ensures) _ _ (c4 .if1 .left) (c3 .if2 .left)
+    (c2 .if3 .left) (c1 .element-leaf .ensures) ((c .refusal .ensures) root ns x)
 
 own-refusal-returns : (t : ℕ) → own-refusal-lts.Need-returns (own-refusal-calls t) (own-refusal-at t) own-refusal.Post
 own-refusal-returns t c =
-    λ root ns x y e w. law.own-seen (sheetOf root ns) (times (read.scopeOf (typeOf (c .before .before .before .before .before .before .args .left))) end (c .before .before .before .before .before .before .args .n) (rows (drop (c .before .before .before .before .before .before .args .at) (c .before .before .before .before .before .before .args .s .now)))) _ _ _ (c .before .among .ensures) (c .if1 .taken)
+    let c1 = c .before in let c6 = c1 .before .before .before .before .before in
+    λ root ns x y e w. law.own-seen (sheetOf root ns) (times (read.scopeOf (typeOf (c6 .args .left))) end (c6 .args .n)
+    (rows (drop (c6 .args .at) (c6 .args .s .now)))) _ _ _ (c1 .among .ensures) (c .if1 .taken)
 
 own-refusal-returns-2 : (t : ℕ) → own-refusal-lts.Need-returns-2 (own-refusal-calls t) (own-refusal-at t) own-refusal.Post
 own-refusal-returns-2 t c =
-    λ root ns x y e w. law.own-none _ (sheetOf root ns) _ _ _ _ y e _ (c .before .before .scope .ensures) (rw (c .enum-told .given .1) refl)
+    let c2 = c .before .before in
+    λ root ns x y e w. law.own-none _ (sheetOf root ns) _ _ _ _ y e _ (c2 .scope .ensures) (rw (c .enum-told .given .1) refl)
 
 own-refusal-returns-3 : (t : ℕ) → own-refusal-lts.Need-returns-3 (own-refusal-calls t) (own-refusal-at t) own-refusal.Post
 own-refusal-returns-3 t c =
-    λ root ns x y e w. law.own-other _ (sheetOf root ns) _ _ _ _ y e _ (c .before .before .before .before .before .scope .ensures) _ (rw (c .before .before .before .scope2 .given .1) refl) _ (c .before .next .ensures .0) _ (c .match2 .keys2)
+    let c1 = c .before in let c3 = c1 .before .before in let c5 = c3 .before .before in
+    λ root ns x y e w. law.own-other _ (sheetOf root ns) _ _ _ _ y e _ (c5 .scope .ensures) _ (rw (c3 .scope2 .given .1) refl) _
+    (c1 .next .ensures .0) _ (c .match2 .keys2)
 
 own-refusal-returns-4 : (t : ℕ) → own-refusal-lts.Need-returns-4 (own-refusal-calls t) (own-refusal-at t) own-refusal.Post
 own-refusal-returns-4 t c =
-    λ root ns x y e w. law.own-inherit _ (sheetOf root ns) _ _ _ _ y e _ (c .before .before .before .before .before .before .before .before .scope .ensures) _ (rw (c .before .before .before .before .before .before .scope2 .given .1) refl) _ (c .before .before .before .before .next .ensures .0) _ _ _ (c .before .before .line .given .1) (c .if2 .taken)
+    let c2 = c .before .before in let c4 = c2 .before .before in let c6 = c4 .before .before in let c8 = c6 .before .before in
+    λ root ns x y e w. law.own-inherit _ (sheetOf root ns) _ _ _ _ y e _ (c8 .scope .ensures) _ (rw (c6 .scope2 .given .1) refl)
+    _ (c4 .next .ensures .0) _ _ _ (c2 .line .given .1) (c .if2 .taken)
 
-own-refusal-binds-refusal-requires : (t : ℕ) → own-refusal-lts.Need-binds-refusal-requires (own-refusal-calls t) (own-refusal-at t) own-refusal.Post
+own-refusal-binds-refusal-requires : (t : ℕ) → own-refusal-lts.Need-binds-refusal-requires (own-refusal-calls t)
+    (own-refusal-at t) own-refusal.Post
 own-refusal-binds-refusal-requires t c κs =
-    (omega (arith, (c .before .before .before .before .before .before .before .before .before .before .before .before .before .before .before .before .before .before .pre .0)), tt)
+    let c18 = c .before .before .before .before .before .before .before .before .before .before .before .before .before .before
+    .before .before .before .before in
+    (omega (arith, (c18 .pre .0)), tt)
 
 own-refusal-returns-5 : (t : ℕ) → own-refusal-lts.Need-returns-5 (own-refusal-calls t) (own-refusal-at t) own-refusal.Post
 own-refusal-returns-5 t c =
-    λ root ns x y e w. law.own-binds _ (sheetOf root ns) _ _ _ _ y e _ (c .before .before .before .before .before .before .before .before .before .before .before .before .scope .ensures) _ (rw (c .before .before .before .before .before .before .before .before .before .before .scope2 .given .1) refl) _ (c .before .before .before .before .before .before .before .before .next .ensures .0) _ _ _ (c .before .before .before .before .before .before .line .given .1) (c .before .before .before .before .if2 .left) _ (c .before .before .before .before .before .before .before .before .next .ensures .1) _ (rw (c .before .before .before .node-row .ensures .1) (w .params)) _ (c .before .before .count-is .ensures) _ (c .before .if3 .taken) ((c .binds-refusal .ensures) root ns x)
+    let c1 = c .before in let c2 = c1 .before in let c3 = c2 .before in let c4 = c3 .before in let c6 = c4 .before .before in
+    let c8 = c6 .before .before in let c10 = c8 .before .before in let c12 = c10 .before .before in
+    λ root ns x y e w. law.own-binds _ (sheetOf root ns) _ _ _ _ y e _ (c12 .scope .ensures) _ (rw (c10 .scope2 .given .1) refl)
+    _ (c8 .next .ensures .0) _ _ _ (c6 .line .given .1) (c4 .if2 .left) _ (c8 .next .ensures .1) _
+    (rw (c3 .node-row .ensures .1) (w .params)) _ (c2 .count-is .ensures) _ (c1 .if3 .taken)
+    ((c .binds-refusal .ensures) root ns x)
 
 own-refusal-returns-6 : (t : ℕ) → own-refusal-lts.Need-returns-6 (own-refusal-calls t) (own-refusal-at t) own-refusal.Post
 own-refusal-returns-6 t c =
-    λ root ns x y e w. law.own-8 _ (sheetOf root ns) _ _ _ _ y e _ (c .before .before .before .before .before .before .before .before .before .before .before .scope .ensures) _ (rw (c .before .before .before .before .before .before .before .before .before .scope2 .given .1) refl) _ (c .before .before .before .before .before .before .before .next .ensures .0) _ _ _ (c .before .before .before .before .before .line .given .1) (c .before .before .before .if2 .left) _ (c .before .before .before .before .before .before .before .next .ensures .1) _ (rw (c .before .before .node-row .ensures .1) (w .params)) _ (c .before .count-is .ensures) (c .if3 .left)
+    let c1 = c .before in let c2 = c1 .before in let c3 = c2 .before in let c5 = c3 .before .before in
+    let c7 = c5 .before .before in let c9 = c7 .before .before in let c11 = c9 .before .before in
+    λ root ns x y e w. law.own-8 _ (sheetOf root ns) _ _ _ _ y e _ (c11 .scope .ensures) _ (rw (c9 .scope2 .given .1) refl) _
+    (c7 .next .ensures .0) _ _ _ (c5 .line .given .1) (c3 .if2 .left) _ (c7 .next .ensures .1) _
+    (rw (c2 .node-row .ensures .1) (w .params)) _ (c1 .count-is .ensures) (c .if3 .left)
 
 refusal-returns : (t : ℕ) → refusal-lts.Need-returns (refusal-calls t) (refusal-at t) refusal.Post
 refusal-returns t c =
@@ -306,7 +457,10 @@ refusal-returns-2 t c =
 refusal-returns-3 : (t : ℕ) → refusal-lts.Need-returns-3 (refusal-calls t) (refusal-at t) refusal.Post
 unfolding typeString
 refusal-returns-3 t c =
-    λ root ns x. read-law.type-plain _ _ _ _ _ _ _ _ (c .before .before .before .before .before .if1 .left) (c .before .before .before .before .next .ensures .0) (c .before .before .line .given .1) (c .before .before .before .before .next .ensures .1) (λ ty. None ≡ refusalOf (typeString ty (sheetOf root ns) (c .before .before .before .before .before .before .before .before .before .args .leaf))) (c .if2 .taken) refl
+    let c2 = c .before .before in let c4 = c2 .before .before in let c5 = c4 .before in
+    let c9 = c5 .before .before .before .before in
+    λ root ns x. read-law.type-plain _ _ _ _ _ _ _ _ (c5 .if1 .left) (c4 .next .ensures .0) (c2 .line .given .1)
+    (c4 .next .ensures .1) (λ ty. None ≡ refusalOf (typeString ty (sheetOf root ns) (c9 .args .leaf))) (c .if2 .taken) refl
 
 refusal-list-refusal-requires : (t : ℕ) → refusal-lts.Need-list-refusal-requires (refusal-calls t) (refusal-at t) refusal.Post
 refusal-list-refusal-requires t c κs =
@@ -314,23 +468,43 @@ refusal-list-refusal-requires t c κs =
 
 refusal-returns-4 : (t : ℕ) → refusal-lts.Need-returns-4 (refusal-calls t) (refusal-at t) refusal.Post
 refusal-returns-4 t c =
-    λ root ns x. read-law.type-list _ _ _ _ _ _ _ _ (c .before .before .before .before .before .before .before .if1 .left) (c .before .before .before .before .before .before .next .ensures .0) (c .before .before .before .before .line .given .1) (c .before .before .before .before .before .before .next .ensures .1) (λ ty. (c .list-refusal .result) ≡ refusalOf (typeString ty (sheetOf root ns) (c .before .before .before .before .before .before .before .before .before .before .before .args .leaf))) (c .before .if3 .taken) ((c .list-refusal .ensures) root ns x)
+    let c1 = c .before in let c4 = c1 .before .before .before in let c6 = c4 .before .before in let c7 = c6 .before in
+    let c11 = c7 .before .before .before .before in
+    λ root ns x. read-law.type-list _ _ _ _ _ _ _ _ (c7 .if1 .left) (c6 .next .ensures .0) (c4 .line .given .1)
+    (c6 .next .ensures .1) (λ ty. (c .list-refusal .result) ≡ refusalOf (typeString ty (sheetOf root ns) (c11 .args .leaf)))
+    (c1 .if3 .taken) ((c .list-refusal .ensures) root ns x)
 
 refusal-returns-5 : (t : ℕ) → refusal-lts.Need-returns-5 (refusal-calls t) (refusal-at t) refusal.Post
 refusal-returns-5 t c =
-    λ root ns x. read-law.type-enum (sheetOf root ns) (c .before .before .before .before .before .before .before .before .before .before .before .before .args .leaf) _ _ _ _ _ _ _ _ (c .before .before .before .before .before .before .before .before .if1 .left) (c .before .before .before .before .before .before .before .next .ensures .0) (c .before .before .before .before .before .line .given .1) (c .before .before .before .before .before .before .before .next .ensures .1) (λ (o : Out Str). (c .module-refusal .result) ≡ refusalOf o) (c .before .if4 .taken) ((c .module-refusal .ensures) root ns x)
+    let c1 = c .before in let c5 = c1 .before .before .before .before in let c7 = c5 .before .before in let c8 = c7 .before in
+    let c12 = c8 .before .before .before .before in
+    λ root ns x. read-law.type-enum (sheetOf root ns) (c12 .args .leaf) _ _ _ _ _ _ _ _ (c8 .if1 .left) (c7 .next .ensures .0)
+    (c5 .line .given .1) (c7 .next .ensures .1) (λ (o : Out Str). (c .module-refusal .result) ≡ refusalOf o)
+    (c1 .if4 .taken) ((c .module-refusal .ensures) root ns x)
 
 refusal-brand-refusal-requires : (t : ℕ) → refusal-lts.Need-brand-refusal-requires (refusal-calls t) (refusal-at t) refusal.Post
 refusal-brand-refusal-requires t c κs =
-    (omega (arith, (c .before .before .before .before .before .before .before .before .before .before .before .before .pre .0)), tt)
+    let c12 = c .before .before .before .before .before .before .before .before .before .before .before .before in
+    (omega (arith, (c12 .pre .0)), tt)
 
 refusal-returns-6 : (t : ℕ) → refusal-lts.Need-returns-6 (refusal-calls t) (refusal-at t) refusal.Post
 refusal-returns-6 t c =
-    λ root ns x. read-law.type-branded (sheetOf root ns) (c .before .before .before .before .before .before .before .before .before .before .before .before .before .args .leaf) _ _ _ _ _ _ _ _ (c .before .before .before .before .before .before .before .before .before .if1 .left) (c .before .before .before .before .before .before .before .before .next .ensures .0) (c .before .before .before .before .before .before .line .given .1) (c .before .before .before .before .before .before .before .before .next .ensures .1) (λ (o : Out Str). (c .brand-refusal .result) ≡ refusalOf o) (c .before .before .before .before .if2 .left) (c .before .before .before .if3 .left) (c .before .before .if4 .left) (c .before .if5 .taken) (law.brand-told (sheetOf root ns) (c .before .before .before .before .before .before .before .before .before .before .before .before .before .args .leaf) (times (read.scopeOf (typeOf (c .before .before .before .before .before .before .before .before .before .before .before .before .before .args .left - 1))) end (c .before .before .before .before .before .before .line .given .0 .1 .1 .0) (rows (drop (c .before .before .before .before .before .before .before .before .next .result .next) (c .before .before .before .before .before .before .before .before .before .before .before .before .before .args .s .now)))) _ _ ((c .brand-refusal .ensures) root ns x))
+    let c1 = c .before in let c2 = c1 .before in let c3 = c2 .before in let c4 = c3 .before in let c6 = c4 .before .before in
+    let c8 = c6 .before .before in let c9 = c8 .before in let c13 = c9 .before .before .before .before in
+    λ root ns x. read-law.type-branded (sheetOf root ns) (c13 .args .leaf) _ _ _ _ _ _ _ _ (c9 .if1 .left)
+    (c8 .next .ensures .0) (c6 .line .given .1) (c8 .next .ensures .1)
+    (λ (o : Out Str). (c .brand-refusal .result) ≡ refusalOf o) (c4 .if2 .left) (c3 .if3 .left) (c2 .if4 .left)
+    (c1 .if5 .taken) (law.brand-told (sheetOf root ns) (c13 .args .leaf)
+    (times (read.scopeOf (typeOf (c13 .args .left - 1))) end (c6 .line .given .0 .1 .1 .0)
+    (rows (drop (c8 .next .result .next) (c13 .args .s .now)))) _ _ ((c .brand-refusal .ensures) root ns x))
 
 refusal-returns-7 : (t : ℕ) → refusal-lts.Need-returns-7 (refusal-calls t) (refusal-at t) refusal.Post
 refusal-returns-7 t c =
-    λ root ns x. read-law.type-pointer _ _ _ _ _ _ _ _ (c .before .before .before .before .before .before .before .before .before .if1 .left) (c .before .before .before .before .before .before .before .before .next .ensures .0) (c .before .before .before .before .before .before .line .given .1) (c .before .before .before .before .before .before .before .before .next .ensures .1) (λ ty. (c .pointer-refusal .result) ≡ refusalOf (typeString ty (sheetOf root ns) (c .before .before .before .before .before .before .before .before .before .before .before .before .before .args .leaf))) (c .before .if5 .left) ((c .pointer-refusal .ensures) root ns x)
+    let c1 = c .before in let c6 = c1 .before .before .before .before .before in let c8 = c6 .before .before in
+    let c9 = c8 .before in let c13 = c9 .before .before .before .before in
+    λ root ns x. read-law.type-pointer _ _ _ _ _ _ _ _ (c9 .if1 .left) (c8 .next .ensures .0) (c6 .line .given .1)
+    (c8 .next .ensures .1) (λ ty. (c .pointer-refusal .result) ≡ refusalOf
+    (typeString ty (sheetOf root ns) (c13 .args .leaf))) (c1 .if5 .left) ((c .pointer-refusal .ensures) root ns x)
 
 pub +binding-refusal+binds-refusal+brand-refusal+list-refusal+own-refusal+refusal-spec :
     {M : Type 1} → statement M

@@ -14,11 +14,15 @@ enum-told c = search needs
 
 returns : tie.Need-returns
 returns c =
-    λ root ns x. module-at ((c .before .before .before .before .before .before .args .s) .now) (sheetOf root ns) ((c .before .before .before .before .before .before .args .ids) .now) ((c .before .before .before .before .before .before .args .ats) .now) _ _ (c .before .before .node .ensures) x (λ (o : Out Str). None ≡ refusalOf o) _ (c .enum-told .given .1) refl
+    let c2 = c .before .before in let c6 = c2 .before .before .before .before in
+    λ root ns x. module-at ((c6 .args .s) .now) (sheetOf root ns) ((c6 .args .ids) .now) ((c6 .args .ats) .now) _ _
+    (c2 .node .ensures) x (λ (o : Out Str). None ≡ refusalOf o) _ (c .enum-told .given .1) refl
 
 returns-2 : tie.Need-returns-2
 returns-2 c =
-    λ root ns x. module-none ((c .before .before .before .before .before .before .args .s) .now) (sheetOf root ns) ((c .before .before .before .before .before .before .args .ids) .now) ((c .before .before .before .before .before .before .args .ats) .now) _ _ (c .before .before .node .ensures) x (λ (o : Out Str). Number 5 ≡ refusalOf o) (c .enum-told2 .given .1) refl
+    let c2 = c .before .before in let c6 = c2 .before .before .before .before in
+    λ root ns x. module-none ((c6 .args .s) .now) (sheetOf root ns) ((c6 .args .ids) .now) ((c6 .args .ats) .now) _ _
+    (c2 .node .ensures) x (λ (o : Out Str). Number 5 ≡ refusalOf o) (c .enum-told2 .given .1) refl
 
 pub module-refusal-spec : {M : Type 1} → statement M
 module-refusal-spec = tie.close (tie.spec (λ c κs. search needs) enum-told (λ c. search needs) returns returns-2)

@@ -1,5 +1,7 @@
--- `do_branding` and the writers of types, seven functions that call each other, meet their contracts: each return is one law of Laws.antt. They
--- end, since the type levels left fall at each way round, and the nodes left along a chain. The loop over bindings: whatever the bindings from here
+-- `do_branding` and the writers of types, seven functions that call each other, meet their contracts: each return is one law of
+-- Laws.antt. They
+-- end, since the type levels left fall at each way round, and the nodes left along a chain. The loop over bindings: whatever
+-- the bindings from here
 -- on make of what is written, all of them make of the start. Assumes nothing.
 use Rattle.type_string.proofs.Laws as law
 use Rattle.type_string.specs.Told.{onlyOf}
@@ -27,25 +29,39 @@ use borrow.Fn.Kinds.{In}
 use borrow.Fn.PlainCycle.{Measures, is, falls, and}
 use Rattle.type_string.proofs.do_branding.Reads as do-branding
 use Rattle.type_string.proofs.do_branding.Kinds as do-branding-kinds
-use Rattle.type_string.proofs.+do_branding+write_binding+write_binds+write_chain+write_list+write_own+write_type.Lts-do_branding as do-branding-lts
+use
+    Rattle.type_string.proofs.+do_branding+write_binding+write_binds+write_chain+write_list+write_own+write_type.Lts-do_branding
+    as do-branding-lts
 use Rattle.type_string.proofs.write_binding.Reads as write-binding
 use Rattle.type_string.proofs.write_binding.Kinds as write-binding-kinds
-use Rattle.type_string.proofs.+do_branding+write_binding+write_binds+write_chain+write_list+write_own+write_type.Lts-write_binding as write-binding-lts
+use
+    Rattle.type_string.proofs.+do_branding+write_binding+write_binds+write_chain+write_list+write_own+write_type.Lts-write_binding
+    as write-binding-lts
 use Rattle.type_string.proofs.write_binds.Reads as write-binds
 use Rattle.type_string.proofs.write_binds.Kinds as write-binds-kinds
-use Rattle.type_string.proofs.+do_branding+write_binding+write_binds+write_chain+write_list+write_own+write_type.Lts-write_binds as write-binds-lts
+use
+    Rattle.type_string.proofs.+do_branding+write_binding+write_binds+write_chain+write_list+write_own+write_type.Lts-write_binds
+    as write-binds-lts
 use Rattle.type_string.proofs.write_chain.Reads as write-chain
 use Rattle.type_string.proofs.write_chain.Kinds as write-chain-kinds
-use Rattle.type_string.proofs.+do_branding+write_binding+write_binds+write_chain+write_list+write_own+write_type.Lts-write_chain as write-chain-lts
+use
+    Rattle.type_string.proofs.+do_branding+write_binding+write_binds+write_chain+write_list+write_own+write_type.Lts-write_chain
+    as write-chain-lts
 use Rattle.type_string.proofs.write_list.Reads as write-list
 use Rattle.type_string.proofs.write_list.Kinds as write-list-kinds
-use Rattle.type_string.proofs.+do_branding+write_binding+write_binds+write_chain+write_list+write_own+write_type.Lts-write_list as write-list-lts
+use
+    Rattle.type_string.proofs.+do_branding+write_binding+write_binds+write_chain+write_list+write_own+write_type.Lts-write_list
+    as write-list-lts
 use Rattle.type_string.proofs.write_own.Reads as write-own
 use Rattle.type_string.proofs.write_own.Kinds as write-own-kinds
-use Rattle.type_string.proofs.+do_branding+write_binding+write_binds+write_chain+write_list+write_own+write_type.Lts-write_own as write-own-lts
+use
+    Rattle.type_string.proofs.+do_branding+write_binding+write_binds+write_chain+write_list+write_own+write_type.Lts-write_own
+    as write-own-lts
 use Rattle.type_string.proofs.write_type.Reads as write-type
 use Rattle.type_string.proofs.write_type.Kinds as write-type-kinds
-use Rattle.type_string.proofs.+do_branding+write_binding+write_binds+write_chain+write_list+write_own+write_type.Lts-write_type as write-type-lts
+use
+    Rattle.type_string.proofs.+do_branding+write_binding+write_binds+write_chain+write_list+write_own+write_type.Lts-write_type
+    as write-type-lts
 use Rattle.codegen_types.proofs.element_leaf.Reads as element-leaf-reads
 use Rattle.find.proofs.kind.Reads as kind-reads
 use Rattle.find.proofs.node.Reads as node-reads
@@ -154,139 +170,318 @@ write-type-below t =
     and 5 write-type-kinds.ps (falls 5 write-type-kinds.ps _<_ μ-write-type t) write-type.Pre
 
 abbrev do-branding-calls : ℕ → do-branding-lts.Claims
-do-branding-calls t = (node-reads.Asked, node-reads.Learnt, text-reads.Asked, text-reads.Learnt, bytes-reads.Asked, bytes-reads.Learnt, opening-reads.Asked, opening-reads.Learnt, write-chain-below t, write-chain.Post, close-reads.Asked, close-reads.Learnt)
+do-branding-calls t = (
+  node-reads.Asked,
+  node-reads.Learnt,
+  text-reads.Asked,
+  text-reads.Learnt,
+  bytes-reads.Asked,
+  bytes-reads.Learnt,
+  opening-reads.Asked,
+  opening-reads.Learnt,
+  write-chain-below t,
+  write-chain.Post,
+  close-reads.Asked,
+  close-reads.Learnt,
+)
 
 abbrev write-binding-calls : ℕ → write-binding-lts.Claims
-write-binding-calls t = (next-reads.Asked, next-reads.Learnt, any-owned-reads.Asked, any-owned-reads.Learnt, write-type-below t, write-type.Post)
+write-binding-calls t = (
+  next-reads.Asked,
+  next-reads.Learnt,
+  any-owned-reads.Asked,
+  any-owned-reads.Learnt,
+  write-type-below t,
+  write-type.Post,
+)
 
 abbrev write-binds-calls : ℕ → write-binds-lts.Claims
-write-binds-calls t = (byte-reads.Asked, byte-reads.Learnt, write-binding-below t, write-binding.Post, past-reads.Asked, past-reads.Learnt)
+write-binds-calls t = (
+  byte-reads.Asked,
+  byte-reads.Learnt,
+  write-binding-below t,
+  write-binding.Post,
+  past-reads.Asked,
+  past-reads.Learnt,
+)
 
 abbrev write-chain-calls : ℕ → write-chain-lts.Claims
-write-chain-calls t = (node-reads.Asked, node-reads.Learnt, node-row-reads.Asked, node-row-reads.Learnt, write-own-below t, write-own.Post, write-chain-below t, write-chain.Post)
+write-chain-calls t = (
+  node-reads.Asked,
+  node-reads.Learnt,
+  node-row-reads.Asked,
+  node-row-reads.Learnt,
+  write-own-below t,
+  write-own.Post,
+  write-chain-below t,
+  write-chain.Post,
+)
 
 abbrev write-list-calls : ℕ → write-list-lts.Claims
-write-list-calls t = (kind-reads.Asked, kind-reads.Learnt, displayed-reads.Asked, displayed-reads.Learnt, list-head-reads.Asked, list-head-reads.Learnt, element-leaf-reads.Asked, element-leaf-reads.Learnt, write-type-below t, write-type.Post, byte-reads.Asked, byte-reads.Learnt)
+write-list-calls t = (
+  kind-reads.Asked,
+  kind-reads.Learnt,
+  displayed-reads.Asked,
+  displayed-reads.Learnt,
+  list-head-reads.Asked,
+  list-head-reads.Learnt,
+  element-leaf-reads.Asked,
+  element-leaf-reads.Learnt,
+  write-type-below t,
+  write-type.Post,
+  byte-reads.Asked,
+  byte-reads.Learnt,
+)
 
 abbrev write-own-calls : ℕ → write-own-lts.Claims
-write-own-calls t = (node-row-reads.Asked, node-row-reads.Learnt, scope-reads.Asked, scope-reads.Learnt, unbound-reads.Asked, unbound-reads.Learnt, next-reads.Asked, next-reads.Learnt, inherited-reads.Asked, inherited-reads.Learnt, write-binds-below t, write-binds.Post)
+write-own-calls t = (
+  node-row-reads.Asked,
+  node-row-reads.Learnt,
+  scope-reads.Asked,
+  scope-reads.Learnt,
+  unbound-reads.Asked,
+  unbound-reads.Learnt,
+  next-reads.Asked,
+  next-reads.Learnt,
+  inherited-reads.Asked,
+  inherited-reads.Learnt,
+  write-binds-below
+      t,
+  write-binds.Post,
+)
 
 abbrev write-type-calls : ℕ → write-type-lts.Claims
-write-type-calls t = (next-reads.Asked, next-reads.Learnt, plain-reads.Asked, plain-reads.Learnt, write-list-below t, write-list.Post, qualified-module-reads.Asked, qualified-module-reads.Learnt, do-branding-below t, do-branding.Post, pointer-reads.Asked, pointer-reads.Learnt)
+write-type-calls t = (
+  next-reads.Asked,
+  next-reads.Learnt,
+  plain-reads.Asked,
+  plain-reads.Learnt,
+  write-list-below t,
+  write-list.Post,
+  qualified-module-reads.Asked,
+  qualified-module-reads.Learnt,
+  do-branding-below t,
+  do-branding.Post,
+  pointer-reads.Asked,
+  pointer-reads.Learnt,
+)
 
 do-branding-returns : (t : ℕ) → do-branding-lts.Need-returns (do-branding-calls t) (do-branding-at t) do-branding.Post
 do-branding-returns t c =
-    λ ns x. law.brand-none ((c .before .before .before .before .before .before .before .before .args .s) .now) (sheetOf ((c .before .before .before .before .before .before .before .before .args .root) .now) ns) (c .before .before .before .before .before .before .before .before .args .leaf) ((c .before .before .before .before .before .before .before .before .args .ids) .now) ((c .before .before .before .before .before .before .before .before .args .ats) .now) (times (read.scopeOf (typeOf (c .before .before .before .before .before .before .before .before .args .left))) end (c .before .before .before .before .before .before .before .before .args .n) (rows (drop (c .before .before .before .before .before .before .before .before .args .at) ((c .before .before .before .before .before .before .before .before .args .s) .now)))) _ _ (c .before .before .node .ensures) x _ _ _ _ (c .enum-told .given .1)
+    let c2 = c .before .before in let c8 = c2 .before .before .before .before .before .before in
+    λ ns x. law.brand-none ((c8 .args .s) .now) (sheetOf ((c8 .args .root) .now) ns) (c8 .args .leaf) ((c8 .args .ids) .now)
+    ((c8 .args .ats) .now) (times (read.scopeOf (typeOf (c8 .args .left))) end (c8 .args .n)
+    (rows (drop (c8 .args .at) ((c8 .args .s) .now)))) _ _ (c2 .node .ensures) x _ _ _ _ (c .enum-told .given .1)
 
-do-branding-write-chain-requires : (t : ℕ) → do-branding-lts.Need-write-chain-requires (do-branding-calls t) (do-branding-at t) do-branding.Post
+do-branding-write-chain-requires : (t : ℕ) → do-branding-lts.Need-write-chain-requires (do-branding-calls t) (do-branding-at t)
+    do-branding.Post
 do-branding-write-chain-requires t c κs =
-    (omega (arith, (c .before .before .before .before .before .before .before .before .before .before .before .before .before .before .before .before .before .before .before .pre .0)), tt)
+    let c19 = c .before .before .before .before .before .before .before .before .before .before .before .before .before .before
+    .before .before .before .before .before in
+    (omega (arith, (c19 .pre .0)), tt)
 
 do-branding-returns-2 : (t : ℕ) → do-branding-lts.Need-returns-2 (do-branding-calls t) (do-branding-at t) do-branding.Post
 do-branding-returns-2 t c =
-    λ ns x. law.brand-on ((c .before .before .before .before .before .before .before .before .before .before .before .before .before .before .before .before .before .before .before .before .before .before .before .before .before .before .args .s) .now) (sheetOf ((c .before .before .before .before .before .before .before .before .before .before .before .before .before .before .before .before .before .before .before .before .before .before .before .before .before .before .args .root) .now) ns) (c .before .before .before .before .before .before .before .before .before .before .before .before .before .before .before .before .before .before .before .before .before .before .before .before .before .before .args .leaf) ((c .before .before .before .before .before .before .before .before .before .before .before .before .before .before .before .before .before .before .before .before .before .before .before .before .before .before .args .ids) .now) ((c .before .before .before .before .before .before .before .before .before .before .before .before .before .before .before .before .before .before .before .before .before .before .before .before .before .before .args .ats) .now) (times (read.scopeOf (typeOf (c .before .before .before .before .before .before .before .before .before .before .before .before .before .before .before .before .before .before .before .before .before .before .before .before .before .before .args .left))) end (c .before .before .before .before .before .before .before .before .before .before .before .before .before .before .before .before .before .before .before .before .before .before .before .before .before .before .args .n) (rows (drop (c .before .before .before .before .before .before .before .before .before .before .before .before .before .before .before .before .before .before .before .before .before .before .before .before .before .before .args .at) ((c .before .before .before .before .before .before .before .before .before .before .before .before .before .before .before .before .before .before .before .before .before .before .before .before .before .before .args .s) .now)))) _ _ (c .before .before .before .before .before .before .before .before .before .before .before .before .before .before .before .before .before .before .before .before .node .ensures) x (c .before .before .before .before .before .before .before .before .before .before .before .before .before .before .before .before .before .before .node2 .given .0 .0) (c .before .before .before .before .before .before .write-chain .result) (c .before .before .before .before .before .before .before .before .before .before .before .before .before .before .before .before .before .before .node2 .given .1) (rw (c .before .before .before .before .before .before .before .before .before .before .before .before .before .before .before .before .text .ensures) at (c .before .before .before .before .before .before .before .before .before .before .before .before .before .before .bytes .ensures)) (c .before .before .before .before .before .before .before .before .before .before .opening .ensures) ((c .before .before .before .before .before .before .write-chain .ensures) ns x) (c .before .before .close .ensures)
+    let c2 = c .before .before in let c6 = c2 .before .before .before .before in
+    let c10 = c6 .before .before .before .before in let c14 = c10 .before .before .before .before in
+    let c16 = c14 .before .before in let c18 = c16 .before .before in let c20 = c18 .before .before in
+    let c26 = c20 .before .before .before .before .before .before in
+    λ ns x. law.brand-on ((c26 .args .s) .now) (sheetOf ((c26 .args .root) .now) ns) (c26 .args .leaf) ((c26 .args .ids) .now)
+    ((c26 .args .ats) .now) (times (read.scopeOf (typeOf (c26 .args .left))) end (c26 .args .n)
+    (rows (drop (c26 .args .at) ((c26 .args .s) .now)))) _ _ (c20 .node .ensures) x (c18 .node2 .given .0 .0)
+    (c6 .write-chain .result) (c18 .node2 .given .1) (rw (c16 .text .ensures) at (c14 .bytes .ensures))
+    (c10 .opening .ensures) ((c6 .write-chain .ensures) ns x) (c2 .close .ensures)
 
-write-binding-write-type-requires : (t : ℕ) → write-binding-lts.Need-write-type-requires (write-binding-calls t) (write-binding-at t) write-binding.Post
+write-binding-write-type-requires : (t : ℕ) → write-binding-lts.Need-write-type-requires (write-binding-calls t)
+    (write-binding-at t) write-binding.Post
 write-binding-write-type-requires t c κs =
     (omega (arith, (c .before .before .before .before .before .before .before .before .pre .0)), tt)
 
 write-binding-returns : (t : ℕ) → write-binding-lts.Need-returns (write-binding-calls t) (write-binding-at t) write-binding.Post
 unfolding bindingsOf
 write-binding-returns t c =
-    λ ns x. read-law.bind-unbound _ _ (λ f. Writes (onlyOf (bindingsOf (f stop) (sheetOf ((c .before .before .before .before .before .before .before .before .before .before .before .before .args .root) .now) ns))) ((c .before .before .before .before .before .before .before .before .before .before .before .before .args .buf) .now) (c .before .before .before .before .before .before .before .before .before .before .before .before .args .t) (c .before .before .any-owned .last .1 .1 .0) (c .before .before .any-owned .result)) _ (c .before .before .before .before .before .before .next .ensures .0) (c .before .before .before .before .enum-told .given .1) (c .before .before .any-owned .ensures)
+    let c2 = c .before .before in let c4 = c2 .before .before in let c6 = c4 .before .before in
+    let c12 = c6 .before .before .before .before .before .before in
+    λ ns x. read-law.bind-unbound _ _ (λ f. Writes (onlyOf (bindingsOf (f stop) (sheetOf ((c12 .args .root) .now) ns)))
+    ((c12 .args .buf) .now) (c12 .args .t) (c2 .any-owned .last .1 .1 .0) (c2 .any-owned .result)) _ (c6 .next .ensures .0)
+    (c4 .enum-told .given .1) (c2 .any-owned .ensures)
 
-write-binding-returns-2 : (t : ℕ) → write-binding-lts.Need-returns-2 (write-binding-calls t) (write-binding-at t) write-binding.Post
+write-binding-returns-2 : (t : ℕ) → write-binding-lts.Need-returns-2 (write-binding-calls t) (write-binding-at t)
+    write-binding.Post
 unfolding bindingsOf
 write-binding-returns-2 t c =
-    λ ns x. read-law.bind-typed _ _ (λ f. Writes (onlyOf (bindingsOf (f stop) (sheetOf ((c .before .before .before .before .before .before .before .before .before .before .before .args .root) .now) ns))) ((c .before .before .before .before .before .before .before .before .before .before .before .args .buf) .now) (c .before .before .before .before .before .before .before .before .before .before .before .args .t) (c .before .before .write-type .last .1 .1 .1 .1 .1 .1 .1 .1 .0) (c .before .before .write-type .result)) _ (c .before .before .before .before .before .next .ensures .0) (c .before .before .before .before .match .keys2) ((c .before .before .write-type .ensures) ns x)
+    let c2 = c .before .before in let c4 = c2 .before .before in let c5 = c4 .before in
+    let c11 = c5 .before .before .before .before .before .before in
+    λ ns x. read-law.bind-typed _ _ (λ f. Writes (onlyOf (bindingsOf (f stop) (sheetOf ((c11 .args .root) .now) ns)))
+    ((c11 .args .buf) .now) (c11 .args .t) (c2 .write-type .last .1 .1 .1 .1 .1 .1 .1 .1 .0) (c2 .write-type .result)) _
+    (c5 .next .ensures .0) (c4 .match .keys2) ((c2 .write-type .ensures) ns x)
 
 abbrev write-binds-Inv-loop : write-binds-lts.InvT-loop
-write-binds-Inv-loop root s ids ats from count left buf₀ at₀ n₀ p₀ buf at n p = (length buf ≡ length buf₀) × ((ns : List Node) → Indexed s ns ids ats → (l′ : List ℕ) (p′ : Arguments)
-    → On (times (bindingOf (typeOf left)) stop n (rows (drop at s))) (λ bs. Lists (allOf (bindingsOf bs (sheetOf root ns))) buf p l′ p′)
-    → On (times (bindingOf (typeOf left)) stop count (rows (drop from s))) (λ bs. Lists (allOf (bindingsOf bs (sheetOf root ns))) buf₀ p₀ l′ p′))
+write-binds-Inv-loop root s ids ats from count left buf₀ at₀ n₀ p₀ buf at n p = (length buf ≡ length buf₀) ×
+    ((ns : List Node) → Indexed s ns ids ats → (l′ : List ℕ) (p′ : Arguments)
+    → On (times (bindingOf (typeOf left)) stop n (rows (drop at s)))
+    (λ bs. Lists (allOf (bindingsOf bs (sheetOf root ns))) buf p l′ p′)
+    → On (times (bindingOf (typeOf left)) stop count (rows (drop from s)))
+    (λ bs. Lists (allOf (bindingsOf bs (sheetOf root ns))) buf₀ p₀ l′ p′))
 
 abbrev write-binds-μ-loop : write-binds-lts.MeasureT-loop
 write-binds-μ-loop root s ids ats from count left buf₀ at₀ n₀ p₀ buf at n p = n
 
-write-binds-loop-holds : (t : ℕ) → write-binds-lts.Need-loop-holds (write-binds-calls t) (write-binds-at t) write-binds.Post write-binds-Inv-loop write-binds-μ-loop
+write-binds-loop-holds : (t : ℕ) → write-binds-lts.Need-loop-holds (write-binds-calls t) (write-binds-at t) write-binds.Post
+    write-binds-Inv-loop write-binds-μ-loop
 write-binds-loop-holds t c =
     (refl, λ ns x l′ p′ h. h)
 
-write-binds-write-binding-requires : (t : ℕ) → write-binds-lts.Need-write-binding-requires (write-binds-calls t) (write-binds-at t) write-binds.Post write-binds-Inv-loop write-binds-μ-loop
+write-binds-write-binding-requires : (t : ℕ) → write-binds-lts.Need-write-binding-requires (write-binds-calls t)
+    (write-binds-at t) write-binds.Post write-binds-Inv-loop write-binds-μ-loop
 write-binds-write-binding-requires t c κs =
-    (omega (arith, (c .before .before .before .before .before .before .before .before .before .before .before .before .before .pre .0)), tt)
+    let c13 = c .before .before .before .before .before .before .before .before .before .before .before .before .before in
+    (omega (arith, (c13 .pre .0)), tt)
 
-write-binds-loop-again : (t : ℕ) → write-binds-lts.Need-loop-again (write-binds-calls t) (write-binds-at t) write-binds.Post write-binds-Inv-loop write-binds-μ-loop
+write-binds-loop-again : (t : ℕ) → write-binds-lts.Need-loop-again (write-binds-calls t) (write-binds-at t) write-binds.Post
+    write-binds-Inv-loop write-binds-μ-loop
 write-binds-loop-again t c =
-    (omega arith, λ ns x l′ p′ h. (c .before .before .before .before .before .before .before .before .before .before .before .loop .inv .1) ns x l′ p′ (law.binds-on (sheetOf ((c .before .before .before .before .before .before .before .before .before .before .before .before .before .before .before .before .before .args .root) .now) ns) (c .before .before .before .before .before .before .before .before .before .before .before .before .before .before .before .before .before .args .left) (c .before .before .before .before .before .before .before .before .before .before .before .loop .n) _ _ (c .before .before .before .before .before .before .before .before .before .before .loop-test .taken) (c .past .ensures) _ _ _ _ _ _ l′ p′ (c .before .before .before .before .before .before .before .byte .ensures) ((c .before .before .before .write-binding .ensures) ns x) h))
+    let c3 = c .before .before .before in let c7 = c3 .before .before .before .before in
+    let c10 = c7 .before .before .before in let c11 = c10 .before in
+    let c17 = c11 .before .before .before .before .before .before in (
+      omega arith,
+      λ ns x l′ p′ h. (c11 .loop .inv .1) ns x l′ p′
+          (law.binds-on (sheetOf ((c17 .args .root) .now) ns) (c17 .args .left) (c11 .loop .n) _ _ (c10 .loop-test .taken)
+          (c .past .ensures) _ _ _ _ _ _ l′ p′ (c7 .byte .ensures) ((c3 .write-binding .ensures) ns x) h),
+    )
 
-write-binds-returns : (t : ℕ) → write-binds-lts.Need-returns (write-binds-calls t) (write-binds-at t) write-binds.Post write-binds-Inv-loop write-binds-μ-loop
+write-binds-returns : (t : ℕ) → write-binds-lts.Need-returns (write-binds-calls t) (write-binds-at t) write-binds.Post
+    write-binds-Inv-loop write-binds-μ-loop
 write-binds-returns t c =
-    λ ns x. (c .before .loop .inv .1) ns x _ _ (law.binds-none (sheetOf ((c .before .before .before .before .before .before .before .args .root) .now) ns) _ _ _ _ _ (c .loop-test .left))
+    let c1 = c .before in let c7 = c1 .before .before .before .before .before .before in
+    λ ns x. (c1 .loop .inv .1) ns x _ _ (law.binds-none (sheetOf ((c7 .args .root) .now) ns) _ _ _ _ _ (c .loop-test .left))
 
 write-chain-returns : (t : ℕ) → write-chain-lts.Need-returns (write-chain-calls t) (write-chain-at t) write-chain.Post
 write-chain-returns t c =
-    λ ns x. law.chain-zero (sheetOf ((c .before .before .before .before .before .before .args .root) .now) ns) (times (read.scopeOf (typeOf (c .before .before .before .before .before .before .args .left))) end (c .before .before .before .before .before .before .args .n) (rows (drop (c .before .before .before .before .before .before .args .at) ((c .before .before .before .before .before .before .args .s) .now)))) _ _ _ _ _ _ (c .if1 .taken)
+    let c6 = c .before .before .before .before .before .before in
+    λ ns x. law.chain-zero (sheetOf ((c6 .args .root) .now) ns)
+    (times (read.scopeOf (typeOf (c6 .args .left))) end (c6 .args .n) (rows (drop (c6 .args .at) ((c6 .args .s) .now)))) _ _
+    _ _ _ _ (c .if1 .taken)
 
 write-chain-returns-2 : (t : ℕ) → write-chain-lts.Need-returns-2 (write-chain-calls t) (write-chain-at t) write-chain.Post
 write-chain-returns-2 t c =
-    λ ns x. law.chain-none ((c .before .before .before .before .before .before .before .before .before .args .s) .now) (sheetOf ((c .before .before .before .before .before .before .before .before .before .args .root) .now) ns) ((c .before .before .before .before .before .before .before .before .before .args .ids) .now) ((c .before .before .before .before .before .before .before .before .before .args .ats) .now) (times (read.scopeOf (typeOf (c .before .before .before .before .before .before .before .before .before .args .left))) end (c .before .before .before .before .before .before .before .before .before .args .n) (rows (drop (c .before .before .before .before .before .before .before .before .before .args .at) ((c .before .before .before .before .before .before .before .before .before .args .s) .now)))) _ _ (c .before .before .before .if1 .left) _ (c .before .before .node .ensures) x _ _ _ _ (c .enum-told .given .1)
+    let c2 = c .before .before in let c3 = c2 .before in let c9 = c3 .before .before .before .before .before .before in
+    λ ns x. law.chain-none ((c9 .args .s) .now) (sheetOf ((c9 .args .root) .now) ns) ((c9 .args .ids) .now)
+    ((c9 .args .ats) .now) (times (read.scopeOf (typeOf (c9 .args .left))) end (c9 .args .n)
+    (rows (drop (c9 .args .at) ((c9 .args .s) .now)))) _ _ (c3 .if1 .left) _ (c2 .node .ensures) x _ _ _ _
+    (c .enum-told .given .1)
 
-write-chain-write-own-requires : (t : ℕ) → write-chain-lts.Need-write-own-requires (write-chain-calls t) (write-chain-at t) write-chain.Post
+write-chain-write-own-requires : (t : ℕ) → write-chain-lts.Need-write-own-requires (write-chain-calls t) (write-chain-at t)
+    write-chain.Post
 write-chain-write-own-requires t c κs =
-    (omega (arith, (c .before .before .before .before .before .before .before .before .before .before .before .before .before .pre .0)), tt)
+    let c13 = c .before .before .before .before .before .before .before .before .before .before .before .before .before in
+    (omega (arith, (c13 .pre .0)), tt)
 
 write-chain-returns-3 : (t : ℕ) → write-chain-lts.Need-returns-3 (write-chain-calls t) (write-chain-at t) write-chain.Post
 write-chain-returns-3 t c =
-    λ ns x. law.chain-top ((c .before .before .before .before .before .before .before .before .before .before .before .before .before .before .before .before .args .s) .now) (sheetOf ((c .before .before .before .before .before .before .before .before .before .before .before .before .before .before .before .before .args .root) .now) ns) ((c .before .before .before .before .before .before .before .before .before .before .before .before .before .before .before .before .args .ids) .now) ((c .before .before .before .before .before .before .before .before .before .before .before .before .before .before .before .before .args .ats) .now) (times (read.scopeOf (typeOf (c .before .before .before .before .before .before .before .before .before .before .before .before .before .before .before .before .args .left))) end (c .before .before .before .before .before .before .before .before .before .before .before .before .before .before .before .before .args .n) (rows (drop (c .before .before .before .before .before .before .before .before .before .before .before .before .before .before .before .before .args .at) ((c .before .before .before .before .before .before .before .before .before .before .before .before .before .before .before .before .args .s) .now)))) _ _ (c .before .before .before .before .before .before .before .before .before .before .if1 .left) _ (c .before .before .before .before .before .before .before .before .before .node .ensures) x (c .before .before .before .before .before .before .before .node2 .given .0 .0) (c .before .before .before .before .before .before .before .node2 .given .1) _ (c .before .before .before .before .before .node-row .ensures .0) _ _ _ _ (c .before .before .before .before .if2 .taken) ((c .before .before .write-own .ensures) ns x)
+    let c2 = c .before .before in let c4 = c2 .before .before in let c5 = c4 .before in let c7 = c5 .before .before in
+    let c9 = c7 .before .before in let c10 = c9 .before in let c16 = c10 .before .before .before .before .before .before in
+    λ ns x. law.chain-top ((c16 .args .s) .now) (sheetOf ((c16 .args .root) .now) ns) ((c16 .args .ids) .now)
+    ((c16 .args .ats) .now) (times (read.scopeOf (typeOf (c16 .args .left))) end (c16 .args .n)
+    (rows (drop (c16 .args .at) ((c16 .args .s) .now)))) _ _ (c10 .if1 .left) _ (c9 .node .ensures) x
+    (c7 .node2 .given .0 .0) (c7 .node2 .given .1) _ (c5 .node-row .ensures .0) _ _ _ _ (c4 .if2 .taken)
+    ((c2 .write-own .ensures) ns x)
 
-write-chain-write-chain-requires : (t : ℕ) → write-chain-lts.Need-write-chain-requires (write-chain-calls t) (write-chain-at t) write-chain.Post
+write-chain-write-chain-requires : (t : ℕ) → write-chain-lts.Need-write-chain-requires (write-chain-calls t) (write-chain-at t)
+    write-chain.Post
 write-chain-write-chain-requires t c κs =
-    (omega (arith, (c .before .before .before .before .before .before .before .before .before .before .before .before .before .pre .0), (c .before .before .before .before .before .before .before .if1 .left)), tt)
+    let c7 = c .before .before .before .before .before .before .before in
+    let c13 = c7 .before .before .before .before .before .before in
+    (omega (arith, (c13 .pre .0), (c7 .if1 .left)), tt)
 
-write-chain-write-own-requires-2 : (t : ℕ) → write-chain-lts.Need-write-own-requires-2 (write-chain-calls t) (write-chain-at t) write-chain.Post
+write-chain-write-own-requires-2 : (t : ℕ) → write-chain-lts.Need-write-own-requires-2 (write-chain-calls t) (write-chain-at t)
+    write-chain.Post
 write-chain-write-own-requires-2 t c κs =
-    (omega (arith, (c .before .before .before .before .before .before .before .before .before .before .before .before .before .before .before .before .before .pre .0)), tt)
+    let c17 = c .before .before .before .before .before .before .before .before .before .before .before .before .before .before
+    .before .before .before in
+    (omega (arith, (c17 .pre .0)), tt)
 
 write-chain-returns-4 : (t : ℕ) → write-chain-lts.Need-returns-4 (write-chain-calls t) (write-chain-at t) write-chain.Post
 write-chain-returns-4 t c =
-    λ ns x. law.chain-next ((c .before .before .before .before .before .before .before .before .before .before .before .before .before .before .before .before .before .before .before .before .args .s) .now) (sheetOf ((c .before .before .before .before .before .before .before .before .before .before .before .before .before .before .before .before .before .before .before .before .args .root) .now) ns) ((c .before .before .before .before .before .before .before .before .before .before .before .before .before .before .before .before .before .before .before .before .args .ids) .now) ((c .before .before .before .before .before .before .before .before .before .before .before .before .before .before .before .before .before .before .before .before .args .ats) .now) (times (read.scopeOf (typeOf (c .before .before .before .before .before .before .before .before .before .before .before .before .before .before .before .before .before .before .before .before .args .left))) end (c .before .before .before .before .before .before .before .before .before .before .before .before .before .before .before .before .before .before .before .before .args .n) (rows (drop (c .before .before .before .before .before .before .before .before .before .before .before .before .before .before .before .before .before .before .before .before .args .at) ((c .before .before .before .before .before .before .before .before .before .before .before .before .before .before .before .before .before .before .before .before .args .s) .now)))) _ _ (c .before .before .before .before .before .before .before .before .before .before .before .before .before .before .if1 .left) _ (c .before .before .before .before .before .before .before .before .before .before .before .before .before .node .ensures) x (c .before .before .before .before .before .before .before .before .before .before .before .node2 .given .0 .0) (c .before .before .before .before .before .before .before .before .before .before .before .node2 .given .1) _ (c .before .before .before .before .before .before .before .before .before .node-row .ensures .0) _ _ _ (c .before .before .before .before .before .before .write-chain .result) _ _ (c .before .before .before .before .before .before .before .before .if2 .left) ((c .before .before .before .before .before .before .write-chain .ensures) ns x) ((c .before .before .write-own2 .ensures) ns x)
+    let c2 = c .before .before in let c6 = c2 .before .before .before .before in let c8 = c6 .before .before in
+    let c9 = c8 .before in let c11 = c9 .before .before in let c13 = c11 .before .before in let c14 = c13 .before in
+    let c20 = c14 .before .before .before .before .before .before in
+    λ ns x. law.chain-next ((c20 .args .s) .now) (sheetOf ((c20 .args .root) .now) ns) ((c20 .args .ids) .now)
+    ((c20 .args .ats) .now) (times (read.scopeOf (typeOf (c20 .args .left))) end (c20 .args .n)
+    (rows (drop (c20 .args .at) ((c20 .args .s) .now)))) _ _ (c14 .if1 .left) _ (c13 .node .ensures) x
+    (c11 .node2 .given .0 .0) (c11 .node2 .given .1) _ (c9 .node-row .ensures .0) _ _ _ (c6 .write-chain .result) _ _
+    (c8 .if2 .left) ((c6 .write-chain .ensures) ns x) ((c2 .write-own2 .ensures) ns x)
 
 write-list-returns : (t : ℕ) → write-list-lts.Need-returns (write-list-calls t) (write-list-at t) write-list.Post
 write-list-returns t c =
-    λ ns x. law.list-text (sheetOf ((c .before .before .before .before .before .before .before .before .before .before .before .before .args .root) .now) ns) (c .before .before .before .before .before .before .before .before .before .before .before .before .args .leaf) (c .before .before .before .before .before .before .before .before .before .before .before .before .args .left) (rows (drop (c .before .before .before .before .before .before .before .before .before .before .before .before .args .at) ((c .before .before .before .before .before .before .before .before .before .before .before .before .args .s) .now))) _ (c .before .before .before .before .before .before .kind .ensures) (c .before .before .before .before .before .if1 .taken) (c .before .before .displayed .ensures)
+    let c2 = c .before .before in let c5 = c2 .before .before .before in let c6 = c5 .before in
+    let c12 = c6 .before .before .before .before .before .before in
+    λ ns x. law.list-text (sheetOf ((c12 .args .root) .now) ns) (c12 .args .leaf) (c12 .args .left)
+    (rows (drop (c12 .args .at) ((c12 .args .s) .now))) _ (c6 .kind .ensures) (c5 .if1 .taken) (c2 .displayed .ensures)
 
 write-list-returns-2 : (t : ℕ) → write-list-lts.Need-returns-2 (write-list-calls t) (write-list-at t) write-list.Post
 write-list-returns-2 t c =
-    λ ns x. law.list-data (sheetOf ((c .before .before .before .before .before .before .before .before .before .before .before .before .before .args .root) .now) ns) (c .before .before .before .before .before .before .before .before .before .before .before .before .before .args .leaf) (c .before .before .before .before .before .before .before .before .before .before .before .before .before .args .left) (rows (drop (c .before .before .before .before .before .before .before .before .before .before .before .before .before .args .at) ((c .before .before .before .before .before .before .before .before .before .before .before .before .before .args .s) .now))) _ (c .before .before .before .before .before .before .before .kind .ensures) (c .before .before .before .before .before .before .if1 .left) (c .before .before .before .before .before .if2 .taken) (c .before .before .displayed2 .ensures)
+    let c2 = c .before .before in let c5 = c2 .before .before .before in let c6 = c5 .before in let c7 = c6 .before in
+    let c13 = c7 .before .before .before .before .before .before in
+    λ ns x. law.list-data (sheetOf ((c13 .args .root) .now) ns) (c13 .args .leaf) (c13 .args .left)
+    (rows (drop (c13 .args .at) ((c13 .args .s) .now))) _ (c7 .kind .ensures) (c6 .if1 .left) (c5 .if2 .taken)
+    (c2 .displayed2 .ensures)
 
-write-list-write-type-requires : (t : ℕ) → write-list-lts.Need-write-type-requires (write-list-calls t) (write-list-at t) write-list.Post
+write-list-write-type-requires : (t : ℕ) → write-list-lts.Need-write-type-requires (write-list-calls t) (write-list-at t)
+    write-list.Post
 write-list-write-type-requires t c κs =
-    (omega (arith, (c .before .before .before .before .before .before .before .before .before .before .before .before .before .before .pre .0)), tt)
+    let c14 = c .before .before .before .before .before .before .before .before .before .before .before .before .before .before
+    in
+    (omega (arith, (c14 .pre .0)), tt)
 
 write-list-returns-3 : (t : ℕ) → write-list-lts.Need-returns-3 (write-list-calls t) (write-list-at t) write-list.Post
 write-list-returns-3 t c =
-    λ ns x. law.list-inner (sheetOf ((c .before .before .before .before .before .before .before .before .before .before .before .before .before .before .before .before .before .before .before .before .before .args .root) .now) ns) (c .before .before .before .before .before .before .before .before .before .before .before .before .before .before .before .before .before .before .before .before .before .args .leaf) (c .before .before .before .before .before .before .before .before .before .before .before .before .before .before .before .before .before .before .before .before .before .args .left) (rows (drop (c .before .before .before .before .before .before .before .before .before .before .before .before .before .before .before .before .before .before .before .before .before .args .at) ((c .before .before .before .before .before .before .before .before .before .before .before .before .before .before .before .before .before .before .before .before .before .args .s) .now))) _ (c .before .before .before .before .before .before .before .before .before .before .before .before .before .before .before .kind .ensures) _ (c .before .before .before .before .before .before .before .before .before .before .before .before .before .before .if1 .left) (c .before .before .before .before .before .before .before .before .before .before .before .before .before .if2 .left) (c .before .before .before .before .before .before .before .before .element-leaf .ensures) (c .before .before .before .before .before .before .before .before .before .before .before .list-head .ensures) ((c .before .before .before .before .before .before .write-type .ensures) ns x) (c .before .before .byte .ensures)
+    let c2 = c .before .before in let c6 = c2 .before .before .before .before in let c8 = c6 .before .before in
+    let c11 = c8 .before .before .before in let c13 = c11 .before .before in let c14 = c13 .before in let c15 = c14 .before in
+    let c21 = c15 .before .before .before .before .before .before in
+    λ ns x. law.list-inner (sheetOf ((c21 .args .root) .now) ns) (c21 .args .leaf) (c21 .args .left)
+    (rows (drop (c21 .args .at) ((c21 .args .s) .now))) _ (c15 .kind .ensures) _ (c14 .if1 .left) (c13 .if2 .left)
+    (c8 .element-leaf .ensures) (c11 .list-head .ensures) ((c6 .write-type .ensures) ns x) (c2 .byte .ensures)
 
 write-own-returns : (t : ℕ) → write-own-lts.Need-returns (write-own-calls t) (write-own-at t) write-own.Post
 write-own-returns t c =
-    λ ns x y w. law.own-none (c .before .before .before .before .before .before .before .before .before .before .before .before .before .args .left) (sheetOf ((c .before .before .before .before .before .before .before .before .before .before .before .before .before .args .root) .now) ns) (c .before .before .before .before .before .before .before .before .before .before .before .before .before .args .id) (c .before .before .before .before .before .before .before .before .before .before .before .before .before .args .n) _ _ (c .before .before .before .before .before .before .scope .ensures) y _ _ _ _ _ (rw (c .before .before .before .before .before .before .before .node-row .ensures .1) (w .params)) (rw (c .before .before .before .before .enum-told .given .1) refl) (c .before .before .unbound .ensures)
+    let c2 = c .before .before in let c4 = c2 .before .before in let c6 = c4 .before .before in let c7 = c6 .before in
+    let c13 = c7 .before .before .before .before .before .before in
+    λ ns x y w. law.own-none (c13 .args .left) (sheetOf ((c13 .args .root) .now) ns) (c13 .args .id) (c13 .args .n) _ _
+    (c6 .scope .ensures) y _ _ _ _ _ (rw (c7 .node-row .ensures .1) (w .params)) (rw (c4 .enum-told .given .1) refl)
+    (c2 .unbound .ensures)
 
 write-own-returns-2 : (t : ℕ) → write-own-lts.Need-returns-2 (write-own-calls t) (write-own-at t) write-own.Post
 write-own-returns-2 t c =
-    λ ns x y w. law.own-other (c .before .before .before .before .before .before .before .before .before .before .before .before .args .left) (sheetOf ((c .before .before .before .before .before .before .before .before .before .before .before .before .args .root) .now) ns) (c .before .before .before .before .before .before .before .before .before .before .before .before .args .id) (c .before .before .before .before .before .before .before .before .before .before .before .before .args .n) _ _ (c .before .before .before .before .before .scope .ensures) y _ _ _ _ _ (rw (c .before .before .before .scope2 .given .1) refl) _ (c .before .next .ensures .0) (c .match2 .keys2)
+    let c1 = c .before in let c3 = c1 .before .before in let c5 = c3 .before .before in
+    let c12 = c5 .before .before .before .before .before .before .before in
+    λ ns x y w. law.own-other (c12 .args .left) (sheetOf ((c12 .args .root) .now) ns) (c12 .args .id) (c12 .args .n) _ _
+    (c5 .scope .ensures) y _ _ _ _ _ (rw (c3 .scope2 .given .1) refl) _ (c1 .next .ensures .0) (c .match2 .keys2)
 
 write-own-returns-3 : (t : ℕ) → write-own-lts.Need-returns-3 (write-own-calls t) (write-own-at t) write-own.Post
 write-own-returns-3 t c =
-    λ ns x y w. law.own-inherit (c .before .before .before .before .before .before .before .before .before .before .before .before .before .before .before .before .before .before .before .args .left) (sheetOf ((c .before .before .before .before .before .before .before .before .before .before .before .before .before .before .before .before .before .before .before .args .root) .now) ns) (c .before .before .before .before .before .before .before .before .before .before .before .before .before .before .before .before .before .before .before .args .id) (c .before .before .before .before .before .before .before .before .before .before .before .before .before .before .before .before .before .before .before .args .n) _ _ (c .before .before .before .before .before .before .before .before .before .before .before .before .scope .ensures) y _ _ _ _ _ (rw (c .before .before .before .before .before .before .before .before .before .before .scope2 .given .1) refl) _ (c .before .before .before .before .before .before .before .before .next .ensures .0) _ _ _ (c .before .before .before .before .before .before .line .given .1) _ (rw (c .before .before .before .before .before .before .before .before .before .before .before .before .before .node-row .ensures .1) (w .params)) (c .before .before .before .before .if1 .taken) (c .before .before .inherited .ensures)
+    let c2 = c .before .before in let c4 = c2 .before .before in let c6 = c4 .before .before in let c8 = c6 .before .before in
+    let c10 = c8 .before .before in let c12 = c10 .before .before in let c13 = c12 .before in
+    let c19 = c13 .before .before .before .before .before .before in
+    λ ns x y w. law.own-inherit (c19 .args .left) (sheetOf ((c19 .args .root) .now) ns) (c19 .args .id) (c19 .args .n) _ _
+    (c12 .scope .ensures) y _ _ _ _ _ (rw (c10 .scope2 .given .1) refl) _ (c8 .next .ensures .0) _ _ _ (c6 .line .given .1)
+    _ (rw (c13 .node-row .ensures .1) (w .params)) (c4 .if1 .taken) (c2 .inherited .ensures)
 
-write-own-write-binds-requires : (t : ℕ) → write-own-lts.Need-write-binds-requires (write-own-calls t) (write-own-at t) write-own.Post
+write-own-write-binds-requires : (t : ℕ) → write-own-lts.Need-write-binds-requires (write-own-calls t) (write-own-at t)
+    write-own.Post
 write-own-write-binds-requires t c κs =
-    (omega (arith, (c .before .before .before .before .before .before .before .before .before .before .before .before .before .before .before .before .pre .0)), tt)
+    let c16 = c .before .before .before .before .before .before .before .before .before .before .before .before .before .before
+    .before .before in
+    (omega (arith, (c16 .pre .0)), tt)
 
 write-own-returns-4 : (t : ℕ) → write-own-lts.Need-returns-4 (write-own-calls t) (write-own-at t) write-own.Post
 write-own-returns-4 t c =
-    λ ns x y w. law.own-binds (c .before .before .before .before .before .before .before .before .before .before .before .before .before .before .before .before .before .before .before .args .left) (sheetOf ((c .before .before .before .before .before .before .before .before .before .before .before .before .before .before .before .before .before .before .before .args .root) .now) ns) (c .before .before .before .before .before .before .before .before .before .before .before .before .before .before .before .before .before .before .before .args .id) (c .before .before .before .before .before .before .before .before .before .before .before .before .before .before .before .before .before .before .before .args .n) _ _ (c .before .before .before .before .before .before .before .before .before .before .before .before .scope .ensures) y _ _ _ _ _ (rw (c .before .before .before .before .before .before .before .before .before .before .scope2 .given .1) refl) _ (c .before .before .before .before .before .before .before .before .next .ensures .0) _ _ _ (c .before .before .before .before .before .before .line .given .1) _ (c .before .before .before .before .before .before .before .before .next .ensures .1) (c .before .before .before .before .if1 .left) ((c .before .before .write-binds .ensures) ns x)
+    let c2 = c .before .before in let c4 = c2 .before .before in let c6 = c4 .before .before in let c8 = c6 .before .before in
+    let c10 = c8 .before .before in let c12 = c10 .before .before in
+    let c19 = c12 .before .before .before .before .before .before .before in
+    λ ns x y w. law.own-binds (c19 .args .left) (sheetOf ((c19 .args .root) .now) ns) (c19 .args .id) (c19 .args .n) _ _
+    (c12 .scope .ensures) y _ _ _ _ _ (rw (c10 .scope2 .given .1) refl) _ (c8 .next .ensures .0) _ _ _ (c6 .line .given .1)
+    _ (c8 .next .ensures .1) (c4 .if1 .left) ((c2 .write-binds .ensures) ns x)
 
 write-type-returns : (t : ℕ) → write-type-lts.Need-returns (write-type-calls t) (write-type-at t) write-type.Post
 write-type-returns t c =
@@ -299,31 +494,63 @@ write-type-returns-2 t c =
 write-type-returns-3 : (t : ℕ) → write-type-lts.Need-returns-3 (write-type-calls t) (write-type-at t) write-type.Post
 unfolding typeString
 write-type-returns-3 t c =
-    λ ns x. read-law.type-plain _ _ _ _ _ _ _ _ (c .before .before .before .before .before .before .before .before .before .if1 .left) (c .before .before .before .before .before .before .before .before .next .ensures .0) (c .before .before .before .before .before .before .line .given .1) (c .before .before .before .before .before .before .before .before .next .ensures .1) (λ ty. Writes (typeString ty (sheetOf ((c .before .before .before .before .before .before .before .before .before .before .before .before .before .before .before .args .root) .now) ns) (c .before .before .before .before .before .before .before .before .before .before .before .before .before .before .before .args .leaf)) ((c .before .before .before .before .before .before .before .before .before .before .before .before .before .before .before .args .buf) .now) (c .before .before .before .before .before .before .before .before .before .before .before .before .before .before .before .args .t) (c .before .before .plain .last .1 .1 .1 .1 .0) (c .before .before .plain .result)) (c .before .before .before .before .if2 .taken) ((c .before .before .plain .ensures) (c .before .before .before .before .if2 .taken))
+    let c2 = c .before .before in let c4 = c2 .before .before in let c6 = c4 .before .before in let c8 = c6 .before .before in
+    let c9 = c8 .before in let c15 = c9 .before .before .before .before .before .before in
+    λ ns x. read-law.type-plain _ _ _ _ _ _ _ _ (c9 .if1 .left) (c8 .next .ensures .0) (c6 .line .given .1)
+    (c8 .next .ensures .1) (λ ty. Writes (typeString ty (sheetOf ((c15 .args .root) .now) ns) (c15 .args .leaf))
+    ((c15 .args .buf) .now) (c15 .args .t) (c2 .plain .last .1 .1 .1 .1 .0) (c2 .plain .result)) (c4 .if2 .taken)
+    ((c2 .plain .ensures) (c4 .if2 .taken))
 
-write-type-write-list-requires : (t : ℕ) → write-type-lts.Need-write-list-requires (write-type-calls t) (write-type-at t) write-type.Post
+write-type-write-list-requires : (t : ℕ) → write-type-lts.Need-write-list-requires (write-type-calls t) (write-type-at t)
+    write-type.Post
 write-type-write-list-requires t c κs =
-    (omega (arith, (c .before .before .before .before .before .before .before .before .before .before .before .before .before .pre .0)), tt)
+    let c13 = c .before .before .before .before .before .before .before .before .before .before .before .before .before in
+    (omega (arith, (c13 .pre .0)), tt)
 
 write-type-returns-4 : (t : ℕ) → write-type-lts.Need-returns-4 (write-type-calls t) (write-type-at t) write-type.Post
 write-type-returns-4 t c =
-    λ ns x. read-law.type-list _ _ _ _ _ _ _ _ (c .before .before .before .before .before .before .before .before .before .before .if1 .left) (c .before .before .before .before .before .before .before .before .before .next .ensures .0) (c .before .before .before .before .before .before .before .line .given .1) (c .before .before .before .before .before .before .before .before .before .next .ensures .1) (λ ty. Writes (typeString ty (sheetOf ((c .before .before .before .before .before .before .before .before .before .before .before .before .before .before .before .before .args .root) .now) ns) (c .before .before .before .before .before .before .before .before .before .before .before .before .before .before .before .before .args .leaf)) ((c .before .before .before .before .before .before .before .before .before .before .before .before .before .before .before .before .args .buf) .now) (c .before .before .before .before .before .before .before .before .before .before .before .before .before .before .before .before .args .t) (c .before .before .write-list .last .1 .1 .1 .1 .1 .1 .1 .1 .0) (c .before .before .write-list .result)) (c .before .before .before .before .if3 .taken) ((c .before .before .write-list .ensures) ns x)
+    let c2 = c .before .before in let c4 = c2 .before .before in let c7 = c4 .before .before .before in
+    let c9 = c7 .before .before in let c10 = c9 .before in let c16 = c10 .before .before .before .before .before .before in
+    λ ns x. read-law.type-list _ _ _ _ _ _ _ _ (c10 .if1 .left) (c9 .next .ensures .0) (c7 .line .given .1)
+    (c9 .next .ensures .1) (λ ty. Writes (typeString ty (sheetOf ((c16 .args .root) .now) ns) (c16 .args .leaf))
+    ((c16 .args .buf) .now) (c16 .args .t) (c2 .write-list .last .1 .1 .1 .1 .1 .1 .1 .1 .0) (c2 .write-list .result))
+    (c4 .if3 .taken) ((c2 .write-list .ensures) ns x)
 
 write-type-returns-5 : (t : ℕ) → write-type-lts.Need-returns-5 (write-type-calls t) (write-type-at t) write-type.Post
 write-type-returns-5 t c =
-    λ ns x. read-law.type-enum (sheetOf ((c .before .before .before .before .before .before .before .before .before .before .before .before .before .before .before .before .before .args .root) .now) ns) (c .before .before .before .before .before .before .before .before .before .before .before .before .before .before .before .before .before .args .leaf) _ _ _ _ _ _ _ _ (c .before .before .before .before .before .before .before .before .before .before .before .if1 .left) (c .before .before .before .before .before .before .before .before .before .before .next .ensures .0) (c .before .before .before .before .before .before .before .before .line .given .1) (c .before .before .before .before .before .before .before .before .before .before .next .ensures .1) (λ (o : Out Str). Writes o ((c .before .before .before .before .before .before .before .before .before .before .before .before .before .before .before .before .before .args .buf) .now) (c .before .before .before .before .before .before .before .before .before .before .before .before .before .before .before .before .before .args .t) (c .before .before .qualified-module .last .1 .1 .1 .1 .1 .1 .0) (c .before .before .qualified-module .result)) (c .before .before .before .before .if4 .taken) ((c .before .before .qualified-module .ensures) ns x)
+    let c2 = c .before .before in let c4 = c2 .before .before in let c8 = c4 .before .before .before .before in
+    let c10 = c8 .before .before in let c11 = c10 .before in let c17 = c11 .before .before .before .before .before .before in
+    λ ns x. read-law.type-enum (sheetOf ((c17 .args .root) .now) ns) (c17 .args .leaf) _ _ _ _ _ _ _ _ (c11 .if1 .left)
+    (c10 .next .ensures .0) (c8 .line .given .1) (c10 .next .ensures .1)
+    (λ (o : Out Str). Writes o ((c17 .args .buf) .now) (c17 .args .t) (c2 .qualified-module .last .1 .1 .1 .1 .1 .1 .0)
+    (c2 .qualified-module .result)) (c4 .if4 .taken) ((c2 .qualified-module .ensures) ns x)
 
-write-type-do-branding-requires : (t : ℕ) → write-type-lts.Need-do-branding-requires (write-type-calls t) (write-type-at t) write-type.Post
+write-type-do-branding-requires : (t : ℕ) → write-type-lts.Need-do-branding-requires (write-type-calls t) (write-type-at t)
+    write-type.Post
 write-type-do-branding-requires t c κs =
-    (omega (arith, (c .before .before .before .before .before .before .before .before .before .before .before .before .before .before .before .pre .0)), tt)
+    let c15 = c .before .before .before .before .before .before .before .before .before .before .before .before .before .before
+    .before in
+    (omega (arith, (c15 .pre .0)), tt)
 
 write-type-returns-6 : (t : ℕ) → write-type-lts.Need-returns-6 (write-type-calls t) (write-type-at t) write-type.Post
 write-type-returns-6 t c =
-    λ ns x. read-law.type-branded (sheetOf ((c .before .before .before .before .before .before .before .before .before .before .before .before .before .before .before .before .before .before .args .root) .now) ns) (c .before .before .before .before .before .before .before .before .before .before .before .before .before .before .before .before .before .before .args .leaf) _ _ _ _ _ _ _ _ (c .before .before .before .before .before .before .before .before .before .before .before .before .if1 .left) (c .before .before .before .before .before .before .before .before .before .before .before .next .ensures .0) (c .before .before .before .before .before .before .before .before .before .line .given .1) (c .before .before .before .before .before .before .before .before .before .before .before .next .ensures .1) (λ (o : Out Str). Writes o ((c .before .before .before .before .before .before .before .before .before .before .before .before .before .before .before .before .before .before .args .buf) .now) (c .before .before .before .before .before .before .before .before .before .before .before .before .before .before .before .before .before .before .args .t) (c .before .before .do-branding .last .1 .1 .1 .1 .1 .1 .1 .1 .1 .1 .0) (c .before .before .do-branding .result)) (c .before .before .before .before .before .before .before .if2 .left) (c .before .before .before .before .before .before .if3 .left) (c .before .before .before .before .before .if4 .left) (c .before .before .before .before .if5 .taken) ((c .before .before .do-branding .ensures) ns x)
+    let c2 = c .before .before in let c4 = c2 .before .before in let c5 = c4 .before in let c6 = c5 .before in
+    let c7 = c6 .before in let c9 = c7 .before .before in let c11 = c9 .before .before in let c12 = c11 .before in
+    let c18 = c12 .before .before .before .before .before .before in
+    λ ns x. read-law.type-branded (sheetOf ((c18 .args .root) .now) ns) (c18 .args .leaf) _ _ _ _ _ _ _ _ (c12 .if1 .left)
+    (c11 .next .ensures .0) (c9 .line .given .1) (c11 .next .ensures .1)
+    (λ (o : Out Str). Writes o ((c18 .args .buf) .now) (c18 .args .t)
+    (c2 .do-branding .last .1 .1 .1 .1 .1 .1 .1 .1 .1 .1 .0) (c2 .do-branding .result)) (c7 .if2 .left) (c6 .if3 .left)
+    (c5 .if4 .left) (c4 .if5 .taken) ((c2 .do-branding .ensures) ns x)
 
 write-type-returns-7 : (t : ℕ) → write-type-lts.Need-returns-7 (write-type-calls t) (write-type-at t) write-type.Post
 write-type-returns-7 t c =
-    λ ns x. read-law.type-pointer _ _ _ _ _ _ _ _ (c .before .before .before .before .before .before .before .before .before .before .before .before .if1 .left) (c .before .before .before .before .before .before .before .before .before .before .before .next .ensures .0) (c .before .before .before .before .before .before .before .before .before .line .given .1) (c .before .before .before .before .before .before .before .before .before .before .before .next .ensures .1) (λ ty. Writes (typeString ty (sheetOf ((c .before .before .before .before .before .before .before .before .before .before .before .before .before .before .before .before .before .before .args .root) .now) ns) (c .before .before .before .before .before .before .before .before .before .before .before .before .before .before .before .before .before .before .args .leaf)) ((c .before .before .before .before .before .before .before .before .before .before .before .before .before .before .before .before .before .before .args .buf) .now) (c .before .before .before .before .before .before .before .before .before .before .before .before .before .before .before .before .before .before .args .t) (c .before .before .pointer .last .1 .1 .1 .1 .1 .1 .1 .1 .1 .0) (c .before .before .pointer .result)) (c .before .before .before .before .if5 .left) ((c .before .before .pointer .ensures) ns x)
+    let c2 = c .before .before in let c4 = c2 .before .before in let c9 = c4 .before .before .before .before .before in
+    let c11 = c9 .before .before in let c12 = c11 .before in let c18 = c12 .before .before .before .before .before .before in
+    λ ns x. read-law.type-pointer _ _ _ _ _ _ _ _ (c12 .if1 .left) (c11 .next .ensures .0) (c9 .line .given .1)
+    (c11 .next .ensures .1) (λ ty. Writes (typeString ty (sheetOf ((c18 .args .root) .now) ns) (c18 .args .leaf))
+    ((c18 .args .buf) .now) (c18 .args .t) (c2 .pointer .last .1 .1 .1 .1 .1 .1 .1 .1 .1 .0) (c2 .pointer .result))
+    (c4 .if5 .left) ((c2 .pointer .ensures) ns x)
 
 pub +do-branding+write-binding+write-binds+write-chain+write-list+write-own+write-type-spec :
     {M : Type 1} → statement M

@@ -1,0 +1,51 @@
+-- Laws of the marks, by which `known` tells an id that is new without a search: an id whose mark is not set is none of those
+-- that were put there, and putting one more there with its mark keeps it so. Assumes nothing.
+use mathlib.Core.Path.{_≡_, refl, sym, ap, _∙_}
+use mathlib.Core.Bool.{Bool, true, false}
+use mathlib.Core.List.{List, [], _∷_, _++_}
+use Prim.Native.Nat.{ℕ, _%_, _<_}
+use native.Mathlib.Nat.{mod-lt, zero-lt-suc}
+use native.Mathlib.Decide.{ℕ-discrete}
+use borrow.Author.Tests.{ne-eqb}
+use lib.Dec.{eqb}
+use lib.ListN.{length, getD, set}
+use lib.Seq.{getD-set-same, getD-set-other}
+use Rattle.text.specs.Bytes.{unit, either}
+use Rattle.tree.specs.Read.{among}
+use Rattle.tree.proofs.OtherLines.{never}
+use Rattle.sheet.specs.Admission.{Marked}
+
+-- each id has its mark below 8192
+mark-fits : (id : ℕ) → id % 8192 < 8192
+mark-fits id = mod-lt id (zero-lt-suc 8191)
+
+-- an id whose mark is not set is none of those that are marked
+pub unmarked : (marks ids : List ℕ) (id : ℕ) → Marked marks ids → getD marks (id % 8192) 0 ≡ 0 → among id ids ≡ false
+unmarked marks ids id m e = go (among id ids) refl
+  where
+    go : (b : Bool) → among id ids ≡ b → b ≡ false
+    go true h = never (sym e ∙ m .set id h)
+    go false h = refl
+
+-- no id needs no mark
+pub marked-none : (marks : List ℕ) → Marked marks []
+unfolding among
+marked-none marks = record { set = λ id h. never cc }
+
+-- an id of another value stands among those before
+among-before : (ids : List ℕ) (i id : ℕ) → (i ≡ id → ⊥) → among id (ids ++ unit i) ≡ among id ids
+unfolding among
+among-before [] i id n = rw (ne-eqb i id n)
+among-before (x ∷ xs) i id n = ap (either (eqb x id)) (among-before xs i id n)
+
+-- one id more, and its mark
+pub marked-more :
+    (marks ids : List ℕ) (i : ℕ) → length marks ≡ 8192 → Marked marks ids → Marked (set marks (i % 8192) 1) (ids ++ unit i)
+marked-more marks ids i l m = record { set = λ id h. go id h (ℕ-discrete (id % 8192) (i % 8192)) }
+  where
+    go : (id : ℕ) → among id (ids ++ unit i) ≡ true → Dec (id % 8192 ≡ i % 8192)
+        → getD (set marks (i % 8192) 1) (id % 8192) 0 ≡ 1
+    go id h (yes e) = rw e (getD-set-same marks (i % 8192) 1 0 (rw l (mark-fits i)))
+    go id h (no n) =
+        getD-set-other marks (i % 8192) (id % 8192) 1 0 n
+        ∙ m .set id (sym (among-before ids i id (λ e. n (ap (λ (x : ℕ). x % 8192) (sym e)))) ∙ h)
