@@ -11,6 +11,7 @@ use Rattle.tree.specs.Tree.{Node}
 use Rattle.tree.specs.Reader.{Reading, got, no}
 use Rattle.tree.specs.Read.{nodesOf}
 use Rattle.tree.specs.Walked.{walked}
+use Rattle.tree.specs.Index.{On, Indexed}
 use Rattle.tree.specs.declared.Walk.{Walk}
 use Rattle.tree.specs.declared.Walk.the-variants.{Next, Refused}
 use Rattle.sheet.specs.Admission.{told, Marked, leftAfter, nodeAfter, NodesRead}
@@ -91,7 +92,13 @@ module _ (s : Str) (from : ℕ) (ids ats groups marks : List ℕ) (n count at : 
         let d = standing-done s (whole s from) (64 - count) at i (take count ids) (take count ats) (take n groups)
         (take m after)
         (rows (drop q s)) (omega arith) (h .standing) came (rw (rows-out s q p) (omega arith)) in
-        record { walk = d .0; index = rw (ids-after, ats-after) (d .1) }
+        record { walk = d .0; index = rw (ids-after, ats-after) (with-count (whole s from) (d .1)) }
+      where
+        with-count : (g : Reading (List Node))
+            → On g (λ ns. Indexed s ns (take count ids ++ unit i) (take count ats ++ unit at))
+            → On g (λ ns. (count + 1 ≤ 64) × Indexed s ns (take count ids ++ unit i) (take count ats ++ unit at))
+        with-count (got ns us) x = (omega arith, x)
+        with-count (no k us) x = tt
 
     pub held-next :
         (ms : List ℕ) → q < length s → length after ≡ length groups → length ms ≡ length marks

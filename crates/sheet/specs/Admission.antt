@@ -2,7 +2,7 @@
 use mathlib.Core.Path.{_≡_}
 use mathlib.Core.Bool.{true}
 use mathlib.Core.List.{List, [], _∷_, _++_}
-use Prim.Native.Nat.{ℕ, _%_}
+use Prim.Native.Nat.{ℕ, _%_, _≤_}
 use lib.ListN.{drop, take, getD}
 use Rattle.text.specs.Bytes.{Str}
 use Rattle.row.specs.Rows.{rows, size}
@@ -22,9 +22,9 @@ abbrev pub verdict : Admitted → Answer
 verdict (sheet sh) = answer.Sheet
 verdict (refused k l) = answer.Refused k l
 
--- the index of some nodes: the first `count` of its ids and positions
+-- the index of some nodes: the first `count`, at most 64, of its ids and positions
 abbrev pub IndexFor : Str → List Node → Index → Type 0
-IndexFor s ns x = Indexed s ns (take (x .count) (x .ids)) (take (x .count) (x .ats))
+IndexFor s ns x = (x .count ≤ 64) × Indexed s ns (take (x .count) (x .ids)) (take (x .count) (x .ats))
 
 -- the index holds the nodes of the tree, if there is one
 abbrev pub IndexOf : Str → Admitted → Index → Type 0

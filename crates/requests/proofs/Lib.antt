@@ -1,0 +1,5 @@
+pub mod AnswerLaws
+pub mod LeafLaws
+pub mod LocateLaws
+pub mod SheetLaws
+pub mod TypeTextLaws

@@ -1,0 +1,112 @@
+-- Laws of what is admitted: a sheet's root is the text of its first row, and its index has room for its nodes. Assumes nothing.
+use mathlib.Core.Path.{_≡_, refl, sym, ap}
+use mathlib.Core.Bool.{Bool, true, false}
+use mathlib.Core.List.{List, []}
+use Prim.Native.Nat.{ℕ, _≤_}
+use native.Mathlib.Omega.{arith}
+use lib.Dec.{ltb}
+use lib.ListN.{length, take}
+use lib.Seq.{length-take-le}
+use Rattle.text.specs.Bytes.{Str}
+use Rattle.text.specs.declared.Text.{Text}
+use Rattle.row.specs.Rows.{rows, restOf}
+use Rattle.row.specs.Line.{lineAt, textAt}
+use Rattle.row.specs.declared.Line.{Line}
+use Rattle.row.specs.declared.Line.the-variants as line
+use Rattle.tree.specs.Tree.{Node, Sheet}
+use Rattle.tree.specs.Reader.{Rows, Reading, got, no, _then_}
+use Rattle.tree.specs.Read.{nodesOf, Admitted, sheet, refused, numbered, admitted}
+use Rattle.tree.specs.Read as read
+use Rattle.tree.specs.Index.{On}
+use Rattle.tree.proofs.OtherLines.{never}
+use Rattle.find.specs.Find.{sheetOf}
+use Rattle.sheet.specs.Admission.{verdict, IndexFor, IndexOf}
+use Rattle.sheet.specs.declared.Index.{Index}
+use Rattle.sheet.specs.declared.Answer as verdicts
+use Rattle.sheet.specs.declared.Answer.the-variants as answer
+use Rattle.requests.specs.Requests.{outcomeOf}
+use Rattle.requests.specs.Told.{Answered, FieldAnswered}
+use Rattle.requests.specs.declared.Request.{Request}
+use Rattle.requests.specs.declared.Answer.{Answer}
+use Rattle.requests.specs.declared.Answer.the-variants.{Refused}
+use Rattle.requests.proofs.AnswerLaws.{refuses-so}
+
+root-read : (rs : Rows) → On (read.sheetOf rs) (λ sh. sh .root ≡ textAt rs)
+unfolding read.sheetOf
+root-read rs = go (lineAt rs) refl
+  where
+    nodes : (g : Reading (List Node)) → On (g then λ ns. got (sheetOf (textAt rs) ns)) (λ sh. sh .root ≡ textAt rs)
+    nodes (got ns us) = refl
+    nodes (no k us) = tt
+
+    go : (l : Line) → lineAt rs ≡ l → On (read.sheetOf rs) (λ sh. sh .root ≡ textAt rs)
+    go line.Root e = rw e (nodes (nodesOf 64 [] [] (restOf rs)))
+    go (line.Node i p sc st g tc to) e = rw e tt
+    go line.Parameter e = rw e tt
+    go (line.Field a b c d) e = rw e tt
+    go (line.Group a b) e = rw e tt
+    go (line.Typ a b c d) e = rw e tt
+    go (line.Scope a b c) e = rw e tt
+    go line.Unbound e = rw e tt
+    go (line.Value a b) e = rw e tt
+    go (line.Word a) e = rw e tt
+    go line.Bad e = rw e tt
+
+-- the root of a sheet, if it is admitted
+abbrev HasRoot : Str → Admitted → Type 0
+HasRoot root (sheet sh) = sh .root ≡ root
+HasRoot root (refused k line) = Unit {0}
+
+admitted-root : (s : Str) → HasRoot (textAt (rows s)) (admitted s)
+unfolding admitted
+admitted-root s = by-length (ltb 65536 (length s))
+  where
+    by-reading : (g : Reading Sheet) → On g (λ sh. sh .root ≡ textAt (rows s)) → HasRoot (textAt (rows s)) (numbered s g)
+    by-reading (got sh us) e = e
+    by-reading (no k us) e = tt
+
+    by-length : (b : Bool)
+        → HasRoot (textAt (rows s)) (elim b [ true ↦ refused 1 0 | false ↦ numbered s (read.sheetOf (rows s)) ])
+    by-length true = tt
+    by-length false = by-reading (read.sheetOf (rows s)) (root-read (rows s))
+
+-- the answer r and the index x of the sheet s
+module _ (s : Str) (r : verdicts.Answer) (x : Index) (told : r ≡ verdict (admitted s)) (index : IndexOf s (admitted s) x) where
+  of-sheet :
+      (P : Admitted → Type 0) → r ≡ answer.Sheet
+      → ((nodes : List Node) → IndexFor s nodes x → P (sheet (sheetOf (textAt (rows s)) nodes))) → P (admitted s)
+  of-sheet P e h = go (admitted s) (admitted-root s) (rw e at told) index
+    where
+      go : (a : Admitted) → HasRoot (textAt (rows s)) a → answer.Sheet ≡ verdict a → IndexOf s a x → P a
+      go (sheet sh) root e d =
+          let z : sheetOf (textAt (rows s)) (sh .nodes) ≡ sh = ap (λ (w : Str). sheetOf w (sh .nodes)) (sym root) in
+          rw z at (h (sh .nodes) d)
+      go (refused k line) root e d = never cc
+
+  of-refusal : (P : Admitted → Type 0) (k line : ℕ) → r ≡ answer.Refused k line → P (refused k line) → P (admitted s)
+  of-refusal P k line e h = go (admitted s) (rw e at told)
+    where
+      go : (a : Admitted) → answer.Refused k line ≡ verdict a → P a
+      go (sheet sh) e = never cc
+      go (refused j m) e = let a : j ≡ k = cc in let b : m ≡ line = cc in rw (a, b) h
+
+  pub index-room : r ≡ answer.Sheet → x .count ≤ 64
+  index-room e = of-sheet (λ a. x .count ≤ 64) e (λ nodes d. d .0)
+
+  module _ (id place : ℕ) (request : Request) (l : Str) (t : Text) where
+    pub of-field :
+        (l′ : Str) (a : Answer) → r ≡ answer.Sheet
+        → FieldAnswered s (take (x .count) (x .ids)) (take (x .count) (x .ats)) id place request l t l′ a
+        → Answered l t (outcomeOf (admitted s) id place request) l′ a
+    of-field l′ a e h = of-sheet (λ b. Answered l t (outcomeOf b id place request) l′ a) e (λ nodes d. h nodes (d .1))
+
+    pub sheet-refused :
+        (k line : ℕ) → t .at ≤ length l → r ≡ answer.Refused k line
+        → Answered l t (outcomeOf (admitted s) id place request) l (Refused k line)
+    sheet-refused k line within e =
+        of-refusal (λ b. Answered l t (outcomeOf b id place request) l (Refused k line)) k line e
+        (refuses-so l t within k line)
+
+-- so many entries are taken of an array of 64
+pub counted : (n : ℕ) (l : List ℕ) → length l ≡ 64 → n ≤ 64 → n ≡ length (take n l)
+counted n l full few = sym (length-take-le n l (omega arith))

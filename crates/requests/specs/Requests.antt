@@ -1,0 +1,86 @@
+-- What can be requested and what it comes to: document 01, 'What can be requested' and the order of refusals. Assumes nothing.
+use mathlib.Core.List.{List, [], _∷_}
+use mathlib.Core.Option.{Option, none, some}
+use Prim.Native.Nat.{ℕ}
+use lib.Dec.{ltb}
+use lib.ListN.{length}
+use Rattle.text.specs.Bytes.{Str, cond}
+use Rattle.text.specs.Answer as text
+use Rattle.tree.specs.Tree.{Arm, slot, group, Field, Node, Sheet}
+use Rattle.tree.specs.Read as read
+use Rattle.tree.specs.Read.{Admitted}
+use Rattle.codegen_types.specs.Out.{Out, ok, refused, _then_}
+use Rattle.codegen_types.specs.TypeString.{typeString}
+use Rattle.codegen_types.specs.declared.Leaf.{Leaf}
+use Rattle.codegen_types.specs.declared.Leaf.the-variants.{Reader, Builder, Owned, Client, Server, ServerDispatch, Pipeline}
+use Rattle.codegen_types.specs.declared.Leaf.the-variants.{GetType}
+use Rattle.codegen_types.specs.declared.Lifetime.the-variants.{A, Anonymous}
+use Rattle.place.specs.Place.{byId, nth}
+use Rattle.requests.specs.declared.Request.{Request}
+use Rattle.requests.specs.declared.Request.the-variants.{TypeText, Zeroing}
+use Rattle.requests.specs.declared.LeafNumber.{LeafNumber}
+use Rattle.requests.specs.declared.LeafNumber.the-variants as number
+
+-- what may be missing is there, or is 15
+abbrev pub there : {A : Type 0} → Option A → Out A
+there none = refused 15
+there (some a) = ok a
+
+-- the leaves by their numbers
+abbrev pub leaves : List Leaf
+leaves =
+    Reader A ∷ Builder A ∷ Reader Anonymous ∷ Builder Anonymous
+    ∷ Owned ∷ Client ∷ Server ∷ ServerDispatch ∷ Pipeline ∷ GetType ∷ []
+
+-- no other number is a leaf's
+unfoldable pub leafOf : ℕ → Out Leaf
+leafOf k = there (nth k leaves)
+
+-- the code's answer for it
+abbrev pub leafSaid : Out Leaf → LeafNumber
+leafSaid (ok leaf) = number.Is leaf
+leafSaid (refused k) = number.Nothing
+
+-- the node with an id and its field at a place, from 0, among its F and G lines
+unfoldable pub fieldOf : List Node → ℕ → ℕ → Out (Node × Field)
+fieldOf nodes id place = there (byId id nodes) then λ n. there (nth place (n .fields)) then λ f. ok (n, f)
+
+-- a type's text, of a slot alone: `type_string`
+unfoldable pub typeText : Sheet → Arm → ℕ → Out Str
+typeText sheet (slot s) leaf = leafOf leaf then typeString (s .ty) sheet
+typeText sheet (group id) leaf = refused 15
+
+-- the text of a request for a field
+unfoldable pub requestText : Sheet → Node × Field → Request → Out Str
+requestText sheet at (TypeText leaf) = typeText sheet (at .1 .arm) leaf
+requestText sheet at Zeroing = refused 15
+
+-- the text of a request, or the number of its refusal
+abbrev pub textOf : Sheet → ℕ → ℕ → Request → Out Str
+textOf sheet id place request = fieldOf (sheet .nodes) id place then λ at. requestText sheet at request
+
+-- ---- the answer
+
+-- what a request comes to before the text state is looked at: a text, or the number and the line of a refusal
+pub data Outcome : Type 0 where
+  gives : Str → Outcome
+  refuses : ℕ → ℕ → Outcome
+
+-- a refusal after the sheet was read names no line
+abbrev pub given : Out Str → Outcome
+given (ok s) = gives s
+given (refused k) = refuses k 0
+
+abbrev pub outcomeOf : Admitted → ℕ → ℕ → Request → Outcome
+outcomeOf (read.refused k line) id place request = refuses k line
+outcomeOf (read.sheet sheet) id place request = given (textOf sheet id place request)
+
+-- over the buffer l and a fill count: 21 comes first, 22 last
+abbrev pub answerOf : Str → ℕ → Outcome → text.Answer
+answerOf l fill (gives s) = text.answerOf l fill s
+answerOf l fill (refuses k line) = cond (ltb (length l) fill) (text.refused 21 0) (text.refused k line)
+
+-- the buffer afterwards
+abbrev pub bufferOf : Str → ℕ → Outcome → Str
+bufferOf l fill (gives s) = text.bufferOf l fill s
+bufferOf l fill (refuses k line) = l
