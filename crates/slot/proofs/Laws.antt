@@ -13,7 +13,7 @@ use lib.Dec.{eqb, ltb}
 use lib.ListN.{drop}
 use Rattle.text.specs.Bytes.{Str, cond}
 use Rattle.row.specs.Rows.{rows, restOf}
-use Rattle.row.specs.Line.{lineAt, textAt}
+use Rattle.row.specs.Line.{lineAt, textAt, asField}
 use Rattle.row.specs.declared.Line.{Line}
 use Rattle.row.specs.declared.Line.the-variants as line
 use Rattle.tree.specs.Tree as tree
@@ -174,3 +174,25 @@ slot-here s r rs l lv v here after is kind id past vhere vafter vis =
           typ = rw et refl;
           words = rw words refl;
         }
+
+-- the field's name is the text of its row
+pub name-at : (rs : Rows) → On (slotFieldOf rs) (λ f. f .name ≡ textAt rs)
+unfolding slotFieldOf
+name-at rs = as-field (λ (f : Reader SlotField). On (f rs) (λ f. f .name ≡ textAt rs)) (lineAt rs) _ _
+    (λ o d e p. on-map (λ sl. record { name = textAt rs; discriminant = d; slot = sl }) (λ f. f .name
+    ≡ textAt rs) (slotOf o e p (restOf rs))
+    (on-all {P = λ sl. textAt rs ≡ textAt rs} (λ sl. refl) (slotOf o e p (restOf rs)))) tt
+  where
+    as-field : {A : Type 0} (P : A → Type 0) (l : Line) (y : ℕ → ℕ → ℕ → ℕ → A) (z : A) → ((o d e p : ℕ) → P (y o d e p))
+        → P z → P (asField l y z)
+    as-field P line.Root y z f g = g
+    as-field P (line.Node i q k x v c o) y z f g = g
+    as-field P line.Parameter y z f g = g
+    as-field P (line.Field o d e q) y z f g = f o d e q
+    as-field P (line.Group i d) y z f g = g
+    as-field P (line.Typ k a b c) y z f g = g
+    as-field P (line.Scope i b c) y z f g = g
+    as-field P line.Unbound y z f g = g
+    as-field P (line.Value k b) y z f g = g
+    as-field P (line.Word x) y z f g = g
+    as-field P line.Bad y z f g = g
