@@ -35,9 +35,8 @@ on-has P (no k rs) x p e = absurd e
 -- an interface's refusal does not depend on the leaf
 client-same : (sheet : Sheet) (id : ℕ) (ss : Scopes) (leaf : Leaf)
     → refusalOf (typeString (interface id ss) sheet leaf) ≡ refusalOf (typeString (interface id ss) sheet Client)
-client-same sheet id ss leaf =
-    sym (brand-chain sheet leaf 17 id ss (λ e. let z : ⊥ = omega arith in absurd z))
-    ∙ brand-chain sheet Client 17 id ss (λ e. let z : ⊥ = omega arith in absurd z)
+unfolding typeString
+client-same sheet id ss leaf = sym (brand-chain sheet leaf id ss) ∙ brand-chain sheet Client id ss
 
 refusal-then : {A B : Type 0} (o : Out A) (f : A → B) → refusalOf (o then λ a. ok (f a)) ≡ refusalOf o
 refusal-then (ok a) f = refl

@@ -1,6 +1,6 @@
 -- `getter::enum_result` meets its contract: the module between its parts. Assumes nothing.
 use Rattle.codegen_types.specs.TypeString.{getQualifiedModule}
-use Rattle.type_parts.specs.Parts.{sheetOf}
+use Rattle.find.specs.Find.{sheetOf}
 use Rattle.getter.proofs.ResultLaws.{enum-told}
 use borrow.Author.Needs.{needs}
 use Rattle.getter.proofs.enum_result.Statement.{statement}

@@ -4,7 +4,7 @@ use Rattle.row.specs.Rows.{rows}
 use Rattle.tree.specs.Read.{typeOf}
 use Rattle.getter.proofs.ResultLaws.{on-fallible}
 use Rattle.text.proofs.Laws.{_⨾_}
-use Rattle.type_parts.specs.Parts.{sheetOf}
+use Rattle.find.specs.Find.{sheetOf}
 use borrow.Author.Needs.{needs}
 use Rattle.getter.proofs.fallible_result.Statement.{statement}
 use Rattle.getter.proofs.fallible_result.Tie as tie

@@ -1,5 +1,5 @@
 -- `getter::getter` meets its contract: the result type, a newline, the code and the declaration. Assumes nothing.
-use Rattle.type_parts.specs.Parts.{sheetOf}
+use Rattle.find.specs.Find.{sheetOf}
 use Rattle.getter.proofs.TextLaws.{getter-on}
 use borrow.Author.Needs.{needs}
 use Rattle.getter.proofs.getter.Statement.{statement}

@@ -4,7 +4,7 @@ use Rattle.row.specs.Rows.{rows}
 use Rattle.tree.specs.Read.{typeOf}
 use Rattle.getter.proofs.ResultLaws.{on-option, then-ok}
 use Rattle.getter.proofs.ResultLaws.{on-option}
-use Rattle.type_parts.specs.Parts.{sheetOf}
+use Rattle.find.specs.Find.{sheetOf}
 use borrow.Author.Needs.{needs}
 use Rattle.getter.proofs.optional_type.Statement.{statement}
 use Rattle.getter.proofs.optional_type.Tie as tie

@@ -2,7 +2,7 @@
 use lib.ListN.{drop}
 use Rattle.row.specs.Rows.{rows}
 use Rattle.tree.specs.Read.{typeOf}
-use Rattle.type_parts.specs.Parts.{sheetOf}
+use Rattle.find.specs.Find.{sheetOf}
 use Rattle.getter.proofs.ResultLaws.{result-prim, result-enum, client-here, any-here, fails-here}
 use Rattle.getter.proofs.ResultLaws.{untyped-kind, untyped-id, typed}
 use borrow.Author.Needs.{needs}
