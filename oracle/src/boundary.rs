@@ -90,6 +90,11 @@ pub mod answer {
         ) -> u64;
     }
 
+    /// Whether the library has requests of this kind; to the others it answers 15.
+    pub fn is_there(request: Request) -> bool {
+        matches!(request, Request::Type { .. })
+    }
+
     /// The number of a request at the boundary; the leaf goes beside it.
     fn number(request: Request) -> u64 {
         match request {

@@ -1,4 +1,5 @@
--- What the exported functions answer: the fill count after a text, or that nothing was taken; what a sheet is. Assumes nothing.
+-- What the exported functions answer: the fill count after a text, or that nothing was taken; what a sheet is; what a request
+-- answers. Assumes nothing.
 use mathlib.Core.Path.{_≡_}
 use mathlib.Core.Bool.{Bool, true}
 use Prim.Native.Nat.{ℕ, _-_, _%_, _^_}
@@ -7,7 +8,11 @@ use Rattle.text.specs.Bytes.{Str, cond, either}
 use Rattle.text.specs.Decimal.{signed}
 use Rattle.text.specs.Text.{adv, put, textAt}
 use Rattle.names.specs.Names.{taken}
+use Rattle.text.specs.Answer as text
 use Rattle.tree.specs.Read.{Admitted, sheet, refused}
+use Rattle.requests.specs.Requests.{Outcome, outcomeOf, answerOf, bufferOf}
+use Rattle.requests.specs.declared.Request.{Request}
+use Rattle.requests.specs.declared.Request.the-variants.{TypeText, Zeroing}
 
 -- where it is taken, the text s is written at a fill count into l, which leaves l′ and the fill count r; else nothing is
 -- written, and the answer is the largest count
@@ -43,3 +48,43 @@ lineOf (refused k l) = l
 pub record Told (a : Admitted) (number line : ℕ) : Type 0 where
   pub number-is : number ≡ numberOf a
   pub line-is : line ≡ lineOf a
+
+-- an answer by its number, its line and the fill count that it leaves: 0 where there is a text, and a refusal leaves the count
+abbrev pub numberIn : text.Answer → ℕ
+numberIn (text.done n) = 0
+numberIn (text.refused k line) = k
+
+abbrev pub lineIn : text.Answer → ℕ
+lineIn (text.done n) = 0
+lineIn (text.refused k line) = line
+
+abbrev pub fillIn : ℕ → text.Answer → ℕ
+fillIn fill (text.done n) = n
+fillIn fill (text.refused k line) = fill
+
+-- what a request answers and leaves of the buffer, over a buffer and a fill count
+pub record Reply : Type 0 where
+  pub answer : text.Answer
+  pub buffer : Str
+
+unfoldable pub replyOf : Outcome → Str → ℕ → Reply
+replyOf o l fill = record { answer = answerOf l fill o; buffer = bufferOf l fill o }
+
+-- a request, over a sheet
+abbrev pub ask : Admitted → ℕ → ℕ → Request → Str → ℕ → Reply
+ask a id place request = replyOf (outcomeOf a id place request)
+
+-- a request by its number: 0 is a type's text at a leaf, 8 a zeroing; for any other there is no such request, whatever the sheet
+-- and the fill count
+unfoldable pub askNumber : Admitted → ℕ → ℕ → ℕ → ℕ → Str → ℕ → Reply
+askNumber a id place request leaf =
+    cond (eqb request 0) (ask a id place (TypeText leaf))
+    (cond (eqb request 8) (ask a id place Zeroing)
+    (λ l fill. record { answer = text.refused 15 0; buffer = l }))
+
+-- over the buffer l and a fill count, a reply leaves l′ and fill′, and is told by a number and a line
+pub record Asked (l : Str) (fill : ℕ) (reply : Str → ℕ → Reply) (l′ : Str) (fill′ number line : ℕ) : Type 0 where
+  pub number-is : number ≡ numberIn (reply l fill .answer)
+  pub line-is : line ≡ lineIn (reply l fill .answer)
+  pub fill-is : fill′ ≡ fillIn fill (reply l fill .answer)
+  pub buffer-is : l′ ≡ reply l fill .buffer

@@ -9,16 +9,19 @@
 //     size_t kitlubas_default_name(size_t at, uint8_t *buf, size_t buf_len, const uint8_t *name, size_t name_len);
 //     size_t kitlubas_module_name(size_t at, uint8_t *buf, size_t buf_len, const uint8_t *name, size_t name_len);
 //     uint64_t kitlubas_admit(const uint8_t *s, size_t s_len, size_t *line);
+//     uint64_t kitlubas_answer(const uint8_t *s, size_t s_len, uint64_t id, uint64_t place, uint64_t request, uint64_t leaf,
+//                              size_t *fill, size_t *line, uint8_t *buf, size_t buf_len);
 //
 // The writers put their text at the fill count `at` and answer the new one. Bytes past the end of the buffer are counted and
 // not written. What is not taken writes nothing and answers 18446744073709551615.
+use requests::Request;
 use sheet::Answer;
 use text::Text;
 ghost use Rattle.tree.specs.Read.{admitted};
 ghost use Rattle.names.specs.Names.{camelToSnakeCase, defaultName, moduleName};
 ghost use Rattle.text.specs.Decimal.{decimal};
 ghost use Rattle.text.specs.Lines.{Line, BlankLine, Branch, none, toLines, stringify, ended};
-ghost use Rattle.exports.specs.Boundary.{Filled, Named, Signed, Told};
+ghost use Rattle.exports.specs.Boundary.{Filled, Named, Signed, Told, Asked, ask, askNumber};
 
 #[no_mangle]
 pub extern "C" fn kitlubas_number(at: usize, buf: &mut [u8], n: u64) -> usize
@@ -115,6 +118,61 @@ pub extern "C" fn kitlubas_admit(s: &[u8], line: &mut usize) -> u64
         Answer::Refused { number, line: at } => {
             *line = at;
             number
+        }
+    }
+}
+
+// The answer to a request: 0 with `fill` moved past the text, or the number of its refusal; `line` becomes the refusal's line.
+fn ask(
+    s: &[u8],
+    id: u64,
+    place: u64,
+    request: Request,
+    fill: &mut usize,
+    line: &mut usize,
+    buf: &mut [u8],
+) -> u64
+    ensures { λ r. ⌜ Asked (now (buf .entry)) (now (fill .entry)) (ask (admitted (now (s .entry))) id place request)
+        (now (buf .exit)) (now (fill .exit)) r (now (line .exit)) ⌝ }
+{
+    let answer = requests::answer_request(s, id, place, request, Text::at(*fill), buf);
+    match answer {
+        requests::Answer::Done(t) => {
+            *fill = t.fill();
+            *line = 0;
+            0
+        }
+        requests::Answer::Refused {
+            number,
+            line: at_line,
+        } => {
+            *line = at_line;
+            number
+        }
+    }
+}
+
+// A request by its number: 0 is a type's text at a leaf, 8 a zeroing. For any other number there is no such request, 15.
+#[no_mangle]
+pub extern "C" fn kitlubas_answer(
+    s: &[u8],
+    id: u64,
+    place: u64,
+    request: u64,
+    leaf: u64,
+    fill: &mut usize,
+    line: &mut usize,
+    buf: &mut [u8],
+) -> u64
+    ensures { λ r. ⌜ Asked (now (buf .entry)) (now (fill .entry)) (askNumber (admitted (now (s .entry))) id place request leaf)
+        (now (buf .exit)) (now (fill .exit)) r (now (line .exit)) ⌝ }
+{
+    match request {
+        0 => ask(s, id, place, Request::TypeText { leaf }, fill, line, buf),
+        8 => ask(s, id, place, Request::Zeroing, fill, line, buf),
+        _ => {
+            *line = 0;
+            15
         }
     }
 }

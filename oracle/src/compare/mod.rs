@@ -21,10 +21,11 @@ struct Part {
     run: fn(u64) -> Option<Vec<Report>>,
 }
 
-const PARTS: [Part; 4] = [
+const PARTS: [Part; 5] = [
     Part { name: "names, numbers and lines", landed: true, run: leaves_reports },
     Part { name: "admission", landed: true, run: sheet_reports },
-    Part { name: "requests", landed: false, run: request_reports },
+    Part { name: "types' texts", landed: true, run: type_reports },
+    Part { name: "getters, setters, hasers, zeroing", landed: false, run: accessor_reports },
     Part {
         name: "the program accessors",
         landed: false,
@@ -73,11 +74,21 @@ fn sheet_reports(_times: u64) -> Option<Vec<Report>> {
 }
 
 #[cfg(has_answer)]
-fn request_reports(times: u64) -> Option<Vec<Report>> {
-    Some(vec![requests::types(times), requests::accessors(times)])
+fn type_reports(times: u64) -> Option<Vec<Report>> {
+    Some(vec![requests::types(times)])
 }
 
 #[cfg(not(has_answer))]
-fn request_reports(_times: u64) -> Option<Vec<Report>> {
+fn type_reports(_times: u64) -> Option<Vec<Report>> {
+    None
+}
+
+#[cfg(has_answer)]
+fn accessor_reports(times: u64) -> Option<Vec<Report>> {
+    requests::accessors(times).map(|report| vec![report])
+}
+
+#[cfg(not(has_answer))]
+fn accessor_reports(_times: u64) -> Option<Vec<Report>> {
     None
 }

@@ -179,10 +179,14 @@ fn kitlubas_admit(_bytes: Vec<u8>) -> Option<Round> {
 
 #[cfg(has_answer)]
 fn kitlubas_answer(bytes: Vec<u8>, request: Request) -> Option<Round> {
+    use crate::boundary::answer::{answer, is_there};
+    if !is_there(request) {
+        return None;
+    }
     let mut buffer = vec![0; BUFFER];
     Some(Box::new(move || {
         let mut fill = 0;
-        discard(crate::boundary::answer::answer(black_box(&bytes), 1, 0, request, &mut fill, &mut buffer));
+        discard(answer(black_box(&bytes), 1, 0, request, &mut fill, &mut buffer));
     }))
 }
 
