@@ -236,7 +236,7 @@ at-enum P (interface i ss) a h e p = let z : ⊥ = omega arith in absurd z
 at-enum P anyPointer a h e p = let z : ⊥ = omega arith in absurd z
 at-enum P (parameter i k) a h e p = let z : ⊥ = omega arith in absurd z
 
-at-any : (P : Ty → Type 0) (t : Ty) (a : ℕ) → HasId t a → kind t ≡ 18 → a ≡ 0 → P anyPointer → P t
+pub at-any : (P : Ty → Type 0) (t : Ty) (a : ℕ) → HasId t a → kind t ≡ 18 → a ≡ 0 → P anyPointer → P t
 at-any P (plain k) a h e z p = let w : ⊥ = omega arith in absurd w
 at-any P (list t) a h e z p = let w : ⊥ = omega arith in absurd w
 at-any P (enum i ss) a h e z p = let w : ⊥ = omega arith in absurd w
