@@ -2,7 +2,7 @@
 -- meaning of texts runs on a record. A mask is its text, or none where the call is plain. Assumes nothing.
 use mathlib.Core.Bool.{Bool, true, false}
 use mathlib.Core.Option.{Option, none, some}
-use mathlib.Core.List.{List, _++_}
+use mathlib.Core.List.{_++_}
 use Prim.Native.Nat.{ℕ}
 use Rattle.text.specs.Bytes.{Str, ascii}
 use Rattle.text.specs.Decimal.{decimal}

@@ -2,7 +2,7 @@
 -- Assumes nothing.
 use mathlib.Core.Bool.{Bool, true, false}
 use mathlib.Core.Option.{Option, none, some}
-use mathlib.Core.List.{List, [], _++_}
+use mathlib.Core.List.{[], _++_}
 use Rattle.text.specs.Bytes.{Str, ascii}
 use Rattle.text.specs.Decimal.{decimal, signed}
 use Rattle.calls.specs.declared.Mask.{Mask}

@@ -3,7 +3,7 @@
 use Prim.Native.Nat.{ℕ}
 use mathlib.Core.Bool.{Bool, true, false}
 use mathlib.Core.Option.{Option, none, some}
-use mathlib.Core.List.{List, [], _++_}
+use mathlib.Core.List.{[], _++_}
 use lib.Dec.{eqb}
 use Rattle.text.specs.Bytes.{Str, ascii, unit, cond, both, same}
 use Rattle.text.specs.Decimal.{decimal}

@@ -6,4 +6,4 @@ pub mod Function
 pub mod Getter
 pub mod Haser
 pub mod Setter
-pub mod Starred
+pub mod Zeroing

@@ -5,7 +5,7 @@ use mathlib.Core.Option as option
 use mathlib.Core.Option.{Option, some}
 use mathlib.Core.List.{[], _++_}
 use lib.Dec.{eqb, leb}
-use Rattle.text.specs.Bytes.{Str, ascii, cond, both, either}
+use Rattle.text.specs.Bytes.{Str, ascii, cond, either}
 use Rattle.text.specs.Decimal.{decimal}
 use Rattle.text.specs.Lines.{FormattedText, FormattedTexts, Indent, Branch, Line, none, _&_, stringify}
 use Rattle.names.specs.Names.{camelToSnakeCase}

@@ -8,7 +8,7 @@ ghost use mathlib.Core.Bool.{true, false};
 ghost use Rattle.text.specs.Bytes.{ascii, cond, both};
 ghost use Rattle.text.specs.Text.{Wrote};
 ghost use Rattle.tree.specs.Tree as tree;
-ghost use Rattle.calls.specs.Calls.{getDataField, setBoolField, setDataField};
+ghost use Rattle.calls.specs.Calls.{getDataField, setBoolField, setDataField, zeroData};
 ghost use Rattle.calls.specs.Mask.{maskText};
 ghost use Rattle.codegen.specs.Default.{value, integer, floatZero, primDefault, getterMask};
 ghost use Rattle.codegen.specs.Given.{Given};
@@ -163,6 +163,16 @@ pub fn set_number(t: Text, buf: &mut [u8], kind: u64, offset: u64, default: u64,
     let len = name.len;
     let mask = prim_default(default, bits);
     calls::set_data_field(t, buf, &bytes[..len], offset, b"value", mask)
+}
+
+// The line that zeroes a number.
+pub fn zero_number(t: Text, buf: &mut [u8], kind: u64, offset: u64) -> Text
+    ensures { λ r. ⌜ Wrote (now (buf .entry)) t (zeroData (primitiveText kind) offset) (now (buf .exit)) r ⌝ }
+{
+    let name = primitive(kind);
+    let bytes = name.bytes;
+    let len = name.len;
+    calls::zero_data(t, buf, &bytes[..len], offset)
 }
 
 // Whether a type of this kind is a pointer.

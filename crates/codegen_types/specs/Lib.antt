@@ -1,4 +1,4 @@
 pub mod Out
 pub mod Leaf
 pub mod TypeString
-pub mod Starred
+pub mod Examples

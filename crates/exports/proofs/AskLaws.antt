@@ -1,17 +1,20 @@
 -- What the code's answer says of a request is what is told at the boundary: by the two cases of the answer. Assumes nothing.
-use mathlib.Core.Path.{_≡_, refl, ap, _∙_}
-use Prim.Native.Nat.{ℕ}
-use borrow.Author.Tests.{ne-eqb}
+use mathlib.Core.Path.{_≡_, refl, sym, ap, _∙_}
+use mathlib.Core.List.{List, [], _∷_}
+use Prim.Native.Nat.{ℕ, zero, suc, _-_, _^_, _≤_}
+use lib.ListN.{length, getD}
+use native.Mathlib.Omega.{arith}
 use Rattle.text.specs.Answer as text
 use Rattle.text.specs.Bytes.{Str}
 use Rattle.text.specs.Text.{textAt}
 use Rattle.text.specs.declared.Text.{Text}
-use Rattle.tree.specs.Read.{Admitted}
 use Rattle.requests.specs.Requests.{Outcome, answerOf, bufferOf}
 use Rattle.requests.specs.Told.{told, Answered}
 use Rattle.requests.specs.declared.Answer.{Answer}
 use Rattle.requests.specs.declared.Answer.the-variants.{Done, Refused}
-use Rattle.exports.specs.Boundary.{numberIn, lineIn, fillIn, replyOf, askNumber, Asked}
+use Rattle.requests.proofs.LeafLaws.{more}
+use Rattle.requests.specs.declared.Request.the-variants.{TypeText}
+use Rattle.exports.specs.Boundary.{numberIn, lineIn, fillIn, replyOf, requestsAt, requestOf, Asked}
 
 -- a request that comes to o, asked at the state t of a fill count
 module _ (l : Str) (fill : ℕ) (o : Outcome) (t : Text) (l′ : Str) (r : Answer) (at : t ≡ textAt fill)
@@ -44,10 +47,17 @@ module _ (l : Str) (fill : ℕ) (o : Outcome) (t : Text) (l′ : Str) (r : Answe
         buffer-is = buffer-is;
       }
 
--- a number that is no request's
-pub asked-nothing :
-    (l : Str) (fill : ℕ) (a : Admitted) (id place request leaf : ℕ) → (request ≡ 0 → ⊥) → (request ≡ 8 → ⊥)
-    → Asked l fill (askNumber a id place request leaf) l fill 15 0
-unfolding askNumber
-asked-nothing l fill a id place request leaf f g =
-    rw (ne-eqb _ _ f, ne-eqb _ _ g) (record { number-is = refl; line-is = refl; fill-is = refl; buffer-is = refl })
+-- a number that is none of the nine
+pub no-request :
+    (n leaf : ℕ) → (n ≡ 0 → ⊥) → (n ≡ 1 → ⊥) → (n ≡ 2 → ⊥) → (n ≡ 3 → ⊥) → (n ≡ 4 → ⊥) → (n ≡ 5 → ⊥) → (n ≡ 6 → ⊥) → (n ≡ 7 → ⊥)
+    → (n ≡ 8 → ⊥) → TypeText (2 ^ 64 - 1) ≡ requestOf n leaf
+unfolding requestOf
+no-request n leaf a b c d e f g h i =
+    let z : 9 ≤ n = more n 8 (more n 7 (more n 6 (more n 5 (more n 4 (more n 3 (more n 2 (more n 1 (more n 0
+    (omega arith) a) b) c) d) e) f) g) h) i in
+    sym (getD-past (requestsAt leaf) n (TypeText (2 ^ 64 - 1)) z)
+  where
+    getD-past : {A : Type 0} (l : List A) (n : ℕ) (x : A) → length l ≤ n → getD l n x ≡ x
+    getD-past [] n x h = refl
+    getD-past (y ∷ l) zero x h = let w : ⊥ = omega arith in absurd w
+    getD-past (y ∷ l) (suc n) x h = getD-past l n x (omega arith)

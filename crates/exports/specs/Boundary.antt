@@ -1,9 +1,11 @@
 -- What the exported functions answer: the fill count after a text, or that nothing was taken; what a sheet is; what a request
 -- answers. Assumes nothing.
 use mathlib.Core.Path.{_≡_}
-use mathlib.Core.Bool.{Bool, true}
+use mathlib.Core.Bool.{Bool, true, false}
+use mathlib.Core.List.{List, [], _∷_}
 use Prim.Native.Nat.{ℕ, _-_, _%_, _^_}
 use lib.Dec.{eqb}
+use lib.ListN.{getD}
 use Rattle.text.specs.Bytes.{Str, cond, either}
 use Rattle.text.specs.Decimal.{signed}
 use Rattle.text.specs.Text.{adv, put, textAt}
@@ -12,7 +14,7 @@ use Rattle.text.specs.Answer as text
 use Rattle.tree.specs.Read.{Admitted, sheet, refused}
 use Rattle.requests.specs.Requests.{Outcome, outcomeOf, answerOf, bufferOf}
 use Rattle.requests.specs.declared.Request.{Request}
-use Rattle.requests.specs.declared.Request.the-variants.{TypeText, Zeroing}
+use Rattle.requests.specs.declared.Request.the-variants.{TypeText, Getter, Setter, Haser, Zeroing}
 
 -- where it is taken, the text s is written at a fill count into l, which leaves l′ and the fill count r; else nothing is
 -- written, and the answer is the largest count
@@ -74,13 +76,16 @@ replyOf o l fill = record { answer = answerOf l fill o; buffer = bufferOf l fill
 abbrev pub ask : Admitted → ℕ → ℕ → Request → Str → ℕ → Reply
 ask a id place request = replyOf (outcomeOf a id place request)
 
--- a request by its number: 0 is a type's text at a leaf, 8 a zeroing; for any other there is no such request, whatever the sheet
--- and the fill count
-unfoldable pub askNumber : Admitted → ℕ → ℕ → ℕ → ℕ → Str → ℕ → Reply
-askNumber a id place request leaf =
-    cond (eqb request 0) (ask a id place (TypeText leaf))
-    (cond (eqb request 8) (ask a id place Zeroing)
-    (λ l fill. record { answer = text.refused 15 0; buffer = l }))
+-- the requests by their numbers; a type's text is asked at a leaf
+abbrev pub requestsAt : ℕ → List Request
+requestsAt leaf =
+    TypeText leaf
+    ∷ Getter true false ∷ Getter false false ∷ Getter true true ∷ Getter false true
+    ∷ Setter ∷ Haser true ∷ Haser false ∷ Zeroing ∷ []
+
+-- any other number asks for a type's text at a leaf that there is not: 15, in its place among the refusals
+unfoldable pub requestOf : ℕ → ℕ → Request
+requestOf number leaf = getD (requestsAt leaf) number (TypeText (2 ^ 64 - 1))
 
 -- over the buffer l and a fill count, a reply leaves l′ and fill′, and is told by a number and a line
 pub record Asked (l : Str) (fill : ℕ) (reply : Str → ℕ → Reply) (l′ : Str) (fill′ number line : ℕ) : Type 0 where

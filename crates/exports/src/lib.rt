@@ -1,4 +1,4 @@
-// The static library's boundary, for the comparison with the Rust. A slice passes as pointer then length:
+// The static library's boundary, for Rust programs and for the comparison with capnpc. A slice passes as pointer then length:
 //
 //     size_t kitlubas_number(size_t at, uint8_t *buf, size_t buf_len, uint64_t n);
 //     size_t kitlubas_signed(size_t at, uint8_t *buf, size_t buf_len, uint32_t width, uint64_t n);
@@ -21,7 +21,9 @@ ghost use Rattle.tree.specs.Read.{admitted};
 ghost use Rattle.names.specs.Names.{camelToSnakeCase, defaultName, moduleName};
 ghost use Rattle.text.specs.Decimal.{decimal};
 ghost use Rattle.text.specs.Lines.{Line, BlankLine, Branch, none, toLines, stringify, ended};
-ghost use Rattle.exports.specs.Boundary.{Filled, Named, Signed, Told, Asked, ask, askNumber};
+ghost use Rattle.requests.specs.declared.Request.the-variants.{Getter, Haser};
+ghost use Rattle.exports.specs.Boundary.{Filled, Named, Signed, Told, Asked, ask, requestOf};
+ghost use mathlib.Core.Path.{_≡_};
 
 #[no_mangle]
 pub extern "C" fn kitlubas_number(at: usize, buf: &mut [u8], n: u64) -> usize
@@ -152,7 +154,41 @@ fn ask(
     }
 }
 
-// A request by its number: 0 is a type's text at a leaf, 8 a zeroing. For any other number there is no such request, 15.
+fn getter(is_reader: bool, is_fn: bool) -> Request
+    ensures { λ r. ⌜ r ≡ Getter «is_reader» «is_fn» ⌝ }
+{
+    Request::Getter { is_reader, is_fn }
+}
+
+fn haser(is_reader: bool) -> Request
+    ensures { λ r. ⌜ r ≡ Haser «is_reader» ⌝ }
+{
+    Request::Haser { is_reader }
+}
+
+// The request with a number: 0 is a type's text at a leaf, 1 and 2 are the getters of reader and builder, 3 and 4 the same as
+// functions, 5 is the setter, 6 and 7 are the hasers of reader and builder, 8 is the zeroing. Any other number asks for a leaf
+// that there is not.
+fn request_of(number: u64, leaf: u64) -> Request
+    ensures { λ r. ⌜ r ≡ requestOf number leaf ⌝ }
+{
+    match number {
+        0 => Request::TypeText { leaf },
+        1 => getter(true, false),
+        2 => getter(false, false),
+        3 => getter(true, true),
+        4 => getter(false, true),
+        5 => Request::Setter,
+        6 => haser(true),
+        7 => haser(false),
+        8 => Request::Zeroing,
+        _ => Request::TypeText {
+            leaf: 18446744073709551615,
+        },
+    }
+}
+
+// The answer to the request with a number.
 #[no_mangle]
 pub extern "C" fn kitlubas_answer(
     s: &[u8],
@@ -164,15 +200,9 @@ pub extern "C" fn kitlubas_answer(
     line: &mut usize,
     buf: &mut [u8],
 ) -> u64
-    ensures { λ r. ⌜ Asked (now (buf .entry)) (now (fill .entry)) (askNumber (admitted (now (s .entry))) id place request leaf)
+    ensures { λ r. ⌜ Asked (now (buf .entry)) (now (fill .entry))
+        (ask (admitted (now (s .entry))) id place (requestOf request leaf))
         (now (buf .exit)) (now (fill .exit)) r (now (line .exit)) ⌝ }
 {
-    match request {
-        0 => ask(s, id, place, Request::TypeText { leaf }, fill, line, buf),
-        8 => ask(s, id, place, Request::Zeroing, fill, line, buf),
-        _ => {
-            *line = 0;
-            15
-        }
-    }
+    ask(s, id, place, request_of(request, leaf), fill, line, buf)
 }

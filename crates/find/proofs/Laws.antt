@@ -31,7 +31,7 @@ use Rattle.tree.specs.Read.{typeOf, typeFrom, bindingOf, paramsOf, among}
 use Rattle.codegen_types.specs.Out.{Out, ok, refused}
 use Rattle.codegen_types.specs.TypeString as typeString
 use Rattle.codegen_types.specs.TypeString.{nodeOf, orElse, scopeOf, scopesOf, bindingsOf}
-use Rattle.tree.specs.Index.{On, Indexed}
+use Rattle.tree.specs.Index.{On, Has, Indexed}
 use Rattle.find.specs.Find.{After, owed, pastRows, lastScope, ScopeHere, ScopeIs, namesOf, nameAt, NodeHere, lookup}
 use Rattle.find.specs.declared.Found.{Found}
 use Rattle.find.specs.declared.Found.the-variants.{At, Nothing}
@@ -119,6 +119,14 @@ on-one P Q (no k rs) f h = tt
 pub on-two : {A : Type 0} (P Q R : A → Type 0) (g : Reading A) → ((a : A) → P a → Q a → R a) → On g P → On g Q → On g R
 on-two P Q R (got a rs) f h k = f a h k
 on-two P Q R (no n rs) f h k = tt
+
+-- what holds of a reading holds of what was read, and of what is known to be read
+pub on-got : {A : Type 0} (P : A → Type 0) (g : Reading A) (a : A) (q : Rows) → On g P → g ≡ got a q → P a
+on-got P g a q h e = rw e at h
+
+pub on-has : {A : Type 0} (P : A → Type 0) (g : Reading A) (a : A) → On g P → Has g (λ b. b ≡ a) → P a
+on-has P (got b q) a h e = rw (← e) h
+on-has P (no k q) a h e = absurd e
 
 pub on-all : {A : Type 0} {P : A → Type 0} → ((a : A) → P a) → (g : Reading A) → On g P
 on-all f (got a rs) = f a
@@ -551,3 +559,19 @@ module _ (id n : ℕ) (rs next rest : Rows) (found : Option Rows) (l : Line) (m 
 
   pub scope-next : (i ≡ id → ⊥) → lastScope id n rs found ≡ lastScope id (n - 1) rest found
   scope-next e = turn ∙ rw (ne-eqb i id e) refl
+
+-- the last scope: what belongs to it is not looked at
+module _ (id n : ℕ) (rs : Rows) (found : Option Rows) (l : Line) (i b c : ℕ) (one : n ≡ 1) (line : l ≡ lineAt rs)
+    (is : l ≡ Scope i b c) where
+  abbrev rest : Rows
+  rest = pastRows (restOf rs) (owed (Scope i b c))
+
+  pub scope-last-this : i ≡ id → lastScope id n rs found ≡ some rs
+  scope-last-this e =
+      scope-this id n rs (restOf rs) rest found l (owed (Scope i b c)) i b c (omega arith) line is refl refl refl e
+      ∙ scope-none id (n - 1) rest (some rs) (omega arith)
+
+  pub scope-last-next : (i ≡ id → ⊥) → lastScope id n rs found ≡ found
+  scope-last-next e =
+      scope-next id n rs (restOf rs) rest found l (owed (Scope i b c)) i b c (omega arith) line is refl refl refl e
+      ∙ scope-none id (n - 1) rest found (omega arith)

@@ -6,7 +6,7 @@ ghost use mathlib.Core.Option.{none};
 ghost use mathlib.Core.Path.{_≡_};
 ghost use lib.Dec.{eqb};
 ghost use lib.ListN.{drop, length};
-ghost use Rattle.row.specs.Line.{lineAt, asParameter};
+ghost use Rattle.row.specs.Line.{asParameter};
 ghost use Rattle.row.specs.Rows.{rows, restOf};
 ghost use Rattle.tree.specs.Read.{among};
 ghost use Rattle.find.specs.Find.{kindAt, owed, pastRows, lastScope, rowsFound};
@@ -203,7 +203,7 @@ pub fn past(s: &[u8], from: usize, count: u64) -> usize
     at
 }
 
-// The position of the last of so many scopes that has this id.
+// The position of the last of so many scopes that has this id. What belongs to the last of them need not be passed over.
 pub fn scope(s: &[u8], from: usize, count: u64, id: u64) -> Found
     ensures { λ r. ⌜ rowsFound (now (s .entry)) r ≡ lastScope id count (rows (drop from (now (s .entry)))) none ⌝ }
 {
@@ -223,6 +223,9 @@ pub fn scope(s: &[u8], from: usize, count: u64, id: u64) -> Found
         };
         if i == id {
             found = Found::At(at);
+        }
+        if n == 1 {
+            return found;
         }
         at = past(s, g.next, owed(line));
         n -= 1;

@@ -11,7 +11,7 @@ use Rattle.text.specs.Bytes.{Str, ascii, cond, both}
 use Rattle.row.specs.Rows.{rows}
 use Rattle.tree.specs.Tree as tree
 use Rattle.tree.specs.Tree.{Ty, plain, list, enum, struct, interface, anyPointer, parameter, kind, Scopes, Sheet}
-use Rattle.tree.specs.Reader.{Rows, Reading, got, no}
+use Rattle.tree.specs.Reader.{Rows, got, no}
 use Rattle.tree.specs.Read.{typeOf}
 use Rattle.codegen_types.specs.Out.{Out, ok, refused, _then_, refusalOf}
 use Rattle.codegen_types.specs.TypeString.{typeString}
@@ -19,18 +19,13 @@ use Rattle.codegen_types.specs.declared.Leaf.{Leaf}
 use Rattle.codegen_types.specs.declared.Leaf.the-variants.{Client}
 use Rattle.codegen_types.specs.declared.Refusal.{Refusal}
 use Rattle.codegen_types.specs.declared.Refusal.the-variants.{None, Number}
-use Rattle.find.specs.Find.{On, Has}
-use Rattle.find.proofs.Laws.{on-one}
+use Rattle.find.specs.Find.{On}
+use Rattle.find.proofs.Laws.{on-one, on-has}
 use Rattle.type_refusal.proofs.Laws.{brand-chain}
 use Rattle.slot.specs.Slot.{HasId, SlotIs, SlotField, slotFieldOf, SlotHere}
 use Rattle.slot.specs.declared.Slot.{Slot}
 use Rattle.codegen.specs.Getter.{moduleLeaf, isOptionField, isFallible, optional, resultType, getterText, getterRequest}
 use Rattle.getter.specs.Result.{optionFits}
-
--- what holds of what is read, where that is known
-pub on-has : {A : Type 0} (P : A → Type 0) (g : Reading A) (x : A) → On g P → Has g (λ a. a ≡ x) → P x
-on-has P (got a rs) x p e = rw e at p
-on-has P (no k rs) x p e = absurd e
 
 -- an interface's refusal does not depend on the leaf
 client-same : (sheet : Sheet) (id : ℕ) (ss : Scopes) (leaf : Leaf)

@@ -27,7 +27,7 @@ use Rattle.slot.specs.Slot.{HasId, SlotIs}
 use Rattle.slot.specs.declared.Slot.{Slot}
 use Rattle.codegen.specs.Primitive.{primitiveText}
 use Rattle.codegen.specs.Getter.{moduleLeaf, isOptionField, optional, resultType, asFunction}
-use Rattle.getter.proofs.Laws.{on-has}
+use Rattle.find.proofs.Laws.{on-has}
 use Rattle.getter.specs.Result.{arrow, enumResult, fallibleResult, resultOut}
 
 -- ---- texts that may be refused

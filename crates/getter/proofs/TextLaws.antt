@@ -79,7 +79,8 @@ codeText root name s isReader isFn r =
     (fragmentOf root name s isReader isFn (primitiveText (r .kind))))
 
 module _ {l : List ℕ} {t : Text} {l₁ : List ℕ} {t₁ : Text} {l₂ : List ℕ} {t₂ : Text} {l₃ : List ℕ} {t₃ : Text}
-    {l₄ : List ℕ} {t₄ : Text} (sheet : Sheet) (name : Str) (s : tree.Slot) (isReader isFn : Bool) (r : Slot) (is : SlotIs r s) where
+    {l₄ : List ℕ} {t₄ : Text} (sheet : Sheet) (name : Str) (s : tree.Slot) (isReader isFn : Bool) (r : Slot)
+    (is : SlotIs r s) where
   pub getter-told : Told (resultOut sheet s isReader isFn) l t l₁ t₁ → Wrote l₁ t₁ (unit 10) l₂ t₂
       → (s .default .kind ≡ kind (s .ty) → Wrote l₂ t₂ (codeText (sheet .root) name s isReader isFn r) l₃ t₃)
       → (s .default .kind ≡ kind (s .ty) → Wrote l₃ t₃ (declared (defaultDeclaration (sheet .root) name s)) l₄ t₄)

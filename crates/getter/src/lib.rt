@@ -16,7 +16,7 @@ ghost use Rattle.tree.specs.Read.{typeOf};
 ghost use Rattle.codegen_types.specs.Out.{ok, _then_, refusalOf};
 ghost use Rattle.codegen_types.specs.TypeString.{typeString, getQualifiedModule};
 ghost use Rattle.find.specs.Find.{On};
-ghost use Rattle.slot.specs.Slot.{slotFieldOf};
+ghost use Rattle.slot.specs.Slot.{slotFieldOf, SlotOn};
 ghost use Rattle.type_refusal.specs.Told as refusal;
 ghost use Rattle.type_parts.specs.Parts.{Writes, ForAll};
 ghost use Rattle.codegen.specs.Primitive.{primitiveText};
@@ -45,13 +45,20 @@ fn option_fits(option: u64, kind: u64) -> bool
     codegen::is_pointer(kind)
 }
 
-// The refusal of a getter: its type's, an option that cannot be, or a default that is not of its type.
-pub fn getter_refusal(s: &[u8], ids: &[u64], ats: &[usize], at: usize, is_reader: bool) -> Refusal
-    ensures { λ r. ⌜ refusal.ForAll (now (s .entry)) (now (ids .entry)) (now (ats .entry)) (λ sheet.
-        On (slotFieldOf (rows (drop at (now (s .entry))))) (λ f. (isFn : Bool)
-        → r ≡ refusalOf (getterRequest sheet (f .name) (f .slot) «is_reader» isFn))) ⌝ }
+// The refusal of the getter of the slot that is read at a position: its type's, an option that cannot be, or a default that is
+// not of its type.
+pub fn getter_refusal(
+    s: &[u8],
+    ids: &[u64],
+    ats: &[usize],
+    at: usize,
+    slot: Slot,
+    is_reader: bool,
+) -> Refusal
+    ensures { λ r. ⌜ (SlotOn (now (s .entry)) at slot → refusal.ForAll (now (s .entry)) (now (ids .entry)) (now (ats .entry))
+        (λ sheet. On (slotFieldOf (rows (drop at (now (s .entry))))) (λ f. (isFn : Bool)
+        → r ≡ refusalOf (getterRequest sheet (f .name) (f .slot) «is_reader» isFn)))) ⌝ }
 {
-    let slot = slot::slot_at(s, at);
     let leaf = module_leaf(is_reader);
     let refusal = type_refusal::type_refusal(s, ids, ats, slot.typ, leaf);
     if let Refusal::Number(number) = refusal {
@@ -214,23 +221,25 @@ fn declaration(t: Text, buf: &mut [u8], root: &[u8], name: &[u8], s: &[u8], slot
     t
 }
 
-// The text of a getter: the result type, a newline, the code, and the declaration of the default if there is one.
+// The text of the getter of the slot that is read at a position: the result type, a newline, the code, and the declaration of
+// the default if there is one.
 pub fn getter(
     root: &[u8],
     s: &[u8],
     ids: &[u64],
     ats: &[usize],
     at: usize,
+    slot: Slot,
     is_reader: bool,
     is_fn: bool,
     t: Text,
     buf: &mut [u8],
 ) -> Text
-    ensures { λ r. ⌜ ForAll (now (root .entry)) (now (s .entry)) (now (ids .entry)) (now (ats .entry)) (λ sheet.
+    ensures { λ r. ⌜ (SlotOn (now (s .entry)) at slot
+        → ForAll (now (root .entry)) (now (s .entry)) (now (ids .entry)) (now (ats .entry)) (λ sheet.
         On (slotFieldOf (rows (drop at (now (s .entry))))) (λ f.
-        Writes (getterRequest sheet (f .name) (f .slot) «is_reader» «is_fn») (now (buf .entry)) t (now (buf .exit)) r)) ⌝ }
+        Writes (getterRequest sheet (f .name) (f .slot) «is_reader» «is_fn») (now (buf .entry)) t (now (buf .exit)) r))) ⌝ }
 {
-    let slot = slot::slot_at(s, at);
     let name = row::text(s, at);
     let t = result_type(root, s, ids, ats, slot, is_reader, is_fn, t, buf);
     let t = t.byte(buf, b'\n');

@@ -28,7 +28,7 @@ use Rattle.row.specs.declared.Line.the-variants as line
 use Rattle.place.specs.declared.FieldLine.the-variants as says
 
 -- where no field stands, none is read
-field-none : (rs : Rows) → isField (lineAt rs) ≡ false → fieldOf rs ≡ no 2 rs
+pub field-none : (rs : Rows) → isField (lineAt rs) ≡ false → fieldOf rs ≡ no 2 rs
 unfolding fieldOf
 field-none rs h = go (lineAt rs) refl h
   where

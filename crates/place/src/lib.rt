@@ -11,7 +11,9 @@ ghost use Rattle.row.specs.Rows.{rows};
 ghost use Rattle.tree.specs.Read.{fieldOf, fieldsOf};
 ghost use Rattle.tree.specs.Walked.{passed, walked};
 ghost use Rattle.tree.specs.Index.{On, nodeHere};
-ghost use Rattle.place.specs.Place.{nth, Finds, FieldAt, nodeLine, SaysField};
+ghost use Rattle.tree.specs.Tree.{Node};
+ghost use Rattle.place.specs.Fields.{FieldsHere};
+ghost use Rattle.place.specs.Place.{nth, Finds, NodeAt, FieldAt, nodeLine, SaysField};
 
 // The numbers of an N row.
 pub struct NodeLine {
@@ -74,6 +76,15 @@ pub fn node_line(s: &[u8], at: usize) -> NodeLine
             tag_offset: 0,
         },
     }
+}
+
+// The position of a node's first field.
+pub fn first_field(s: &[u8], node: usize) -> usize
+    ensures { λ r. ⌜ ((n : Node) → NodeAt (now (s .entry)) node n
+        → FieldsHere (rows (drop r (now (s .entry)))) (n .fields)) ⌝ }
+{
+    let g = row::next(s, node);
+    sheet::params(s, g.next)
 }
 
 // Past a field: an F row and what belongs to it, or a G row.

@@ -92,8 +92,8 @@ pub fn word_array_declaration(
     at: usize,
 ) -> Text
     ensures { λ r. ⌜ ((ws : List ℕ) → Has (wordsOf true (rows (drop at (now (s .entry))))) (λ x. x ≡ ws)
-        → Wrote (now (buf .entry)) t (stringify (wordArrayDeclaration (now (root .entry)) (defaultName (now (name .entry))) ws true))
-        (now (buf .exit)) r) ⌝ }
+        → Wrote (now (buf .entry)) t
+        (stringify (wordArrayDeclaration (now (root .entry)) (defaultName (now (name .entry))) ws true)) (now (buf .exit)) r) ⌝ }
 {
     let count = count_words(s, at, 255);
     let t = t.bytes(buf, b"pub(crate) static ");

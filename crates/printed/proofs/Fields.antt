@@ -91,12 +91,12 @@ read-words false [] rs e h = reads-none
 read-words false (w ∷ ws) rs e h = let z = eqb-true (suc (length ws)) 0 e in let y : ⊥ = omega arith in absurd y
 
 -- the tests of a slot, and of a field
-abbrev slotTests : Slot → List Bool
+abbrev pub slotTests : Slot → List Bool
 slotTests s =
     fits 32 (s .offset) ∷ isFlag (s .explicit) ∷ isFlag (s .option) ∷ typeFits (s .ty) 16 ∷ valueFits (s .default)
     ∷ wordsFit (hasWords (s .explicit) (s .default .kind)) (s .words) ∷ []
 
-abbrev fieldTests : Field → List Bool
+abbrev pub fieldTests : Field → List Bool
 fieldTests f = isName (f .name) ∷ fits 16 (f .discriminant) ∷ armFits (f .arm) ∷ []
 
 -- what belongs to an F line

@@ -63,7 +63,7 @@ nodeLine n = line.Node (n .id) (n .parent) (n .scope) (n .isStruct) (n .generic)
 abbrev memberRows : Node → Rows → Rows
 memberRows n rs = paramRows (n .params) (fieldRows (n .fields) rs)
 
-abbrev nodeTests : Node → List Bool
+abbrev pub nodeTests : Node → List Bool
 nodeTests n =
     isId (n .id) ∷ fits 64 (n .parent) ∷ fits 64 (n .scope) ∷ isFlag (n .isStruct) ∷ isFlag (n .generic) ∷ fits 16 (n .tagCount)
     ∷ fits 32 (n .tagOffset) ∷ isGraphicText 128 (n .theMod) ∷ every isName (n .params) ∷ every fieldFits (n .fields) ∷ []

@@ -48,7 +48,7 @@ record Formed (sh : Sheet) : Type 0 where
   nodes : NodesFit [] [] (sh .nodes)
   short : length (printed sh) ≤ 65536
 
-abbrev sheetTests : Sheet → List Bool
+abbrev pub sheetTests : Sheet → List Bool
 sheetTests sh =
     isGraphicText 64 (sh .root) ∷ ltb 0 (length (sh .nodes)) ∷ ltb (length (sh .nodes)) 65 ∷ every nodeFits (sh .nodes)
     ∷ distinct (nodeIds (sh .nodes)) ∷ distinct (allGroupIds (sh .nodes)) ∷ leb (length (printed sh)) 65536 ∷ []

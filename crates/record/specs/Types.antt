@@ -49,7 +49,7 @@ slotBits bool = 1
 slotBits (num t) = bitsOf t
 slotBits enum = 16
 
--- the kinds by document 01's numbers, 0 to 18: Void and the pointer kinds have no bits
+-- the kinds by document 01's numbers, 0 to 15: Void and the pointer kinds have no bits, nor have 16 to 18, past the list
 abbrev kinds : List (Option Kind)
 kinds =
     none ∷ some bool

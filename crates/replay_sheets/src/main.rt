@@ -5,31 +5,6 @@ use libc::STDIN_FILENO;
 use libc::STDOUT_FILENO;
 use sheet::Answer;
 use text::Text;
-ghost use Prim.Native.Nat.{_≤_};
-ghost use lib.ListN.{length};
-
-// What a decimal digit counts; 0 for any other byte.
-fn digit(b: u8) -> usize
-    ensures { λ r. ⌜ r ≤ 9 ⌝ }
-{
-    match b {
-        b'0'..=b'9' => (b - b'0') as usize,
-        _ => 0,
-    }
-}
-
-// The number of the last digits, below ten million.
-fn number(digits: &[u8]) -> usize
-    ensures { λ r. ⌜ r ≤ 9999999 ⌝ }
-{
-    let mut n: usize = 0;
-    let mut i = 0;
-    while i < digits.len() {
-        n = n % 1000000 * 10 + digit(digits[i]);
-        i += 1;
-    }
-    n
-}
 
 fn print_line(buf: &mut [u8], number: u64, line: usize) {
     let t = Text::at(0).number(buf, number);
@@ -49,29 +24,14 @@ fn print_sheet(buf: &mut [u8], s: &[u8]) {
     }
 }
 
-// The end of a part of so many bytes from a place on, or the end of all.
-fn part_end(s: &[u8], from: usize, size: usize) -> usize
-    requires { ⌜ from ≤ length (now s) ⌝ }
-    ensures { λ r. ⌜ (from ≤ r) × (r ≤ length (now (s .entry))) ⌝ }
-{
-    if size < s.len() - from {
-        return from + size;
-    }
-    s.len()
-}
-
 fn replay(buf: &mut [u8], sheets: &[u8]) {
     let mut at = 0;
     while at < sheets.len() {
-        let end = programs::line_end(sheets, at);
-        let size = number(&sheets[at..end]);
-        if sheets.len() <= end {
-            return;
-        }
-        let start = end + 1;
-        let next = part_end(sheets, start, size);
-        print_sheet(buf, &sheets[start..next]);
-        at = next;
+        let next = programs::next_sheet(sheets, at);
+        let start = next.start;
+        let end = next.end;
+        print_sheet(buf, &sheets[start..end]);
+        at = end;
     }
 }
 

@@ -18,7 +18,8 @@ nth-past k [] h = refl
 nth-past zero (x ∷ xs) h = let z : ⊥ = omega arith in absurd z
 nth-past (suc k) (x ∷ xs) h = nth-past k xs (omega arith)
 
-more : (n k : ℕ) → k ≤ n → (n ≡ k → ⊥) → suc k ≤ n
+-- n is past k, where it is not below it and not k
+pub more : (n k : ℕ) → k ≤ n → (n ≡ k → ⊥) → suc k ≤ n
 more n k h e = omega arith
 
 -- a number that is none of the ten

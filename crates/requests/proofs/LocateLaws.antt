@@ -7,10 +7,10 @@ use lib.ListN.{drop}
 use Rattle.text.specs.Bytes.{Str}
 use Rattle.row.specs.Rows.{rows}
 use Rattle.tree.specs.Tree.{Field, Node}
-use Rattle.tree.specs.Reader.{Reading, got, no}
-use Rattle.tree.specs.Index.{On, Has, Indexed, nodeHere}
+use Rattle.tree.specs.Index.{On, Indexed, nodeHere}
 use Rattle.codegen_types.specs.Out.{ok, _then_}
 use Rattle.find.specs.Find.{lookup}
+use Rattle.find.proofs.Laws.{on-has}
 use Rattle.find.specs.declared.Found.{Found}
 use Rattle.find.specs.declared.Found.the-variants as found
 use Rattle.place.specs.Place.{byId, nth, Finds, NodeAt, FieldAt}
@@ -19,11 +19,6 @@ use Rattle.requests.specs.Requests.{there, fieldOf}
 use Rattle.requests.specs.Told.{Locates}
 use Rattle.requests.specs.declared.Located.{Located}
 use Rattle.requests.specs.declared.Located.the-variants.{At, Nothing}
-
--- what holds of whatever is read holds of what is known to be read
-pub on-has : {A : Type 0} (P : A → Type 0) (a : A) (g : Reading A) → On g P → Has g (λ m. m ≡ a) → P a
-on-has P a (got x rs) p e = rw (← e) p
-on-has P a (no k rs) p e = absurd e
 
 module _ (s : Str) (nodes : List Node) (ids ats : List ℕ) (id place : ℕ) (index : Indexed s nodes ids ats) (r : Found)
     (looked : r ≡ lookup id ids ats) where
@@ -54,7 +49,7 @@ module _ (s : Str) (nodes : List Node) (ids ats : List ℕ) (id place : ℕ) (in
         go none x = absurd x
         go (some n) x =
             h n (nth place (n .fields)) x
-            (on-has (λ m. Finds (FieldAt s) q (nth place (m .fields))) n (nodeHere (rows (drop node s))) asked x)
+            (on-has (λ m. Finds (FieldAt s) q (nth place (m .fields))) (nodeHere (rows (drop node s))) n asked x)
 
     pub no-field : q ≡ found.Nothing → Locates s Nothing (fieldOf nodes id place)
     no-field d = located Nothing (λ n o x y. go n o (rw d at y))

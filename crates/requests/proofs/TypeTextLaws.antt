@@ -23,7 +23,7 @@ use Rattle.requests.specs.Requests.{leafOf, leafSaid, typeText}
 use Rattle.requests.specs.declared.LeafNumber.{LeafNumber}
 use Rattle.requests.specs.declared.LeafNumber.the-variants.{Is, Nothing}
 use Rattle.requests.proofs.LeafLaws.{leaf-is, leaf-none}
-use Rattle.requests.proofs.LocateLaws.{on-has}
+use Rattle.find.proofs.Laws.{on-has}
 
 -- what holds of the type that stands first holds of the slot's
 pub slot-type :
@@ -54,7 +54,7 @@ slot-type P o e p rs sl h x = by-type (typeOf 16 rs) h x
 module _ (Q : Out Str → Type 0) (s : Str) (at leaf : ℕ) (says : FieldLine)
     (read : On (fieldOf (rows (drop at s))) (λ f. SaysField s says f)) (sheet : Sheet) (f : Field) (here : FieldAt s at f) where
   is-said : SaysArm s says (f .discriminant) (f .arm)
-  is-said = on-has (λ g. SaysField s says g) f (fieldOf (rows (drop at s))) read here
+  is-said = on-has (λ g. SaysField s says g) (fieldOf (rows (drop at s))) f read here
 
   pub type-of-none : OneOf (1 ∷ 2 ∷ []) (tagOf field-line.the-type says) → Q (refused 15) → Q (typeText sheet (f .arm) leaf)
   unfolding typeText

@@ -1,4 +1,5 @@
 -- What can be requested and what it comes to: document 01, 'What can be requested' and the order of refusals. Assumes nothing.
+use mathlib.Core.Bool.{Bool, true, false}
 use mathlib.Core.List.{List, [], _∷_}
 use mathlib.Core.Option.{Option, none, some}
 use Prim.Native.Nat.{ℕ}
@@ -15,9 +16,14 @@ use Rattle.codegen_types.specs.declared.Leaf.{Leaf}
 use Rattle.codegen_types.specs.declared.Leaf.the-variants.{Reader, Builder, Owned, Client, Server, ServerDispatch, Pipeline}
 use Rattle.codegen_types.specs.declared.Leaf.the-variants.{GetType}
 use Rattle.codegen_types.specs.declared.Lifetime.the-variants.{A, Anonymous}
+use Rattle.slot.specs.Slot.{SlotField}
+use Rattle.codegen.specs.Getter.{getterRequest}
+use Rattle.codegen.specs.Setter.{setterRequest}
+use Rattle.codegen.specs.Haser.{haserRequest}
+use Rattle.codegen.specs.Zeroing.{zeroingRequest}
 use Rattle.place.specs.Place.{byId, nth}
 use Rattle.requests.specs.declared.Request.{Request}
-use Rattle.requests.specs.declared.Request.the-variants.{TypeText, Zeroing}
+use Rattle.requests.specs.declared.Request.the-variants.{TypeText, Getter, Setter, Haser, Zeroing}
 use Rattle.requests.specs.declared.LeafNumber.{LeafNumber}
 use Rattle.requests.specs.declared.LeafNumber.the-variants as number
 
@@ -50,10 +56,40 @@ unfoldable pub typeText : Sheet → Arm → ℕ → Out Str
 typeText sheet (slot s) leaf = leafOf leaf then typeString (s .ty) sheet
 typeText sheet (group id) leaf = refused 15
 
+-- a slot with its field's name and discriminant; accessors of a group are 15
+abbrev pub slotNamed : Str → ℕ → Arm → Out SlotField
+slotNamed name discriminant (slot s) = ok (record { name = name; discriminant = discriminant; slot = s })
+slotNamed name discriminant (group id) = refused 15
+
+abbrev pub slotField : Field → Out SlotField
+slotField f = slotNamed (f .name) (f .discriminant) (f .arm)
+
+abbrev pub isSlot : Arm → Bool
+isSlot (slot s) = true
+isSlot (group id) = false
+
+-- the id of a group; zeroing of a slot is 15
+abbrev pub groupOf : Arm → Out ℕ
+groupOf (slot s) = refused 15
+groupOf (group id) = ok id
+
+-- the accessors of a slot; `tag` is the offset of its node's tag
+abbrev pub getterOf : Sheet → Bool → Bool → SlotField → Out Str
+getterOf sheet isReader isFn f = getterRequest sheet (f .name) (f .slot) isReader isFn
+
+abbrev pub setterOf : Sheet → ℕ → SlotField → Out Str
+setterOf sheet tag f = setterRequest sheet tag (f .name) (f .discriminant) (f .slot)
+
+abbrev pub haserOf : ℕ → Bool → SlotField → Out Str
+haserOf tag isReader f = ok (haserRequest tag (f .name) (f .discriminant) (f .slot) isReader)
+
 -- the text of a request for a field
 unfoldable pub requestText : Sheet → Node × Field → Request → Out Str
 requestText sheet at (TypeText leaf) = typeText sheet (at .1 .arm) leaf
-requestText sheet at Zeroing = refused 15
+requestText sheet at (Getter isReader isFn) = slotField (at .1) then getterOf sheet isReader isFn
+requestText sheet at Setter = slotField (at .1) then setterOf sheet (at .0 .tagOffset)
+requestText sheet at (Haser isReader) = slotField (at .1) then haserOf (at .0 .tagOffset) isReader
+requestText sheet at Zeroing = groupOf (at .1 .arm) then zeroingRequest sheet
 
 -- the text of a request, or the number of its refusal
 abbrev pub textOf : Sheet → ℕ → ℕ → Request → Out Str

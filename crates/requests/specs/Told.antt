@@ -69,11 +69,16 @@ module _ (s ids ats : List ℕ) where
   RequestWritten root node field request l t l′ t′ =
       OfField s ids ats root node field (λ sheet at. Writes (requestText sheet at request) l t l′ t′)
 
-  -- the answer to a request that has a text, and to any request for a field of the sheet
+  -- the answer to a request that has a text, to any request for the field at a position, and for a field by its place
   abbrev pub TextAnswered : ℕ → ℕ → Request → List ℕ → Text → List ℕ → Answer → Type 0
   TextAnswered node field request l t l′ r =
       OfField s ids ats (textAt (rows s)) node field
       (λ sheet at. (w : Str) → requestText sheet at request ≡ ok w → Answered l t (gives w) l′ r)
+
+  abbrev pub AnsweredAt : ℕ → ℕ → Request → List ℕ → Text → List ℕ → Answer → Type 0
+  AnsweredAt node field request l t l′ r =
+      OfField s ids ats (textAt (rows s)) node field
+      (λ sheet at. Answered l t (given (requestText sheet at request)) l′ r)
 
   abbrev pub FieldAnswered : ℕ → ℕ → Request → List ℕ → Text → List ℕ → Answer → Type 0
   FieldAnswered id place request l t l′ r =

@@ -6,18 +6,28 @@ use codegen_types::Lifetime;
 use codegen_types::Refusal;
 use find::Found;
 use place::FieldLine;
+use slot::Slot;
 use text::Text;
 ghost use mathlib.Core.Path.{_≡_};
+ghost use mathlib.Core.Bool.{Bool, true, false};
 ghost use Prim.Native.Nat.{_≤_};
-ghost use lib.ListN.{length};
-ghost use Rattle.tree.specs.Read.{admitted};
-ghost use Rattle.requests.specs.Requests.{leafOf, leafSaid, outcomeOf};
+ghost use lib.ListN.{drop, length};
+ghost use Rattle.row.specs.Rows.{rows};
+ghost use Rattle.tree.specs.Index.{On};
+ghost use Rattle.tree.specs.Read.{admitted, fieldOf};
+ghost use Rattle.slot.specs.Slot.{SlotOn};
+ghost use Rattle.requests.specs.declared.Request.the-variants.{Getter, Setter, Haser, Zeroing};
+ghost use Rattle.requests.specs.Requests.{leafOf, leafSaid, isSlot, outcomeOf};
 ghost use Rattle.requests.specs.Told.{LocatedIn, TypeTextRefused, RequestRefused, TypeTextWritten, RequestWritten};
-ghost use Rattle.requests.specs.Told.{TextAnswered, FieldAnswered, Answered};
+ghost use Rattle.requests.specs.Told.{TextAnswered, AnsweredAt, FieldAnswered, Answered};
 
-// What can be requested of a field: the text of a slot's type for a leaf, by document 01's number, or the zeroing of a group.
+// What can be requested of a field: of a slot the text of its type for a leaf, by document 01's number, and its accessors; of a
+// group its zeroing.
 pub enum Request {
     TypeText { leaf: u64 },
+    Getter { is_reader: bool, is_fn: bool },
+    Setter,
+    Haser { is_reader: bool },
     Zeroing,
 }
 
@@ -91,20 +101,105 @@ fn type_text_refusal(s: &[u8], ids: &[u64], ats: &[usize], field: usize, leaf: u
     }
 }
 
-// The refusal of a request, for the node and the field at two positions.
+// Whether the field at a position is a slot.
+fn is_slot(s: &[u8], field: usize) -> bool
+    ensures { λ r. ⌜ On (fieldOf (rows (drop field (now (s .entry))))) (λ f. r ≡ isSlot (f .arm)) ⌝ }
+{
+    match place::field_line(s, field) {
+        FieldLine::Slot {
+            offset: _,
+            discriminant: _,
+            explicit: _,
+            option: _,
+            ty: _,
+        } => true,
+        _ => false,
+    }
+}
+
+// The refusal of a getter, for the node and the field at two positions.
+fn getter_refusal(
+    s: &[u8],
+    ids: &[u64],
+    ats: &[usize],
+    node: usize,
+    field: usize,
+    slot: Slot,
+    is_reader: bool,
+) -> Refusal
+    ensures { λ r. ⌜ (SlotOn (now (s .entry)) field slot → (isFn : Bool)
+        → RequestRefused (now (s .entry)) (now (ids .entry)) (now (ats .entry)) node field (Getter «is_reader» isFn) r) ⌝ }
+{
+    if is_slot(s, field) {
+        return getter::getter_refusal(s, ids, ats, field, slot, is_reader);
+    }
+    Refusal::Number(15)
+}
+
+// The refusal of a setter, for the node and the field at two positions.
+fn setter_refusal(
+    s: &[u8],
+    ids: &[u64],
+    ats: &[usize],
+    node: usize,
+    field: usize,
+    slot: Slot,
+) -> Refusal
+    ensures { λ r. ⌜ (SlotOn (now (s .entry)) field slot
+        → RequestRefused (now (s .entry)) (now (ids .entry)) (now (ats .entry)) node field Setter r) ⌝ }
+{
+    if is_slot(s, field) {
+        return setter::setter_refusal(s, ids, ats, field, slot);
+    }
+    Refusal::Number(15)
+}
+
+// The refusal of a haser, for the node and the field at two positions: a slot has none.
+fn haser_refusal(s: &[u8], ids: &[u64], ats: &[usize], node: usize, field: usize) -> Refusal
+    ensures { λ r. ⌜ ((isReader : Bool) → RequestRefused (now (s .entry)) (now (ids .entry)) (now (ats .entry)) node field
+        (Haser isReader) r) ⌝ }
+{
+    if is_slot(s, field) {
+        return Refusal::None;
+    }
+    Refusal::Number(15)
+}
+
+// The refusal of a zeroing, for the node and the field at two positions.
+fn zeroing_refusal(s: &[u8], ids: &[u64], ats: &[usize], node: usize, field: usize) -> Refusal
+    ensures { λ r. ⌜ RequestRefused (now (s .entry)) (now (ids .entry)) (now (ats .entry)) node field Zeroing r ⌝ }
+{
+    match place::field_line(s, field) {
+        FieldLine::Group {
+            id,
+            discriminant: _,
+        } => zeroing::zeroing_refusal(s, ids, ats, id),
+        _ => Refusal::Number(15),
+    }
+}
+
+// The refusal of a request, for the node and the field at two positions; `slot` is the slot that is read there, if one is.
 fn refusal(
     s: &[u8],
     ids: &[u64],
     ats: &[usize],
     node: usize,
     field: usize,
+    slot: Slot,
     request: Request,
 ) -> Refusal
-    ensures { λ r. ⌜ RequestRefused (now (s .entry)) (now (ids .entry)) (now (ats .entry)) node field request r ⌝ }
+    ensures { λ r. ⌜ (SlotOn (now (s .entry)) field slot
+        → RequestRefused (now (s .entry)) (now (ids .entry)) (now (ats .entry)) node field request r) ⌝ }
 {
     match request {
         Request::TypeText { leaf } => type_text_refusal(s, ids, ats, field, leaf),
-        Request::Zeroing => Refusal::Number(15),
+        Request::Getter {
+            is_reader,
+            is_fn: _,
+        } => getter_refusal(s, ids, ats, node, field, slot, is_reader),
+        Request::Setter => setter_refusal(s, ids, ats, node, field, slot),
+        Request::Haser { is_reader: _ } => haser_refusal(s, ids, ats, node, field),
+        Request::Zeroing => zeroing_refusal(s, ids, ats, node, field),
     }
 }
 
@@ -138,7 +233,84 @@ fn type_text(
     }
 }
 
-// A request's text, for the node and the field at two positions.
+// A setter's text, for the node and the field at two positions: the tag's offset is the node's.
+fn setter(
+    root: &[u8],
+    s: &[u8],
+    ids: &[u64],
+    ats: &[usize],
+    node: usize,
+    field: usize,
+    slot: Slot,
+    t: Text,
+    buf: &mut [u8],
+) -> Text
+    ensures { λ r. ⌜ (SlotOn (now (s .entry)) field slot
+        → RequestWritten (now (s .entry)) (now (ids .entry)) (now (ats .entry)) (now (root .entry)) node field Setter
+        (now (buf .entry)) t (now (buf .exit)) r) ⌝ }
+{
+    let line = place::node_line(s, node);
+    setter::setter(root, s, ids, ats, field, slot, line.tag_offset, t, buf)
+}
+
+// A haser's text, for the node and the field at two positions.
+fn haser(
+    root: &[u8],
+    s: &[u8],
+    ids: &[u64],
+    ats: &[usize],
+    node: usize,
+    field: usize,
+    slot: Slot,
+    is_reader: bool,
+    t: Text,
+    buf: &mut [u8],
+) -> Text
+    ensures { λ r. ⌜ (SlotOn (now (s .entry)) field slot
+        → RequestWritten (now (s .entry)) (now (ids .entry)) (now (ats .entry)) (now (root .entry)) node field
+        (Haser «is_reader») (now (buf .entry)) t (now (buf .exit)) r) ⌝ }
+{
+    let line = place::node_line(s, node);
+    let name = row::text(s, field);
+    codegen::haser(
+        t,
+        buf,
+        name,
+        slot.kind,
+        slot.offset,
+        line.tag_offset,
+        slot.discriminant,
+        is_reader,
+    )
+}
+
+// A zeroing's text, for the node and the field at two positions.
+fn zeroing(
+    root: &[u8],
+    s: &[u8],
+    ids: &[u64],
+    ats: &[usize],
+    node: usize,
+    field: usize,
+    t: Text,
+    buf: &mut [u8],
+) -> Text
+    ensures { λ r. ⌜ RequestWritten (now (s .entry)) (now (ids .entry)) (now (ats .entry)) (now (root .entry)) node field Zeroing
+        (now (buf .entry)) t (now (buf .exit)) r ⌝ }
+{
+    match place::field_line(s, field) {
+        FieldLine::Group {
+            id,
+            discriminant: _,
+        } => {
+            let z = zeroing::zeroing(s, ids, ats, id, t, buf);
+            z.text
+        }
+        _ => t,
+    }
+}
+
+// A request's text, for the node and the field at two positions; `slot` is the slot that is read there, if one is.
 fn write(
     root: &[u8],
     s: &[u8],
@@ -146,16 +318,25 @@ fn write(
     ats: &[usize],
     node: usize,
     field: usize,
+    slot: Slot,
     request: Request,
     t: Text,
     buf: &mut [u8],
 ) -> Text
-    ensures { λ r. ⌜ RequestWritten (now (s .entry)) (now (ids .entry)) (now (ats .entry)) (now (root .entry)) node field request
-        (now (buf .entry)) t (now (buf .exit)) r ⌝ }
+    ensures { λ r. ⌜ (SlotOn (now (s .entry)) field slot
+        → RequestWritten (now (s .entry)) (now (ids .entry)) (now (ats .entry)) (now (root .entry)) node field request
+        (now (buf .entry)) t (now (buf .exit)) r) ⌝ }
 {
     match request {
         Request::TypeText { leaf } => type_text(root, s, ids, ats, field, leaf, t, buf),
-        Request::Zeroing => t,
+        Request::Getter { is_reader, is_fn } => {
+            getter::getter(root, s, ids, ats, field, slot, is_reader, is_fn, t, buf)
+        }
+        Request::Setter => setter(root, s, ids, ats, node, field, slot, t, buf),
+        Request::Haser { is_reader } => {
+            haser(root, s, ids, ats, node, field, slot, is_reader, t, buf)
+        }
+        Request::Zeroing => zeroing(root, s, ids, ats, node, field, t, buf),
     }
 }
 
@@ -166,24 +347,56 @@ fn answer_text(
     ats: &[usize],
     node: usize,
     field: usize,
+    slot: Slot,
     request: Request,
     t: Text,
     buf: &mut [u8],
 ) -> Answer
     requires { ⌜ t .at ≤ length (now buf) ⌝ }
-    ensures { λ r. ⌜ TextAnswered (now (s .entry)) (now (ids .entry)) (now (ats .entry)) node field request
-        (now (buf .entry)) t (now (buf .exit)) r ⌝ }
+    ensures { λ r. ⌜ (SlotOn (now (s .entry)) field slot
+        → TextAnswered (now (s .entry)) (now (ids .entry)) (now (ats .entry)) node field request
+        (now (buf .entry)) t (now (buf .exit)) r) ⌝ }
 {
     let root = row::text(s, 0);
     let mut empty = [0u8; 0];
-    let measured = write(root, s, ids, ats, node, field, request, t, &mut empty);
+    let measured = write(root, s, ids, ats, node, field, slot, request, t, &mut empty);
     if buf.len() < measured.fill() {
         return Answer::Refused {
             number: 22,
             line: 0,
         };
     }
-    Answer::Done(write(root, s, ids, ats, node, field, request, t, buf))
+    Answer::Done(write(root, s, ids, ats, node, field, slot, request, t, buf))
+}
+
+// The answer to a request for the node and the field at two positions of the sheet with this index.
+pub fn answer_at(
+    s: &[u8],
+    ids: &[u64],
+    ats: &[usize],
+    node: usize,
+    field: usize,
+    request: Request,
+    t: Text,
+    buf: &mut [u8],
+) -> Answer
+    ensures { λ r. ⌜ AnsweredAt (now (s .entry)) (now (ids .entry)) (now (ats .entry)) node field request
+        (now (buf .entry)) t (now (buf .exit)) r ⌝ }
+{
+    if buf.len() < t.fill() {
+        return Answer::Refused {
+            number: 21,
+            line: 0,
+        };
+    }
+    let slot = slot::slot_at(s, field);
+    match refusal(s, ids, ats, node, field, slot, request) {
+        Refusal::None => answer_text(s, ids, ats, node, field, slot, request, t, buf),
+        Refusal::Number(number) => Answer::Refused {
+            number: number as u64,
+            line: 0,
+        },
+    }
 }
 
 // The answer to a request for a field of the sheet with this index.
@@ -202,13 +415,7 @@ fn answer_field(
         (now (buf .entry)) t (now (buf .exit)) r ⌝ }
 {
     match locate(s, ids, ats, id, place) {
-        Located::At { node, field } => match refusal(s, ids, ats, node, field, request) {
-            Refusal::None => answer_text(s, ids, ats, node, field, request, t, buf),
-            Refusal::Number(number) => Answer::Refused {
-                number: number as u64,
-                line: 0,
-            },
-        },
+        Located::At { node, field } => answer_at(s, ids, ats, node, field, request, t, buf),
         Located::Nothing => Answer::Refused {
             number: 15,
             line: 0,

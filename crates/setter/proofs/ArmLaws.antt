@@ -43,7 +43,7 @@ use Rattle.codegen.specs.Setter.{reborrowed, setterInput, partsOf, primParts, t
 use Rattle.codegen.specs.Setter.{listReaderType, enumMask, enumSetter, generateSetter, setterRequest}
 use Rattle.codegen_setter.specs.Parts.{tagLine, setOpen, initOpen, initnOpen}
 use Rattle.setter.specs.Typed.{setEnd, initEnd, listReader, textOf, explicitMask}
-use Rattle.getter.proofs.Laws.{on-has}
+use Rattle.find.proofs.Laws.{on-has}
 use Rattle.getter.proofs.ResultLaws.{Told, at-enum, at-any, prim-text}
 use Rattle.setter.proofs.TypedLaws.{both-told, only-told, three-told, ElementIs, at-list, at-struct, at-interface}
 use Rattle.setter.proofs.TypedLaws.{at-parameter, flat-one, flat-two}

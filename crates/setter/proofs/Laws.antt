@@ -31,7 +31,7 @@ use Rattle.codegen_types.specs.declared.Refusal.the-variants.{None, Number}
 use Rattle.find.specs.Find.{On}
 use Rattle.find.proofs.Laws.{on-one}
 use Rattle.type_refusal.proofs.Laws.{brand-chain}
-use Rattle.getter.proofs.Laws.{on-has}
+use Rattle.find.proofs.Laws.{on-has}
 use Rattle.slot.specs.Slot.{HasId, SlotIs, SlotField, slotFieldOf, SlotHere}
 use Rattle.slot.specs.declared.Slot.{Slot}
 use Rattle.calls.specs.Calls.{setBoolField, setDataField}

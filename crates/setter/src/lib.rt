@@ -20,7 +20,7 @@ ghost use Rattle.type_parts.specs.Parts.{ForAll, Writes};
 ghost use Rattle.codegen_types.specs.declared.Leaf.the-variants.{Owned};
 ghost use Rattle.calls.specs.Mask.{maskText};
 ghost use Rattle.getter.specs.Result.{Here};
-ghost use Rattle.slot.specs.Slot.{SlotIs, slotFieldOf};
+ghost use Rattle.slot.specs.Slot.{SlotIs, slotFieldOf, SlotOn};
 ghost use Rattle.tree.specs.Tree as tree;
 ghost use Rattle.tree.specs.Read.{typeOf};
 ghost use Rattle.names.specs.Names.{nameOf};
@@ -83,13 +83,12 @@ fn default_refusal(slot: Slot) -> Refusal
     Refusal::Number(11)
 }
 
-// The refusal of a setter: its type's, or its default's.
-pub fn setter_refusal(s: &[u8], ids: &[u64], ats: &[usize], at: usize) -> Refusal
-    ensures { λ r. ⌜ refusal.ForAll (now (s .entry)) (now (ids .entry)) (now (ats .entry)) (λ sheet.
-        On (slotFieldOf (rows (drop at (now (s .entry))))) (λ f. (tag : ℕ)
-        → r ≡ refusalOf (setterRequest sheet tag (f .name) (f .discriminant) (f .slot)))) ⌝ }
+// The refusal of the setter of the slot that is read at a position: its type's, or its default's.
+pub fn setter_refusal(s: &[u8], ids: &[u64], ats: &[usize], at: usize, slot: Slot) -> Refusal
+    ensures { λ r. ⌜ (SlotOn (now (s .entry)) at slot → refusal.ForAll (now (s .entry)) (now (ids .entry)) (now (ats .entry))
+        (λ sheet. On (slotFieldOf (rows (drop at (now (s .entry))))) (λ f. (tag : ℕ)
+        → r ≡ refusalOf (setterRequest sheet tag (f .name) (f .discriminant) (f .slot))))) ⌝ }
 {
-    let slot = slot::slot_at(s, at);
     if needs_type(slot.kind, slot.id) {
         let leaf = type_leaf(slot.kind);
         let refusal = type_refusal::type_refusal(s, ids, ats, slot.typ, leaf);
@@ -500,22 +499,23 @@ fn setter_of(
     parameter_setter(root, s, ids, ats, slot, name, tag, t, buf)
 }
 
-// The text of a setter, by the offset of its node's tag.
+// The text of the setter of the slot that is read at a position, by the offset of its node's tag.
 pub fn setter(
     root: &[u8],
     s: &[u8],
     ids: &[u64],
     ats: &[usize],
     at: usize,
+    slot: Slot,
     tag: u64,
     t: Text,
     buf: &mut [u8],
 ) -> Text
-    ensures { λ r. ⌜ ForAll (now (root .entry)) (now (s .entry)) (now (ids .entry)) (now (ats .entry)) (λ sheet.
+    ensures { λ r. ⌜ (SlotOn (now (s .entry)) at slot
+        → ForAll (now (root .entry)) (now (s .entry)) (now (ids .entry)) (now (ats .entry)) (λ sheet.
         On (slotFieldOf (rows (drop at (now (s .entry))))) (λ f.
-        Writes (setterRequest sheet tag (f .name) (f .discriminant) (f .slot)) (now (buf .entry)) t (now (buf .exit)) r)) ⌝ }
+        Writes (setterRequest sheet tag (f .name) (f .discriminant) (f .slot)) (now (buf .entry)) t (now (buf .exit)) r))) ⌝ }
 {
-    let slot = slot::slot_at(s, at);
     let name = row::text(s, at);
     let snake = names::camel_to_snake_case(name);
     setter_of(root, s, ids, ats, slot, snake, tag, t, buf)

@@ -36,8 +36,8 @@ unfolding admitted
 too-long s x h = rw (admitted, lt-ltb 65536 (length s) h) (refl, tt)
 
 -- what is left after the first row is not too long either
-pub rest-fits : (s : Str) (e : ℕ) → length s ≤ 65536 → size (rows (drop e s)) ≤ 65536
-rest-fits s e h = omega (arith, size-rows (drop e s), length-drop e s)
+pub rest-fits : (s : Str) (e most : ℕ) → length s ≤ most → size (rows (drop e s)) ≤ most
+rest-fits s e most h = omega (arith, size-rows (drop e s), length-drop e s)
 
 -- a sheet that is not too long, and its first row's line
 module _ (s : Str) (short : length s ≤ 65536) (l : Line) (here : l ≡ lineAt (rows s)) (x : Index) where

@@ -14,7 +14,7 @@ use Rattle.tree.specs.Walked.{walked}
 use Rattle.tree.specs.Index.{On, Indexed}
 use Rattle.tree.specs.declared.Walk.{Walk}
 use Rattle.tree.specs.declared.Walk.the-variants.{Next, Refused}
-use Rattle.sheet.specs.Admission.{told, Marked, leftAfter, nodeAfter, NodesRead}
+use Rattle.sheet.specs.Admission.{told, Marked, Room, leftAfter, nodeAfter, NodesRead}
 use Rattle.sheet.specs.declared.Index.{Index}
 use Rattle.sheet.proofs.FieldsLaws.{pushed}
 use Rattle.sheet.proofs.MarksLaws.{marked-none}
@@ -32,23 +32,21 @@ index ids ats count = record { ids = ids; ats = ats; count = count }
 pub record Held (s : Str) (from : ℕ) (ids ats groups marks : List ℕ) (n count at : ℕ) : Type 0 where
   pub ids-size : length ids ≡ 64
   pub ats-size : length ats ≡ 64
-  pub groups-size : length groups ≡ 1489
-  pub marks-size : length marks ≡ 8192
+  pub marks-size : length marks ≡ 2048
   pub few : count ≤ 64
-  pub room : 44 * n + size (rows (drop at s)) ≤ 65536
+  pub room : Room groups n (size (rows (drop at s)))
   pub marked : Marked marks (take n groups)
   pub standing : Standing s (whole s from) (64 - count) (take count ids) (take count ats) (take n groups) (rows (drop at s))
 
 pub held-first :
-    (s : Str) (from : ℕ) (ids ats groups marks : List ℕ) → length ids ≡ 64 → length ats ≡ 64 → length groups ≡ 1489
-    → length marks ≡ 8192 → size (rows (drop from s)) ≤ 65536 → Held s from ids ats groups marks 0 0 from
-held-first s from ids ats groups marks a b c d r = record {
+    (s : Str) (from : ℕ) (ids ats groups marks : List ℕ) → length ids ≡ 64 → length ats ≡ 64 → length marks ≡ 2048
+    → Room groups 0 (size (rows (drop from s))) → Held s from ids ats groups marks 0 0 from
+held-first s from ids ats groups marks a b d r = record {
   ids-size = a;
   ats-size = b;
-  groups-size = c;
   marks-size = d;
   few = omega arith;
-  room = omega arith;
+  room = r;
   marked = marked-none marks;
   standing = standing-first s
       (rows (drop from s));
@@ -101,15 +99,14 @@ module _ (s : Str) (from : ℕ) (ids ats groups marks : List ℕ) (n count at : 
         with-count (no k us) x = tt
 
     pub held-next :
-        (ms : List ℕ) → q < length s → length after ≡ length groups → length ms ≡ length marks
-        → 44 * m + leftAfter s w ≤ 65536 → Marked ms (take m after)
+        (ms : List ℕ) → q < length s → length ms ≡ length marks → Room after m (leftAfter s w)
+        → Marked ms (take m after)
         → Held s from (set ids count i) (set ats count at) after ms m (count + 1) q
-    held-next ms p g j r k =
+    held-next ms p j r k =
         let z : 64 - count - 1 ≡ 64 - (count + 1) = omega arith in
         record {
           ids-size = length-set ids count i ∙ h .ids-size;
           ats-size = length-set ats count at ∙ h .ats-size;
-          groups-size = g ∙ h .groups-size;
           marks-size = j ∙ h .marks-size;
           few = omega arith;
           room = rw e at r;

@@ -15,12 +15,12 @@ use Rattle.tree.specs.Read.{among}
 use Rattle.tree.proofs.OtherLines.{never}
 use Rattle.sheet.specs.Admission.{Marked}
 
--- each id has its mark below 8192
-mark-fits : (id : ℕ) → id % 8192 < 8192
-mark-fits id = mod-lt id (zero-lt-suc 8191)
+-- each id has its mark below 2048
+mark-fits : (id : ℕ) → id % 2048 < 2048
+mark-fits id = mod-lt id (zero-lt-suc 2047)
 
 -- an id whose mark is not set is none of those that are marked
-pub unmarked : (marks ids : List ℕ) (id : ℕ) → Marked marks ids → getD marks (id % 8192) 0 ≡ 0 → among id ids ≡ false
+pub unmarked : (marks ids : List ℕ) (id : ℕ) → Marked marks ids → getD marks (id % 2048) 0 ≡ 0 → among id ids ≡ false
 unmarked marks ids id m e = go (among id ids) refl
   where
     go : (b : Bool) → among id ids ≡ b → b ≡ false
@@ -40,12 +40,12 @@ among-before (x ∷ xs) i id n = ap (either (eqb x id)) (among-before xs i id n)
 
 -- one id more, and its mark
 pub marked-more :
-    (marks ids : List ℕ) (i : ℕ) → length marks ≡ 8192 → Marked marks ids → Marked (set marks (i % 8192) 1) (ids ++ unit i)
-marked-more marks ids i l m = record { set = λ id h. go id h (ℕ-discrete (id % 8192) (i % 8192)) }
+    (marks ids : List ℕ) (i : ℕ) → length marks ≡ 2048 → Marked marks ids → Marked (set marks (i % 2048) 1) (ids ++ unit i)
+marked-more marks ids i l m = record { set = λ id h. go id h (ℕ-discrete (id % 2048) (i % 2048)) }
   where
-    go : (id : ℕ) → among id (ids ++ unit i) ≡ true → Dec (id % 8192 ≡ i % 8192)
-        → getD (set marks (i % 8192) 1) (id % 8192) 0 ≡ 1
-    go id h (yes e) = rw e (getD-set-same marks (i % 8192) 1 0 (rw l (mark-fits i)))
+    go : (id : ℕ) → among id (ids ++ unit i) ≡ true → Dec (id % 2048 ≡ i % 2048)
+        → getD (set marks (i % 2048) 1) (id % 2048) 0 ≡ 1
+    go id h (yes e) = rw e (getD-set-same marks (i % 2048) 1 0 (rw l (mark-fits i)))
     go id h (no n) =
-        getD-set-other marks (i % 8192) (id % 8192) 1 0 n
-        ∙ m .set id (sym (among-before ids i id (λ e. n (ap (λ (x : ℕ). x % 8192) (sym e)))) ∙ h)
+        getD-set-other marks (i % 2048) (id % 2048) 1 0 n
+        ∙ m .set id (sym (among-before ids i id (λ e. n (ap (λ (x : ℕ). x % 2048) (sym e)))) ∙ h)

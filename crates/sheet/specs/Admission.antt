@@ -1,12 +1,12 @@
 -- What the code's answers say of a sheet and its tree. Assumes nothing.
 use mathlib.Core.Path.{_≡_}
 use mathlib.Core.Bool.{true}
-use mathlib.Core.List.{List, [], _∷_, _++_}
-use Prim.Native.Nat.{ℕ, _%_, _≤_}
-use lib.ListN.{drop, take, getD}
+use mathlib.Core.List.{List, _++_}
+use Prim.Native.Nat.{ℕ, _+_, _*_, _%_, _≤_}
+use lib.ListN.{length, drop, take, getD}
 use Rattle.text.specs.Bytes.{Str}
 use Rattle.row.specs.Rows.{rows, size}
-use Rattle.tree.specs.Tree.{Field, Node, Sheet}
+use Rattle.tree.specs.Tree.{Node, Sheet}
 use Rattle.tree.specs.Reader.{Reading, got, no, Reader, mapR}
 use Rattle.tree.specs.Read.{among, fieldsOf, groupIds, nodeOf, Admitted, sheet, refused}
 use Rattle.tree.specs.Walked.{passed, walked}
@@ -40,9 +40,13 @@ told s (Refused k at) a = no k (rows (drop at s))
 abbrev pub groupsAfter : List ℕ → Reader (List ℕ)
 groupsAfter seen = mapR (λ fs. seen ++ groupIds fs) (fieldsOf seen)
 
--- every id that stands among some has its mark set, at the remainder by 8192: an id whose mark is not set is none of them
+-- every id that stands among some has its mark set, at the remainder by 2048: an id whose mark is not set is none of them
 pub record Marked (marks ids : List ℕ) : Type 0 where
-  pub set : (id : ℕ) → among id ids ≡ true → getD marks (id % 8192) 0 ≡ 1
+  pub set : (id : ℕ) → among id ids ≡ true → getD marks (id % 2048) 0 ≡ 1
+
+-- so many ids are held, and there is room for one more in each 44 of the bytes that are left
+abbrev pub Room : List ℕ → ℕ → ℕ → Type 0
+Room groups count left = 44 * count + left ≤ 44 * length groups + 43
 
 -- how many bytes are left after a walk
 abbrev pub leftAfter : Str → Walk → ℕ

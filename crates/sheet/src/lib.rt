@@ -3,14 +3,13 @@ use row::Line;
 use tree::Walk;
 ghost use mathlib.Core.Path.{_≡_};
 ghost use mathlib.Core.List.{[]};
-ghost use Prim.Native.Nat.{_+_, _*_, _%_, _≤_};
+ghost use Prim.Native.Nat.{_%_, _≤_};
 ghost use lib.ListN.{length, drop, take, set};
 ghost use Rattle.row.specs.Rows.{rows, size};
 ghost use Rattle.tree.specs.Reader.{got};
 ghost use Rattle.tree.specs.Read.{among, paramsOf, nodesOf, admitted};
-ghost use Rattle.tree.specs.Walked.{passed, walked};
-ghost use Rattle.tree.specs.Index.{On, Indexed};
-ghost use Rattle.sheet.specs.Admission.{verdict, IndexOf, told, Marked, groupsAfter, leftAfter, nodeAfter, NodesRead};
+ghost use Rattle.tree.specs.Walked.{passed};
+ghost use Rattle.sheet.specs.Admission.{verdict, IndexOf, told, Marked, Room, groupsAfter, leftAfter, nodeAfter, NodesRead};
 
 // The ids of the nodes and the positions of their N rows, in the sheet's order: the first `count` of each.
 pub struct Index {
@@ -31,9 +30,9 @@ pub struct Admission {
 }
 
 // A walk, and how many ids are held after it.
-pub struct Run {
-    pub walk: Walk,
-    pub count: usize,
+struct Run {
+    walk: Walk,
+    count: usize,
 }
 
 // A walk over one node, its id, and how many group ids are held after it.
@@ -66,10 +65,10 @@ fn seen(ids: &[u64], count: usize, id: u64) -> bool
 
 // Whether a group id is one of the first `count`. Where its mark is 0 it is none of them, and no search is made.
 fn known(groups: &[u64], count: usize, marks: &[u8], id: u64) -> bool
-    requires { ⌜ (count ≤ length (now groups)) × (length (now marks) ≡ 8192) × Marked (now marks) (take count (now groups)) ⌝ }
+    requires { ⌜ (count ≤ length (now groups)) × (length (now marks) ≡ 2048) × Marked (now marks) (take count (now groups)) ⌝ }
     ensures { λ r. ⌜ r ≡ among id (take count (now (groups .entry))) ⌝ }
 {
-    if marks[(id % 8192) as usize] == 0 {
+    if marks[(id % 2048) as usize] == 0 {
         return false;
     }
     seen(groups, count, id)
@@ -77,10 +76,10 @@ fn known(groups: &[u64], count: usize, marks: &[u8], id: u64) -> bool
 
 // Sets the mark of a group id.
 fn mark(marks: &mut [u8], id: u64)
-    requires { ⌜ length (now marks) ≡ 8192 ⌝ }
-    ensures { λ r. ⌜ now (marks .exit) ≡ set (now (marks .entry)) (id % 8192) 1 ⌝ }
+    requires { ⌜ length (now marks) ≡ 2048 ⌝ }
+    ensures { λ r. ⌜ now (marks .exit) ≡ set (now (marks .entry)) (id % 2048) 1 ⌝ }
 {
-    marks[(id % 8192) as usize] = 1;
+    marks[(id % 2048) as usize] = 1;
 }
 
 // The position after the P rows that stand there.
@@ -100,13 +99,14 @@ pub fn params(s: &[u8], from: usize) -> usize
 }
 
 // The fields of a node: F rows with what belongs to them, and G rows. The ids of all G rows before stand in `groups`, and
-// those of this node are put after them, with their marks. A G row has 44 bytes or more, so there is room for all of a sheet.
+// those of this node are put after them, with their marks. A G row has 44 bytes or more, so that there is room for all of them
+// where there is room for one in each 44 bytes.
 fn fields(s: &[u8], from: usize, groups: &mut [u64], marks: &mut [u8], count: usize) -> Run
-    requires { ⌜ (length (now groups) ≡ 1489) × (length (now marks) ≡ 8192)
-        × (44 * count + size (rows (drop from (now s))) ≤ 65536) × Marked (now marks) (take count (now groups)) ⌝ }
+    requires { ⌜ (length (now marks) ≡ 2048) × Room (now groups) count (size (rows (drop from (now s))))
+        × Marked (now marks) (take count (now groups)) ⌝ }
     ensures read { λ r. ⌜ told (now (s .entry)) (r .walk) (take (r .count) (now (groups .exit)))
         ≡ groupsAfter (take count (now (groups .entry))) (rows (drop from (now (s .entry)))) ⌝ }
-    ensures room { λ r. ⌜ 44 * r .count + leftAfter (now (s .entry)) (r .walk) ≤ 65536 ⌝ }
+    ensures room { λ r. ⌜ Room (now (groups .exit)) (r .count) (leftAfter (now (s .entry)) (r .walk)) ⌝ }
     ensures marked { λ r. ⌜ Marked (now (marks .exit)) (take (r .count) (now (groups .exit))) ⌝ }
 {
     let mut at = from;
@@ -169,11 +169,11 @@ fn node(
     marks: &mut [u8],
     count: usize,
 ) -> NodeRun
-    requires { ⌜ (known ≤ length (now ids)) × (length (now groups) ≡ 1489) × (length (now marks) ≡ 8192)
-        × (44 * count + size (rows (drop at (now s))) ≤ 65536) × Marked (now marks) (take count (now groups)) ⌝ }
+    requires { ⌜ (known ≤ length (now ids)) × (length (now marks) ≡ 2048)
+        × Room (now groups) count (size (rows (drop at (now s)))) × Marked (now marks) (take count (now groups)) ⌝ }
     ensures read { λ r. ⌜ told (now (s .entry)) (r .walk) (r .id, take (r .count) (now (groups .exit)))
         ≡ nodeAfter (take known (now (ids .entry))) (take count (now (groups .entry))) (rows (drop at (now (s .entry)))) ⌝ }
-    ensures room { λ r. ⌜ 44 * r .count + leftAfter (now (s .entry)) (r .walk) ≤ 65536 ⌝ }
+    ensures room { λ r. ⌜ Room (now (groups .exit)) (r .count) (leftAfter (now (s .entry)) (r .walk)) ⌝ }
     ensures marked { λ r. ⌜ Marked (now (marks .exit)) (take (r .count) (now (groups .exit))) ⌝ }
 {
     let g = row::next(s, at);
@@ -211,20 +211,19 @@ fn node(
     }
 }
 
-// Nodes up to the end of the sheet, 1 to 64 of them.
-fn nodes(s: &[u8], from: usize) -> IndexRun
-    requires { ⌜ size (rows (drop from (now s))) ≤ 65536 ⌝ }
+// Nodes up to the end of the sheet, 1 to 64 of them, with room for the ids of their groups.
+fn nodes(s: &[u8], from: usize, groups: &mut [u64]) -> IndexRun
+    requires { ⌜ Room (now groups) 0 (size (rows (drop from (now s)))) ⌝ }
     ensures { λ r. ⌜ NodesRead (now (s .entry)) (r .walk) (r .index) (nodesOf 64 [] [] (rows (drop from (now (s .entry))))) ⌝ }
 {
     let mut ids = [0u64; 64];
     let mut ats = [0usize; 64];
-    let mut groups = [0u64; 1489];
-    let mut marks = [0u8; 8192];
+    let mut marks = [0u8; 2048];
     let mut n: usize = 0;
     let mut count: usize = 0;
     let mut at = from;
     while count < 64 {
-        let m = node(s, at, &ids, count, &mut groups, &mut marks, n);
+        let m = node(s, at, &ids, count, groups, &mut marks, n);
         let w = m.walk;
         match w {
             Walk::Next { at: q } => {
@@ -252,6 +251,35 @@ fn nodes(s: &[u8], from: usize) -> IndexRun
         walk: Walk::Refused { number: 2, at },
         index: Index { ids, ats, count },
     }
+}
+
+// The nodes of a sheet of at most 8,192 bytes: clearing the room that a longer one needs would take longer than reading it.
+fn short_nodes(s: &[u8], from: usize) -> IndexRun
+    requires { ⌜ size (rows (drop from (now s))) ≤ 8192 ⌝ }
+    ensures { λ r. ⌜ NodesRead (now (s .entry)) (r .walk) (r .index) (nodesOf 64 [] [] (rows (drop from (now (s .entry))))) ⌝ }
+{
+    let mut groups = [0u64; 186];
+    nodes(s, from, &mut groups)
+}
+
+// The nodes of any sheet that is not too long.
+fn long_nodes(s: &[u8], from: usize) -> IndexRun
+    requires { ⌜ size (rows (drop from (now s))) ≤ 65536 ⌝ }
+    ensures { λ r. ⌜ NodesRead (now (s .entry)) (r .walk) (r .index) (nodesOf 64 [] [] (rows (drop from (now (s .entry))))) ⌝ }
+{
+    let mut groups = [0u64; 1489];
+    nodes(s, from, &mut groups)
+}
+
+// The nodes from a position on.
+fn all_nodes(s: &[u8], from: usize) -> IndexRun
+    requires { ⌜ length (now s) ≤ 65536 ⌝ }
+    ensures { λ r. ⌜ NodesRead (now (s .entry)) (r .walk) (r .index) (nodesOf 64 [] [] (rows (drop from (now (s .entry))))) ⌝ }
+{
+    if s.len() <= 8192 {
+        return short_nodes(s, from);
+    }
+    long_nodes(s, from)
 }
 
 // The index of a sheet that has none.
@@ -286,7 +314,7 @@ pub fn admit(s: &[u8]) -> Admission
             index: no_index(),
         };
     };
-    let n = nodes(s, e);
+    let n = all_nodes(s, e);
     let w = n.walk;
     let index = n.index;
     match w {

@@ -2,13 +2,13 @@
 use mathlib.Core.Path.{_≡_, refl, sym, ap, _∙_}
 use mathlib.Core.Bool.{Bool, true, false}
 use mathlib.Core.List.{List, [], _∷_}
-use Prim.Native.Nat.{ℕ, zero, suc}
+use Prim.Native.Nat.{ℕ, zero, suc, _<_, _≤_}
 use native.Mathlib.Omega.{arith}
-use borrow.Author.Tests.{eqb-true, eqb-false, ltb-true}
+use borrow.Author.Tests.{eqb-true, eqb-false, ltb-true, lt-ltb, le-ltb}
 use package.types.Run.{OneOf}
 use denote.Enum.Declared.{tagOf}
 use Rattle.row.proofs.Line.{the-type}
-use Rattle.tree.proofs.OtherLines.{not-field, not-value}
+use Rattle.tree.proofs.OtherLines.{never, not-field, not-type, not-value}
 use lib.Dec.{eqb, ltb}
 use lib.ListN.{drop}
 use Rattle.text.specs.Bytes.{Str, cond}
@@ -21,10 +21,10 @@ use Rattle.tree.specs.Tree.{Ty, plain, list, enum, struct, interface, anyPointe
 use Rattle.tree.specs.Reader.{Rows, Reading, Reader, got, no, _then_, mapR, times}
 use Rattle.tree.specs.Read as read
 use Rattle.tree.specs.Read.{typeOf, typeFrom, branded, hasWords, valueOf, wordsOf, slotOf}
-use Rattle.find.specs.Find.{On, After, kindAt, pastRows}
-use Rattle.find.proofs.Laws.{as-type, on-map, on-all, past-type}
+use Rattle.find.specs.Find.{On, After, kindAt, owed, pastRows}
+use Rattle.find.proofs.Laws.{as-type, on-map, on-got, on-all, past-type}
 use Rattle.find.proofs.TypeLaws.{type-kind}
-use Rattle.slot.specs.Slot.{SlotField, slotFieldOf, idAt, HasId, SlotHere}
+use Rattle.slot.specs.Slot.{SlotField, slotFieldOf, idAt, TypeRowIs, HasId, SlotHere}
 use Rattle.slot.specs.declared.Slot.{Slot}
 
 -- a type has the id of its row
@@ -56,10 +56,6 @@ type-id (suc n) rs =
     go k a b c false false false true f e q = eqb-true a 0 e
     go k a b c false false false false f e q = eqb-false a 0 e
 
--- what holds of a reading holds of what was read
-on-got : {A : Type 0} (P : A → Type 0) (g : Reading A) (a : A) (q : Rows) → On g P → g ≡ got a q → P a
-on-got P g a q h e = rw e at h
-
 after-got : {A : Type 0} (P : Rows → Type 0) (g : Reading A) (a : A) (q : Rows) → After g P → g ≡ got a q → P q
 after-got P g a q h e = rw e at h
 
@@ -89,6 +85,46 @@ slot-read o e p rs P f = types (typeOf 16 rs) refl
         got (record { offset = o; explicit = e; option = p; ty = t; default = v; words = ws })) P
     types (got ty q) et = values ty q et (valueOf q) refl
     types (no k q) et = tt
+
+-- after the row of a plain type stands what follows the type
+past-plain : (rs : Rows) (k a b c : ℕ) → lineAt rs ≡ line.Typ k a b c → k < 14 → restOf rs ≡ pastRows rs 1
+unfolding pastRows owed lineAt restOf
+past-plain [] k a b c e few = never cc
+past-plain (r ∷ rs) k a b c e few = rw (e, lt-ltb k 14 few) (rest rs)
+  where
+    rest : (rs : Rows) → rs ≡ pastRows rs 0
+    rest [] = refl
+    rest (r ∷ rs) = refl
+
+-- the row l that stands first, as a type's row by value
+module _ (s : Str) (rs : Rows) (l : Line) (here : l ≡ lineAt rs) where
+  pub row-other :
+      (past : ℕ) → OneOf (0 ∷ 1 ∷ 2 ∷ 3 ∷ 4 ∷ 6 ∷ 7 ∷ 8 ∷ 9 ∷ 10 ∷ []) (tagOf the-type l) → rows (drop past s) ≡ pastRows rs 1
+      → TypeRowIs s rs (record { kind = 0; id = 0; past = past })
+  row-other past other h = record {
+    kind = rw (← here, not-type {A = ℕ} l _ _ other);
+    id = rw (← here, not-type {A = ℕ} l _ _ other);
+    past = h;
+  }
+
+  module _ (k a b c : ℕ) (is : l ≡ line.Typ k a b c) where
+    pub row-plain :
+        (past : ℕ) → k < 14 → rows (drop past s) ≡ restOf rs → TypeRowIs s rs (record { kind = k; id = a; past = past })
+    row-plain past few h = record {
+      kind = rw (← here, is, lt-ltb k 18 (omega arith));
+      id = rw (← here, is);
+      past = h ∙ past-plain rs k a b c (sym here ∙ is) few;
+    }
+
+    pub row-below :
+        (past : ℕ) → k < 18 → rows (drop past s) ≡ pastRows rs 1 → TypeRowIs s rs (record { kind = k; id = a; past = past })
+    row-below past few h =
+        record { kind = rw (← here, is, lt-ltb k 18 few); id = rw (← here, is); past = h }
+
+    pub row-last :
+        (past : ℕ) → 18 ≤ k → rows (drop past s) ≡ pastRows rs 1 → TypeRowIs s rs (record { kind = 18; id = a; past = past })
+    row-last past many h =
+        record { kind = rw (← here, is, le-ltb k 18 many); id = rw (← here, is); past = h }
 
 -- a row that is no F row
 pub slot-other : (P : SlotField → Type 0) (rs : Rows) (l : Line) → l ≡ lineAt rs

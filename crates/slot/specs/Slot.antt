@@ -9,8 +9,9 @@ use Rattle.tree.specs.Tree as tree
 use Rattle.tree.specs.Tree.{Ty, plain, list, enum, struct, interface, anyPointer, parameter}
 use Rattle.tree.specs.Reader.{Rows, Reader, got, no, _then_, onField}
 use Rattle.tree.specs.Read.{typeOf, hasWords, wordsOf, slotOf}
-use Rattle.find.specs.Find.{Has}
+use Rattle.find.specs.Find.{On, Has, kindAt, pastRows}
 use Rattle.slot.specs.declared.Slot.{Slot}
+use Rattle.slot.specs.declared.TypeRow.{TypeRow}
 
 -- an F row and what belongs to it: the field's name, its discriminant and the slot
 pub record SlotField : Type 0 where
@@ -26,6 +27,12 @@ slotFieldOf =
 -- T's a
 abbrev pub idAt : Rows → ℕ
 idAt rs = asType (lineAt rs) (λ k a b c. a) 0
+
+-- what a type's row says of the rows rs of the sheet s: kind and a, and where the rows after the type begin
+pub record TypeRowIs (s : Str) (rs : Rows) (r : TypeRow) : Type 0 where
+  pub kind : r .kind ≡ kindAt rs
+  pub id : r .id ≡ idAt rs
+  pub past : rows (drop (r .past) s) ≡ pastRows rs 1
 
 -- T's a by the type: the id of an enum's node; 0 for AnyPointer, but not for a parameter. A plain type's kind is below 14
 abbrev pub HasId : Ty → ℕ → Type 0
@@ -53,3 +60,7 @@ pub record SlotHere (s : Str) (r : Slot) (f : SlotField) : Type 0 where
   pub slot : SlotIs r (f .slot)
   pub typ : Has (typeOf 16 (rows (drop (r .typ) s))) (λ ty. ty ≡ f .slot .ty)
   pub words : Has (wordsOf (hasWords (r .explicit) (r .default)) (rows (drop (r .words) s))) (λ ws. ws ≡ f .slot .words)
+
+-- r is the slot that is read at a position, where one is
+abbrev pub SlotOn : Str → ℕ → Slot → Type 0
+SlotOn s at r = On (slotFieldOf (rows (drop at s))) (λ f. SlotHere s r f)

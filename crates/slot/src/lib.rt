@@ -1,10 +1,8 @@
 // A slot of the sheet by value: what its F row, its type's row and its V row say, and where its type and its words stand.
 use row::Line;
-ghost use mathlib.Core.Path.{_≡_};
 ghost use lib.ListN.{drop};
 ghost use Rattle.row.specs.Rows.{rows};
-ghost use Rattle.find.specs.Find.{On};
-ghost use Rattle.slot.specs.Slot.{slotFieldOf, SlotHere, idAt};
+ghost use Rattle.slot.specs.Slot.{TypeRowIs, SlotOn};
 
 pub struct Slot {
     pub offset: u64,
@@ -22,22 +20,48 @@ pub struct Slot {
     pub words: usize,
 }
 
-// The id that a type's row has: a.
-fn type_id(s: &[u8], at: usize) -> u64
-    ensures { λ r. ⌜ r ≡ idAt (rows (drop at (now (s .entry)))) ⌝ }
+// What the row of a type says: its kind, its a, and where the rows after the type begin.
+struct TypeRow {
+    kind: u64,
+    id: u64,
+    past: usize,
+}
+
+// The type at a position. The row of a plain type is all of it.
+fn type_row(s: &[u8], at: usize) -> TypeRow
+    ensures { λ r. ⌜ TypeRowIs (now (s .entry)) (rows (drop at (now (s .entry)))) r ⌝ }
 {
     let g = row::next(s, at);
     let line = g.line;
     let Line::Typ {
-        kind: _,
+        kind,
         a,
         b: _,
         c: _,
     } = line
     else {
-        return 0;
+        return TypeRow {
+            kind: 0,
+            id: 0,
+            past: find::past(s, at, 1),
+        };
     };
-    a
+    if kind < 14 {
+        return TypeRow {
+            kind,
+            id: a,
+            past: g.next,
+        };
+    }
+    let past = find::past(s, at, 1);
+    if kind < 18 {
+        return TypeRow { kind, id: a, past };
+    }
+    TypeRow {
+        kind: 18,
+        id: a,
+        past,
+    }
 }
 
 // What stands for a slot where there is none.
@@ -58,7 +82,7 @@ fn no_slot() -> Slot {
 
 // The slot whose F row is at a position.
 pub fn slot_at(s: &[u8], at: usize) -> Slot
-    ensures { λ r. ⌜ On (slotFieldOf (rows (drop at (now (s .entry))))) (λ f. SlotHere (now (s .entry)) r f) ⌝ }
+    ensures { λ r. ⌜ SlotOn (now (s .entry)) at r ⌝ }
 {
     let f = row::next(s, at);
     let field = f.line;
@@ -72,9 +96,8 @@ pub fn slot_at(s: &[u8], at: usize) -> Slot
     else {
         return no_slot();
     };
-    let kind = find::kind(s, typ);
-    let id = type_id(s, typ);
-    let v = find::past(s, typ, 1);
+    let t = type_row(s, typ);
+    let v = t.past;
     let g = row::next(s, v);
     let value = g.line;
     let words = g.next;
@@ -90,8 +113,8 @@ pub fn slot_at(s: &[u8], at: usize) -> Slot
         discriminant,
         explicit,
         option,
-        kind,
-        id,
+        kind: t.kind,
+        id: t.id,
         default,
         bits,
         typ,

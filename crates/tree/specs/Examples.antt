@@ -1,6 +1,6 @@
 -- Worked sheets, computed: document 01's own example, and refusals 1 to 4 at the lines that document 01 names. Assumes nothing.
 use mathlib.Core.Path.{_≡_, refl}
-use mathlib.Core.Bool.{Bool, true, false}
+use mathlib.Core.Bool.{true}
 use mathlib.Core.List.{List, [], _∷_, _++_}
 use Prim.Native.Nat.{ℕ, zero, suc, _+_, _-_}
 use lib.ListN.{length, take, drop, replicate}
@@ -12,11 +12,11 @@ use Rattle.row.specs.Rows.{rows, onto, restOf, newlines, size, lineNo}
 use Rattle.row.specs.Line.{rootLine, nodeLine, parameterLine, fieldLine, groupLine}
 use Rattle.row.specs.Line.{typeLine, scopeLine, unboundLine, valueLine, wordLine}
 use Rattle.row.specs.Line.{mostA, mostB, mostC, mostCount, mostBits, reader, lineOf, lineAt, textStart, textOf, textAt}
-use Rattle.row.specs.Print.{columns, rowText, printRoot, printNode, printParameter, printField, printGroup}
+use Rattle.row.specs.Print.{columns, rowText, printRoot, printNode, printParameter, printField}
 use Rattle.row.specs.Print.{printType, printScope, printUnbound, printValue, printWord}
 use Rattle.tree.specs.Tree.{Ty, plain, list, enum, struct, interface, anyPointer, parameter}
-use Rattle.tree.specs.Tree.{Scopes, end, inherit, bind, Binds, stop, unbound, bound}
-use Rattle.tree.specs.Tree.{Value, Slot, Arm, slot, group, Field, Node, Sheet}
+use Rattle.tree.specs.Tree.{end, inherit, bind, Binds, stop, unbound, bound}
+use Rattle.tree.specs.Tree.{Slot, slot, group, Field, Node, Sheet}
 use Rattle.tree.specs.Reader.{Rows, times}
 use Rattle.tree.specs.Read.{Admitted, sheet, refused, admitted}
 use Rattle.tree.specs.Read.{bindingOf, scopeOf, typeFrom, typeOf, valueOf, wordsUpTo, wordsOf, slotOf}

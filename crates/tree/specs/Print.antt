@@ -6,7 +6,7 @@ use Rattle.row.specs.Print.{printRoot, printNode, printParameter, printField, p
 use Rattle.row.specs.Print.{printType, printScope, printUnbound, printValue, printWord}
 use Rattle.tree.specs.Tree.{Ty, plain, list, enum, struct, interface, anyPointer, parameter}
 use Rattle.tree.specs.Tree.{Scopes, end, inherit, bind, Binds, stop, unbound, bound}
-use Rattle.tree.specs.Tree.{Value, Slot, Arm, slot, group, Field, Node, Sheet}
+use Rattle.tree.specs.Tree.{Arm, slot, group, Field, Node, Sheet}
 use Rattle.tree.specs.Reader.{Rows}
 
 -- how many scopes, how many bindings

@@ -13,7 +13,7 @@ use Rattle.row.specs.declared.Line.{Line}
 use Rattle.tree.specs.Tree.{Ty, plain, list, enum, struct, interface, anyPointer, parameter}
 use Rattle.tree.specs.Tree.{Scopes, end, inherit, bind, Binds, stop, unbound, bound}
 use Rattle.tree.specs.Tree.{Value, Slot, Arm, slot, group, Field, Node, Sheet}
-use Rattle.tree.specs.Reader.{Rows, Reading, got, no, Reader, _then_, mapR, times, atEnd}
+use Rattle.tree.specs.Reader.{Reading, got, no, Reader, _then_, mapR, times, atEnd}
 use Rattle.tree.specs.Reader.{onRoot, onNode, onParameter, onField, onGroup, onType, onScope, onUnbound, onValue, onWord}
 
 -- a binding: a U line, or a type

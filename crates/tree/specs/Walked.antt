@@ -1,5 +1,4 @@
 -- What the code says of a reading: not the tree, but where the reading came to, or what it refused where. Assumes nothing.
-use Prim.Native.Nat.{ℕ}
 use lib.ListN.{drop}
 use Rattle.text.specs.Bytes.{Str}
 use Rattle.row.specs.Rows.{rows}

@@ -2,16 +2,16 @@
 -- Assumes nothing.
 use mathlib.Core.Bool.{Bool, true, false}
 use mathlib.Core.List.{List, [], _∷_, _++_}
-use Prim.Native.Nat.{ℕ, zero, suc, _-_, _^_}
+use Prim.Native.Nat.{ℕ, _-_, _^_}
 use lib.Dec.{eqb, ltb, leb}
 use lib.ListN.{length}
-use Rattle.text.specs.Bytes.{Str, cond, both, either}
+use Rattle.text.specs.Bytes.{cond, both}
 use Rattle.column.specs.Texts.{isName, isGraphicText}
 use Rattle.row.specs.Line.{mostBits}
 use Rattle.tree.specs.Tree.{Ty, plain, list, enum, struct, interface, anyPointer, parameter}
 use Rattle.tree.specs.Tree.{Scopes, end, inherit, bind, Binds, stop, unbound, bound}
 use Rattle.tree.specs.Tree.{Value, Slot, Arm, slot, group, Field, Node, Sheet}
-use Rattle.tree.specs.Read.{hasWords, among, groupId, groupIds}
+use Rattle.tree.specs.Read.{hasWords, among, groupIds}
 use Rattle.tree.specs.Print.{printed}
 
 -- a number of so many bits

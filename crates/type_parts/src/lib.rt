@@ -6,7 +6,7 @@ use text::Text;
 ghost use mathlib.Core.List.{[], _++_, map};
 ghost use Prim.Native.Nat.{_<_};
 ghost use lib.ListN.{drop, getD};
-ghost use Rattle.text.specs.Bytes.{Str, ascii};
+ghost use Rattle.text.specs.Bytes.{ascii};
 ghost use Rattle.text.specs.Text.{Wrote};
 ghost use Rattle.row.specs.Rows.{rows};
 ghost use Rattle.tree.specs.Read.{pointer};

@@ -1,3 +1,4 @@
+-- `find::kind` meets its contract: a T row's kind, and 0 for any other row. Assumes nothing.
 use Rattle.tree.proofs.OtherLines.{not-type}
 use borrow.Author.Tests.{lt-ltb, le-ltb}
 use mathlib.Core.Path.{refl, sym, _∙_}

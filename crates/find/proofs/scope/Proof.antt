@@ -1,12 +1,12 @@
 -- `find::scope` meets its contract. The loop's invariant: the scopes from here on, with what was found so far, give what all of
 -- them give. Assumes nothing.
-use Rattle.find.proofs.Laws.{scope-none, scope-other, scope-this, scope-next}
-use Rattle.find.specs.Find.{lastScope, rowsFound}
-use Rattle.row.specs.Rows.{rows}
-use mathlib.Core.Path.{_≡_, refl, sym, _∙_}
-use mathlib.Core.Option.{none}
-use mathlib.Core.Logic.{⊎-elim}
 use lib.ListN.{drop}
+use mathlib.Core.Logic.{⊎-elim}
+use mathlib.Core.Option.{none}
+use mathlib.Core.Path.{_≡_, refl, sym, _∙_}
+use Rattle.row.specs.Rows.{rows}
+use Rattle.find.specs.Find.{lastScope, rowsFound}
+use Rattle.find.proofs.Laws.{scope-none, scope-other, scope-this, scope-next, scope-last-this, scope-last-next}
 use borrow.Author.Needs.{needs}
 use Rattle.find.proofs.scope.Statement.{statement}
 use Rattle.find.proofs.scope.Tie as tie
@@ -24,19 +24,34 @@ loop-holds c =
 
 returns : tie.Need-returns Inv-loop μ-loop
 returns c =
-    sym ((c .before .before .before .loop .inv) ∙ scope-other _ _ _ _ _ (c .before .next .ensures .0) (c .match .keys2))
-
-loop-again : tie.Need-loop-again Inv-loop μ-loop
-loop-again c =
-    let c1 = c .before in let c2 = c1 .before in let c4 = c2 .before .before in let c6 = c4 .before .before in
-    let c7 = c6 .before in let c8 = c7 .before in
-    ⊎-elim (λ w. rw (w .1) ((c8 .loop .inv) ∙ scope-this _ _ _ _ _ _ _ _ _ _ _ (c7 .loop-test .taken) (c6 .next .ensures .0)
-    (c4 .line .given .1) (c6 .next .ensures .1) (c1 .owed .ensures) (c .past .ensures) (w .0 .taken)))
-    (λ w. rw (w .1) ((c8 .loop .inv) ∙ scope-next _ _ _ _ _ _ _ _ _ _ _ (c7 .loop-test .taken) (c6 .next .ensures .0)
-    (c4 .line .given .1) (c6 .next .ensures .1) (c1 .owed .ensures) (c .past .ensures) (w .0 .left))) (c2 .if1 .came)
+    let at-loop = c .before .before .before in
+    sym ((at-loop .loop .inv) ∙ scope-other _ _ _ _ _ (c .before .next .ensures .0) (c .match .keys2))
 
 returns-2 : tie.Need-returns-2 Inv-loop μ-loop
 returns-2 c =
+    let at-line = c .before .before .before in
+    let at-next = at-line .before .before in
+    let at-loop = at-next .before .before in
+    ⊎-elim (λ w. rw (w .1) (sym ((at-loop .loop .inv) ∙ scope-last-this _ _ _ _ _ _ _ _ (c .if2 .taken)
+    (at-next .next .ensures .0) (at-line .line .given .1) (w .0 .taken)))) (λ w. rw (w .1) (sym ((at-loop .loop .inv) ∙
+    scope-last-next _ _ _ _ _ _ _ _ (c .if2 .taken) (at-next .next .ensures .0) (at-line .line .given .1) (w .0 .left))))
+    (c .before .if1 .came)
+
+loop-again : tie.Need-loop-again Inv-loop μ-loop
+loop-again c =
+    let at-if1 = c .before .before .before in
+    let at-line = at-if1 .before .before in
+    let at-next = at-line .before .before in
+    let at-loop-test = at-next .before in
+    let at-loop = at-loop-test .before in
+    ⊎-elim (λ w. rw (w .1) ((at-loop .loop .inv) ∙ scope-this _ _ _ _ _ _ _ _ _ _ _ (at-loop-test .loop-test .taken)
+    (at-next .next .ensures .0) (at-line .line .given .1) (at-next .next .ensures .1) (c .before .owed .ensures)
+    (c .past .ensures) (w .0 .taken))) (λ w. rw (w .1) ((at-loop .loop .inv) ∙ scope-next _ _ _ _ _ _ _ _ _ _ _
+    (at-loop-test .loop-test .taken) (at-next .next .ensures .0) (at-line .line .given .1) (at-next .next .ensures .1)
+    (c .before .owed .ensures) (c .past .ensures) (w .0 .left))) (at-if1 .if1 .came)
+
+returns-3 : tie.Need-returns-3 Inv-loop μ-loop
+returns-3 c =
     sym ((c .before .loop .inv) ∙ scope-none _ _ _ _ (c .loop-test .left))
 
 pub scope-spec : {M : Type 1} → statement M
@@ -49,9 +64,10 @@ scope-spec =
     (λ c κs. search needs)
     (λ c. search needs)
     returns
+    returns-2
     (λ c κs. search needs)
     (λ c κs. search needs)
     (λ c. search needs)
     (λ c. search needs)
     loop-again
-    returns-2)
+    returns-3)

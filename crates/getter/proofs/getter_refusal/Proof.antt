@@ -10,8 +10,7 @@ returns c =
     let c4 = c .before in
     let c3 = c4 .before .before in
     let c2 = c3 .before in
-    let c1 = c2 .before in
-    λ root ns ix. refuse-type _ _ _ (c1 .slot-at .ensures) _ _ _ (c2 .module-leaf .ensures) _
+    λ here root ns ix. refuse-type _ _ _ here _ _ _ (c2 .module-leaf .ensures) _
     ((c3 .type-refusal .ensures) root ns ix) _ (c4 .refusal .given .1)
 
 enum-told : tie.Need-enum-told
@@ -23,8 +22,7 @@ returns-2 c =
     let c4 = c5 .before in
     let c3 = c4 .before .before in
     let c2 = c3 .before in
-    let c1 = c2 .before in
-    λ root ns ix. refuse-option _ _ _ (c1 .slot-at .ensures) _ _ _ (c2 .module-leaf .ensures) _
+    λ here root ns ix. refuse-option _ _ _ here _ _ _ (c2 .module-leaf .ensures) _
     ((c3 .type-refusal .ensures) root ns ix) _ (c4 .enum-told .given .1)
     (c5 .option-fits .ensures) (not-true _ (c .if1 .taken))
 
@@ -35,8 +33,7 @@ returns-3 c =
     let c4 = c5 .before in
     let c3 = c4 .before .before in
     let c2 = c3 .before in
-    let c1 = c2 .before in
-    λ root ns ix. refuse-default _ _ _ (c1 .slot-at .ensures) _ _ _ (c2 .module-leaf .ensures) _
+    λ here root ns ix. refuse-default _ _ _ here _ _ _ (c2 .module-leaf .ensures) _
     ((c3 .type-refusal .ensures) root ns ix) _ (c4 .enum-told .given .1)
     (c5 .option-fits .ensures) (not-false _ (c6 .if1 .left)) (c .if2 .taken)
 
@@ -47,8 +44,7 @@ returns-4 c =
     let c4 = c5 .before in
     let c3 = c4 .before .before in
     let c2 = c3 .before in
-    let c1 = c2 .before in
-    λ root ns ix. refuse-none _ _ _ (c1 .slot-at .ensures) _ _ _ (c2 .module-leaf .ensures) _
+    λ here root ns ix. refuse-none _ _ _ here _ _ _ (c2 .module-leaf .ensures) _
     ((c3 .type-refusal .ensures) root ns ix) _ (c4 .enum-told .given .1)
     (c5 .option-fits .ensures) (not-false _ (c6 .if1 .left)) (c .if2 .left)
 
@@ -56,7 +52,6 @@ pub getter-refusal-spec : {M : Type 1} → statement M
 getter-refusal-spec =
     tie.close
     (tie.spec
-    (λ c κs. search needs)
     (λ c κs. search needs)
     (λ c κs. search needs)
     (λ c. search needs)

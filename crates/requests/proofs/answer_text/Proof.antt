@@ -11,9 +11,9 @@ returns c =
     let at-text = at-write .before .before in
     let start = at-text .before .before .before .before .before in
     let a = start .args in
-    λ nodes at x n f w e. too-long (a .buf .now) (a .t) (start .pre) w _ _ _
-    (rw (at-text .text .ensures, e) at ((at-write .write .ensures) nodes at x n f))
-    (omega (arith, start .good .1 .1 .1 .1 .1 .1 .1 .0 .0)) (omega (arith, c .before .fill .ensures, c .if1 .taken))
+    λ here nodes at x n f w e. too-long (a .buf .now) (a .t) (start .pre) w _ _ _
+    (rw (at-text .text .ensures, e) at ((at-write .write .ensures) here nodes at x n f))
+    (omega (arith, start .good .1 .1 .1 .1 .1 .1 .1 .1 .0 .0)) (omega (arith, c .before .fill .ensures, c .if1 .taken))
 
 returns-2 : tie.Need-returns-2
 returns-2 c =
@@ -24,10 +24,10 @@ returns-2 c =
     let at-text = at-write .before .before in
     let start = at-text .before .before .before .before .before in
     let a = start .args in
-    λ nodes at x n f w e. fits (a .buf .now) (a .t) (start .pre) w _ _ _
-    (rw (at-text .text .ensures, e) at ((at-write .write .ensures) nodes at x n f)) _ _
-    (omega (arith, start .good .1 .1 .1 .1 .1 .1 .1 .0 .1)) (omega (arith, at-fill .fill .ensures, at-if1 .if1 .left))
-    (rw (at-text .text .ensures, e) at ((at-write2 .write2 .ensures) nodes at x n f))
+    λ here nodes at x n f w e. fits (a .buf .now) (a .t) (start .pre) w _ _ _
+    (rw (at-text .text .ensures, e) at ((at-write .write .ensures) here nodes at x n f)) _ _
+    (omega (arith, start .good .1 .1 .1 .1 .1 .1 .1 .1 .0 .1)) (omega (arith, at-fill .fill .ensures, at-if1 .if1 .left))
+    (rw (at-text .text .ensures, e) at ((at-write2 .write2 .ensures) here nodes at x n f))
 
 pub answer-text-spec : {M : Type 1} → statement M
 answer-text-spec =

@@ -10,17 +10,16 @@ returns c =
     let c5 = c .before .before in
     let c4 = c5 .before .before in
     let c3 = c4 .before in
-    let c2 = c3 .before in
-    let c1 = c2 .before .before .before .before .before .before in
-    λ ns ix. setter-on ((c1 .args .buf) .now) (c1 .args .t) _ _ _ _ _ _ _ (sheetOf ((c1 .args .root) .now) ns) (c1 .args .tag)
-    (c2 .slot-at .ensures) (c3 .text .ensures) (c4 .camel-to-snake-case .ensures .whole)
+    let c1 = c3 .before .before .before .before .before .before in
+    λ here ns ix. setter-on ((c1 .args .buf) .now) (c1 .args .t) _ _ _ _ _ _ _ (sheetOf ((c1 .args .root) .now) ns)
+    (c1 .args .tag)
+    here (c3 .text .ensures) (c4 .camel-to-snake-case .ensures .whole)
     ((c5 .setter-of .ensures) ns ix)
 
 pub setter-spec : {M : Type 1} → statement M
 setter-spec =
     tie.close
     (tie.spec
-    (λ c κs. search needs)
     (λ c κs. search needs)
     (λ c κs. search needs)
     (λ c κs. search needs)

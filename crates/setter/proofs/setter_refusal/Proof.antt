@@ -12,8 +12,7 @@ returns c =
     let c4 = c5 .before in
     let c3 = c4 .before in
     let c2 = c3 .before in
-    let c1 = c2 .before in
-    λ root ns ix. by-type _ _ _ (c1 .slot-at .ensures) _ _ (c2 .needs-type .ensures) _ (c4 .type-leaf .ensures) _
+    λ here root ns ix. by-type _ _ _ here _ _ (c2 .needs-type .ensures) _ (c4 .type-leaf .ensures) _
     ((c5 .type-refusal .ensures) root ns ix) (c3 .if1 .taken) _
     (c6 .refusal .given .1)
 
@@ -27,8 +26,7 @@ returns-2 c =
     let c4 = c5 .before in
     let c3 = c4 .before in
     let c2 = c3 .before in
-    let c1 = c2 .before in
-    λ root ns ix. by-default _ _ _ (c1 .slot-at .ensures) _ _ (c2 .needs-type .ensures) _ (c4 .type-leaf .ensures) _
+    λ here root ns ix. by-default _ _ _ here _ _ (c2 .needs-type .ensures) _ (c4 .type-leaf .ensures) _
     ((c5 .type-refusal .ensures) root ns ix) (c3 .if1 .taken) _
     (c .default-refusal .ensures) (c6 .enum-told .given .1)
 
@@ -36,15 +34,13 @@ returns-3 : tie.Need-returns-3
 returns-3 c =
     let c3 = c .before in
     let c2 = c3 .before in
-    let c1 = c2 .before in
-    λ root ns ix. no-type _ _ _ (c1 .slot-at .ensures) _ _ (c2 .needs-type .ensures) _ (c .default-refusal2 .ensures)
+    λ here root ns ix. no-type _ _ _ here _ _ (c2 .needs-type .ensures) _ (c .default-refusal2 .ensures)
     (c3 .if1 .left)
 
 pub setter-refusal-spec : {M : Type 1} → statement M
 setter-refusal-spec =
     tie.close
     (tie.spec
-    (λ c κs. search needs)
     (λ c κs. search needs)
     (λ c κs. search needs)
     (λ c κs. search needs)

@@ -1,6 +1,6 @@
 -- `sheet::admit` meets its contract: each return is one law of AdmitLaws. Assumes nothing.
 use borrow.Author.Needs.{needs}
-use Rattle.sheet.proofs.AdmitLaws.{too-long, rest-fits, no-root, whole-sheet, bad-line}
+use Rattle.sheet.proofs.AdmitLaws.{too-long, no-root, whole-sheet, bad-line}
 use Rattle.sheet.proofs.admit.Statement.{statement}
 use Rattle.sheet.proofs.admit.Tie as tie
 
@@ -16,17 +16,12 @@ returns-2 c =
     no-root _ (c .before .before .before .before .if1 .left) _ (c .before .before .before .next .ensures .0) _ _
     (c .before .before .match .keys2) (c .before .line-number .ensures)
 
-nodes-requires : tie.Need-nodes-requires
-nodes-requires c κs =
-    rest-fits (c .before .before .before .before .before .args .s .now) (c .before .before .next .result .next)
-    (c .before .before .before .if1 .left)
-
 returns-3 : tie.Need-returns-3
 returns-3 c =
     whole-sheet _ (c .before .before .before .before .before .before .before .if1 .left) _
     (c .before .before .before .before .before .before .next .ensures .0) _
     (c .before .before .before .before .enum-told .given .1) _
-    (c .before .before .before .before .before .before .next .ensures .1) _ (c .before .before .before .nodes .ensures) _
+    (c .before .before .before .before .before .before .next .ensures .1) _ (c .before .before .before .all-nodes .ensures) _
     (c .enum-told2 .given .1)
 
 returns-4 : tie.Need-returns-4
@@ -35,7 +30,7 @@ returns-4 c =
     (c .before .before .before .before .before .before .before .before .next .ensures .0) _
     (c .before .before .before .before .before .before .enum-told .given .1) _
     (c .before .before .before .before .before .before .before .before .next .ensures .1) _
-    (c .before .before .before .before .before .nodes .ensures) _ _ _ (c .before .before .w .given .1)
+    (c .before .before .before .before .before .all-nodes .ensures) _ _ _ (c .before .before .w .given .1)
     (c .line-number2 .ensures)
 
 pub admit-spec : {M : Type 1} → statement M
@@ -49,7 +44,7 @@ admit-spec =
     (λ c κs. search needs)
     (λ c κs. search needs)
     returns-2
-    nodes-requires
+    (λ c κs. search needs)
     (λ c. search needs)
     (λ c. search needs)
     (λ c κs. search needs)

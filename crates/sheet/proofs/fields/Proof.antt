@@ -9,7 +9,7 @@ use borrow.Author.Needs.{needs}
 use Rattle.sheet.proofs.FieldsLaws.{group-less, group-fits, pushed, groups-stop, groups-slot, groups-slot-no, slot-less}
 use Rattle.sheet.proofs.FieldsLaws.{slot-room, groups-double, groups-group}
 use Rattle.sheet.proofs.MarksLaws.{marked-more}
-use Rattle.sheet.specs.Admission.{Marked, groupsAfter}
+use Rattle.sheet.specs.Admission.{Marked, Room, groupsAfter}
 use Rattle.tree.proofs.WalkLaws.{came, refused}
 use Rattle.row.specs.Rows.{rows, size}
 use Rattle.sheet.proofs.fields.Statement.{statement}
@@ -17,9 +17,9 @@ use Rattle.sheet.proofs.fields.Tie as tie
 
 abbrev Inv-loop : tie.InvT-loop
 Inv-loop s from groups₀ marks₀ count at₀ n₀ groups marks at n =
-    (length groups ≡ 1489)
-    × (length marks ≡ 8192)
-    × (44 * n + size (rows (drop at s)) ≤ 65536)
+    (length groups ≡ length groups₀)
+    × (length marks ≡ 2048)
+    × Room groups n (size (rows (drop at s)))
     × Marked marks (take n groups)
     × (groupsAfter (take count groups₀) (rows (drop from s)) ≡ groupsAfter (take n groups) (rows (drop at s)))
 
@@ -28,7 +28,7 @@ abbrev μ-loop : tie.MeasureT-loop
 
 loop-holds : tie.Need-loop-holds Inv-loop μ-loop
 loop-holds c =
-    let p = c .before .before .before .pre in (p .0, p .1, p .2, p .3, refl)
+    let p = c .before .before .before .pre in (refl, p .0, p .1, p .2, refl)
 
 loop-less : tie.Need-loop-less Inv-loop μ-loop
 loop-less c =
@@ -59,12 +59,12 @@ loop-again c =
 same-length : tie.Need-same-length Inv-loop μ-loop
 same-length c =
     let l = c .before .before .before .before .before .before .before .before in
-    l .loop .inv .0 ∙ sym (l .before .before .before .before .pre .0)
+    l .loop .inv .0
 
 same-length-2 : tie.Need-same-length-2 Inv-loop μ-loop
 same-length-2 c =
     let l = c .before .before .before .before .before .before .before .before in
-    l .loop .inv .1 ∙ sym (l .before .before .before .before .pre .1)
+    l .loop .inv .1 ∙ sym (l .before .before .before .before .pre .0)
 
 returns : tie.Need-returns Inv-loop μ-loop
 returns c =
@@ -93,12 +93,12 @@ known-requires c κs =
 same-length-3 : tie.Need-same-length-3 Inv-loop μ-loop
 same-length-3 c =
     let l = c .before .before .before .before .before .before .before .before in
-    l .loop .inv .0 ∙ sym (l .before .before .before .before .pre .0)
+    l .loop .inv .0
 
 same-length-4 : tie.Need-same-length-4 Inv-loop μ-loop
 same-length-4 c =
     let l = c .before .before .before .before .before .before .before .before in
-    l .loop .inv .1 ∙ sym (l .before .before .before .before .pre .1)
+    l .loop .inv .1 ∙ sym (l .before .before .before .before .pre .0)
 
 returns-2 : tie.Need-returns-2 Inv-loop μ-loop
 returns-2 c =
@@ -140,7 +140,7 @@ loop-again-2 c =
     let put = pushed (l .groups) (l .n) i (omega (arith, h .0, h .2)) in (
       simp length-set (h .0),
       m .mark .kept .0 ∙ h .1,
-      omega (arith, h .2),
+      omega (arith, h .2, length-set (l .groups) (l .n) i, fits),
       rw (put, m .mark .ensures) (marked-more (l .marks) (take (l .n) (l .groups)) i (h .1) (h .3)),
       h .4 ∙ groups-group _ _ _ (r .next .ensures .0) (r .next .ensures .1) _ _ (g .l2 .given .1) _ _ (k .known .ensures)
           (m .before .before .if1 .left)
@@ -149,11 +149,11 @@ loop-again-2 c =
 
 same-length-5 : tie.Need-same-length-5 Inv-loop μ-loop
 same-length-5 c =
-    let l = c .before .before in l .loop .inv .0 ∙ sym (l .before .before .before .before .pre .0)
+    let l = c .before .before in l .loop .inv .0
 
 same-length-6 : tie.Need-same-length-6 Inv-loop μ-loop
 same-length-6 c =
-    let l = c .before .before in l .loop .inv .1 ∙ sym (l .before .before .before .before .pre .1)
+    let l = c .before .before in l .loop .inv .1 ∙ sym (l .before .before .before .before .pre .0)
 
 returns-3 : tie.Need-returns-3 Inv-loop μ-loop
 returns-3 c =

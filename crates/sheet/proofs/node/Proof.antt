@@ -10,7 +10,7 @@ returns : tie.Need-returns
 returns c =
     let p = c .before .before .before .before .before .before .pre in (
       node-other _ _ _ (c .before .next .ensures .0) (c .before .next .ensures .1) _ _ (c .match .keys2),
-      (omega (arith, p .3), p .4),
+      (omega (arith, p .2), p .3),
     )
 
 returns-2 : tie.Need-returns-2
@@ -20,7 +20,7 @@ returns-2 c =
     let p = n .before .before .before .before .before .pre in (
       node-double _ _ _ (n .next .ensures .0) (n .next .ensures .1) _ _ _ _ _ _ _ _ _ (l .l .given .1) _
           (c .before .seen .ensures) (c .if1 .taken),
-      (omega (arith, p .3), p .4),
+      (omega (arith, p .2), p .3),
     )
 
 fields-requires : tie.Need-fields-requires
@@ -29,9 +29,8 @@ fields-requires c κs =
     let n = q .before .before .before .before .before .before in
     let p = n .before .before .before .before .before .pre in (
       p .1,
-      p .2,
-      omega (arith, p .3, params-room _ _ _ (n .next .ensures .1) (q .params .ensures)),
-      p .4,
+      omega (arith, p .2, params-room _ _ _ (n .next .ensures .1) (q .params .ensures)),
+      p .3,
     )
 
 returns-3 : tie.Need-returns-3

@@ -1,70 +1,77 @@
 -- `sheet::nodes` meets its contract: `Held` says what is known at each turn, and IndexLaws what a turn makes of it.
 -- Assumes nothing.
-use mathlib.Core.Path.{refl, sym}
-use Prim.Native.Nat.{_-_}
-use native.Mathlib.Omega.{arith}
-use borrow.Author.Needs.{needs}
 use Rattle.sheet.proofs.IndexLaws.{Held, held-first, held-full, held-no, held-done, held-next}
+use lib.ListN.{length}
+use native.Mathlib.Omega.{arith}
+use Prim.Native.Nat.{_-_}
+use mathlib.Core.Path.{_≡_, refl, sym, _∙_}
+use borrow.Author.Needs.{needs}
 use Rattle.sheet.proofs.nodes.Statement.{statement}
 use Rattle.sheet.proofs.nodes.Tie as tie
 
 abbrev Inv-loop : tie.InvT-loop
-Inv-loop s from ids₀ ats₀ groups₀ marks₀ n₀ count₀ at₀ ids ats groups marks n count at =
-    Held s from ids ats groups marks n count at
+Inv-loop s from groups₀ ids₀ ats₀ marks₀ n₀ count₀ at₀ groups ids ats marks n count at =
+    (length groups ≡ length groups₀) × Held s from ids ats groups marks n count at
 
 abbrev μ-loop : tie.MeasureT-loop
-μ-loop s from ids₀ ats₀ groups₀ marks₀ n₀ count₀ at₀ ids ats groups marks n count at = 64 - count
+μ-loop s from groups₀ ids₀ ats₀ marks₀ n₀ count₀ at₀ groups ids ats marks n count at = 64 - count
 
 loop-holds : tie.Need-loop-holds Inv-loop μ-loop
 loop-holds c =
-    held-first _ _ _ _ _ _ refl refl refl refl (c .before .pre)
+    let start = c .before .before in
+    (refl, held-first _ _ _ _ _ _ refl refl refl (start .pre))
 
 slice-aggregate-node : tie.Need-slice-aggregate-node Inv-loop μ-loop
 slice-aggregate-node c =
-    sym (c .before .before .loop .inv .ids-size)
+    let at-loop = c .before .before in
+    sym (at-loop .loop .inv .1 .ids-size)
 
 slice-aggregate-node-2 : tie.Need-slice-aggregate-node-2 Inv-loop μ-loop
 slice-aggregate-node-2 c =
-    sym (c .before .before .before .loop .inv .groups-size)
-
-slice-aggregate-node-3 : tie.Need-slice-aggregate-node-3 Inv-loop μ-loop
-slice-aggregate-node-3 c =
-    sym (c .before .before .before .before .loop .inv .marks-size)
+    let at-loop = c .before .before .before .before in
+    sym (at-loop .loop .inv .1 .marks-size)
 
 node-requires : tie.Need-node-requires Inv-loop μ-loop
 node-requires c κs =
-    let h = c .before .before .before .before .loop .inv in
-    (omega (arith, h .ids-size, h .few), h .groups-size, h .marks-size, h .room, h .marked)
+    let h = c .before .before .before .before .loop .inv .1 in
+    (omega (arith, h .ids-size, h .few), h .marks-size, h .room, h .marked)
 
 returns : tie.Need-returns Inv-loop μ-loop
 returns c =
-    let w = c .before .before in
-    let m = w .before .before .before .before in
-    let t = m .before .before .before .before in
-    held-done _ _ _ _ _ _ _ _ _ (t .before .loop .inv) (t .loop-test .taken) (m .node .result .walk) (m .node .result .id)
-    (m .node .result .count) (m .node .last .1 .1 .1 .1 .0) (m .node .ensures .0) _ (w .w .given .1) (c .if1 .taken)
+    let at-w = c .before .before in
+    let at-node = at-w .before .before .before .before .before in
+    let at-loop-test = at-node .before .before .before .before in
+    let at-loop = at-loop-test .before in
+    held-done _ _ _ _ _ _ _ _ _ (at-loop .loop .inv .1) (at-loop-test .loop-test .taken) (at-node .node .result .walk)
+    (at-node .node .result .id) (at-node .node .result .count) (at-node .node .last .1 .1 .1 .1 .0) (at-node .node .ensures .0)
+    _ (at-w .w .given .1) (c .if1 .taken)
 
 loop-again : tie.Need-loop-again Inv-loop μ-loop
 loop-again c =
-    let w = c .before .before in
-    let m = w .before .before .before .before in
-    let t = m .before .before .before .before in
-    held-next _ _ _ _ _ _ _ _ _ (t .before .loop .inv) (t .loop-test .taken) (m .node .result .walk) (m .node .result .id)
-    (m .node .result .count) (m .node .last .1 .1 .1 .1 .0) (m .node .ensures .0) _ (w .w .given .1)
-    (m .node .last .1 .1 .1 .1 .1 .0) (c .if1 .left) (m .node .kept .1 .1 .1 .1 .0) (m .node .kept .1 .1 .1 .1 .1 .0)
-    (m .node .ensures .1 .0) (m .node .ensures .1 .1)
+    let at-w = c .before .before in
+    let at-node = at-w .before .before .before .before .before in
+    let at-loop-test = at-node .before .before .before .before in
+    let at-loop = at-loop-test .before in (
+      (at-node .node .kept .1 .1 .1 .1 .0) ∙ (at-loop .loop .inv .0),
+      held-next _ _ _ _ _ _ _ _ _ (at-loop .loop .inv .1)
+          (at-loop-test .loop-test .taken) (at-node .node .result .walk) (at-node .node .result .id)
+          (at-node .node .result .count) (at-node .node .last .1 .1 .1 .1 .0) (at-node .node .ensures .0) _ (at-w .w .given .1)
+          (at-node .node .last .1 .1 .1 .1 .1 .0) (c .if1 .left) (at-node .node .kept .1 .1 .1 .1 .1 .0)
+          (at-node .node .ensures .1 .0) (at-node .node .ensures .1 .1),
+    )
 
 returns-2 : tie.Need-returns-2 Inv-loop μ-loop
 returns-2 c =
-    let w = c .before in
-    let m = w .before .before .before .before in
-    let t = m .before .before .before .before in
-    held-no _ _ _ _ _ _ _ _ _ (t .before .loop .inv) (t .loop-test .taken) (m .node .result .walk) (m .node .result .id)
-    (m .node .result .count) (m .node .last .1 .1 .1 .1 .0) (m .node .ensures .0) _ _ (w .w2 .given .1)
+    let at-node = c .before .before .before .before .before .before in
+    let at-loop-test = at-node .before .before .before .before in
+    let at-loop = at-loop-test .before in
+    held-no _ _ _ _ _ _ _ _ _ (at-loop .loop .inv .1) (at-loop-test .loop-test .taken) (at-node .node .result .walk)
+    (at-node .node .result .id) (at-node .node .result .count) (at-node .node .last .1 .1 .1 .1 .0) (at-node .node .ensures .0)
+    _ _ (c .before .w2 .given .1)
 
 returns-3 : tie.Need-returns-3 Inv-loop μ-loop
 returns-3 c =
-    held-full _ _ _ _ _ _ _ _ _ (c .before .loop .inv) (c .loop-test .left)
+    held-full _ _ _ _ _ _ _ _ _ (c .before .loop .inv .1) (c .loop-test .left)
 
 pub nodes-spec : {M : Type 1} → statement M
 nodes-spec =
@@ -75,8 +82,8 @@ nodes-spec =
     loop-holds
     slice-aggregate-node
     slice-aggregate-node-2
-    slice-aggregate-node-3
     node-requires
+    (λ c. search needs)
     (λ c. search needs)
     (λ c. search needs)
     (λ c. search needs)
@@ -87,5 +94,7 @@ nodes-spec =
     (λ c. search needs)
     loop-again
     (λ c. search needs)
+    (λ c. search needs)
     returns-2
+    (λ c. search needs)
     returns-3)

@@ -1,0 +1,76 @@
+-- `zeroing::is_repeat` meets its contract: the answer from here, with the count left, is that from the start. Assumes nothing.
+use mathlib.Core.Bool.{Bool, true, false}
+use lib.ListN.{drop}
+use borrow.Author.Needs.{needs}
+use Rattle.row.specs.Rows.{rows}
+use Rattle.tree.proofs.WalkLaws.{came, refused}
+use Rattle.zeroing.proofs.RepeatLaws.{Tells, tells-none, tells-end, tells-here, tells-more}
+use Rattle.zeroing.proofs.is_repeat.Statement.{statement}
+use Rattle.zeroing.proofs.is_repeat.Tie as tie
+
+abbrev Inv-loop : tie.InvT-loop
+Inv-loop s first count typ offset at₀ n₀ at n =
+    (r : Bool) → Tells typ offset (rows (drop at s)) n r → Tells typ offset (rows (drop first s)) count r
+
+abbrev μ-loop : tie.MeasureT-loop
+μ-loop s first count typ offset at₀ n₀ at n = n
+
+loop-holds : tie.Need-loop-holds Inv-loop μ-loop
+loop-holds c =
+    λ r x. x
+
+enum-told : tie.Need-enum-told Inv-loop μ-loop
+enum-told c = search needs
+
+returns : tie.Need-returns Inv-loop μ-loop
+returns c =
+    let at-after-field = c .before .before in
+    let at-loop = at-after-field .before .before in
+    at-loop .loop .inv false
+    (tells-end _ _ _ (at-loop .loop .n) _ _ (refused _ _ _ (at-after-field .after-field .ensures) _ _ (c .enum-told .given .1)))
+
+returns-2 : tie.Need-returns-2 Inv-loop μ-loop
+returns-2 c =
+    let at-has-line = c .before in
+    let at-q = at-has-line .before .before in
+    let at-after-field = at-q .before .before in
+    let at-loop-test = at-after-field .before in
+    let at-loop = at-loop-test .before in
+    let walk = came _ _ _ (at-after-field .after-field .ensures) _ (at-q .q .given .1) in
+    at-loop .loop .inv true
+    (tells-here _ _ _ (at-loop .loop .n) _ walk (at-loop-test .loop-test .taken) _ (at-has-line .has-line .ensures)
+    (c .if1 .taken))
+
+loop-again : tie.Need-loop-again Inv-loop μ-loop
+loop-again c =
+    let at-has-line = c .before in
+    let at-q = at-has-line .before .before in
+    let at-after-field = at-q .before .before in
+    let at-loop-test = at-after-field .before in
+    let at-loop = at-loop-test .before in
+    let walk = came _ _ _ (at-after-field .after-field .ensures) _ (at-q .q .given .1) in
+    λ r x. at-loop .loop .inv r
+    (tells-more _ _ _ (at-loop .loop .n) _ walk (at-loop-test .loop-test .taken) _ (at-has-line .has-line .ensures) r
+    (c .if1 .left) x)
+
+returns-3 : tie.Need-returns-3 Inv-loop μ-loop
+returns-3 c =
+    (c .before .loop .inv) false (tells-none _ _ _ (c .before .loop .n) (c .loop-test .left))
+
+pub is-repeat-spec : {M : Type 1} → statement M
+is-repeat-spec =
+    tie.close
+    (tie.spec
+    Inv-loop
+    μ-loop
+    loop-holds
+    (λ c κs. search needs)
+    (λ c. search needs)
+    enum-told
+    returns
+    (λ c κs. search needs)
+    returns-2
+    (λ c. search needs)
+    (λ c. search needs)
+    loop-again
+    returns-3)
