@@ -1,0 +1,10 @@
+pub mod AnsweredLaws
+pub mod KindLaws
+pub mod OutLaws
+pub mod GetterLaws
+pub mod WholeLaws
+pub mod SheetLaws
+pub mod SetterLaws
+pub mod SetGetLaws
+pub mod HaserLaws
+pub mod ClaimLaws

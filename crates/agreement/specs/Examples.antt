@@ -1,0 +1,291 @@
+-- Worked cases of the claims, computed from the bytes of a sheet: isFree with default true, the bed's status with default 2
+-- without and with its flag, a Float32 with default -0.0, and members of a union. The record is sixteen bytes 165 and two
+-- pointers, of which the first is null. Assumes nothing.
+use Prim.Native.Nat.{ℕ, _^_, _<_}
+use Prim.Native.String.{String}
+use mathlib.Core.Path.{_≡_, refl, ap, _∙_}
+use mathlib.Core.Bool.{true, false}
+use mathlib.Core.List.{List, [], _∷_, _++_}
+use mathlib.Core.Option.{some}
+use native.Mathlib.Omega.{arith}
+use Rattle.text.specs.Bytes.{Str, ascii, unit, same}
+use Rattle.text.specs.Answer as text
+use Rattle.text.specs.Decimal.{decimal, signed}
+use Rattle.text.specs.Lines.{toLines, flatMap, join, stringify}
+use Rattle.column.specs.Number.{trimmed, digits, unpadded, columnOf, padded}
+use Rattle.column.specs.Texts.{isWord, isGraphic, all, isName, isGraphicText, endsIn}
+use Rattle.row.specs.Rows.{rows, onto, restOf}
+use Rattle.row.specs.Line.{rootLine, nodeLine, parameterLine, fieldLine, groupLine}
+use Rattle.row.specs.Line.{typeLine, scopeLine, unboundLine, valueLine, wordLine}
+use Rattle.row.specs.Line.{mostA, mostB, mostC, mostCount, mostBits, reader, lineOf, lineAt, textStart, textOf, textAt}
+use Rattle.row.specs.Print.{columns, rowText}
+use Rattle.names.specs.Names.{isAscii, taken, snakeFrom, camelToSnakeCase}
+use Rattle.tree.specs.Tree.{plain, enum, end, kind, Slot, slot, Field, Node, Sheet}
+use Rattle.tree.specs.Reader.{times}
+use Rattle.tree.specs.Read as read
+use Rattle.tree.specs.Read.{sheet, admitted}
+use Rattle.tree.specs.Read.{bindingOf, scopeOf, typeFrom, typeOf, valueOf, wordsUpTo, wordsOf, slotOf}
+use Rattle.tree.specs.Read.{among, overlap, fieldsUpTo, fieldsOf, groupIds, paramsOf, membersOf, nodeOf, nodesOf, sheetOf}
+use Rattle.tree.specs.Print.{scopeCount, typeRows, wordRows, fieldRows, paramRows, nodeRows, sheetRows, joined, printed}
+use Rattle.codegen_types.specs.Out.{ok}
+use Rattle.codegen_types.specs.TypeString as types
+use Rattle.codegen_types.specs.TypeString.{typeString, isPointer}
+use Rattle.calls.specs.Calls.{getBoolField, getDataField, setBoolField, setDataField, notNull, tagTest}
+use Rattle.codegen.specs.Default.{primDefault, getterMask}
+use Rattle.codegen.specs.Getter.{getterText, getterRequest}
+use Rattle.codegen.specs.Haser.{generateHaser, haserRequest}
+use Rattle.codegen.specs.Setter.{generateSetter, setterRequest}
+use Rattle.place.specs.Place.{byId, nth}
+use Rattle.record.specs.Record.{found, stored, getBits, putBits, nullFlag, Holds}
+use Rattle.record.specs.Types as kinds
+use Rattle.record.specs.Types.{uint, float32, Kind, bool, num, kindOf, slotBits}
+use Rattle.record.specs.declared.Width.the-variants.{One}
+use Rattle.meaning.specs.Claims.{TagHolds, TagClear}
+use Rattle.meaning.specs.Examples.{some16}
+use Rattle.meaning.specs.Reading.{bindO, typeName, truth, getMaskOf, setMaskOf, dataArg, boolArg}
+use Rattle.meaning.specs.Meaning.{writes, gets, getsIn, tests, runOp, runLine, runLines, runSetter, runGetter, testsOf, runTests}
+use Rattle.meaning.specs.Meaning.{runHaser}
+use Rattle.requests.specs.Requests.{fieldOf, requestText, outcomeOf, given}
+use Rattle.requests.specs.Requests as requests
+use Rattle.requests.specs.Told.{Answered}
+use Rattle.requests.specs.declared.Answer.the-variants.{Done}
+use Rattle.requests.specs.declared.Request.{Request}
+use Rattle.requests.specs.declared.Request.the-variants.{Getter, Setter, Haser}
+use Rattle.agreement.specs.Sheets.{slotWith, field, node}
+use Rattle.agreement.specs.Slots.{Gives, SlotAt, kindAt, tagAt, placeAt, expectedAt}
+use Rattle.agreement.specs.Claims.{Case}
+
+-- ---- the sheet
+
+-- Bool at 3, default true
+abbrev isFree : Slot
+isFree = slotWith (plain 1) 3 1 1
+
+-- an enum at 1 with default 2, without and with its flag
+abbrev status : Slot
+status = slotWith (enum 8 end) 1 0 2
+
+abbrev planned : Slot
+planned = slotWith (enum 8 end) 1 1 2
+
+-- Float32 at 1, default -0.0
+abbrev heat : Slot
+heat = slotWith (plain 10) 1 1 2147483648
+
+-- the members of a union with its tag at 4: a Uint8, a Text, a Void
+abbrev nights : Slot
+nights = slotWith (plain 6) 0 0 0
+
+abbrev guest : Slot
+guest = slotWith (plain 12) 1 0 0
+
+abbrev vacant : Slot
+vacant = slotWith (plain 0) 0 0 0
+
+abbrev bed : Node
+bed = node 7 "bed" 3 4 (
+    field "isFree" 65535 (slot isFree)
+    ∷ field "status" 65535 (slot status)
+    ∷ field "planned" 65535 (slot planned)
+    ∷ field "heat" 65535 (slot heat)
+    ∷ field "nights" 1 (slot nights)
+    ∷ field "guest" 42405 (slot guest)
+    ∷ field "vacant" 2 (slot vacant)
+    ∷ [])
+
+-- with the enum
+abbrev tree : Sheet
+tree = record { root = ascii "::capnp"; nodes = bed ∷ node 8 "status" 0 0 [] ∷ [] }
+
+-- its bytes
+abbrev bytes : Str
+bytes = printed tree
+
+is-admitted : admitted bytes ≡ sheet tree
+unfolding joined printed sheetRows nodeRows paramRows fieldRows wordRows typeRows scopeCount rowText columns padded decimal
+    admitted sheetOf nodesOf nodeOf membersOf paramsOf groupIds fieldsOf fieldsUpTo read.fieldOf overlap among slotOf wordsOf
+    wordsUpTo valueOf typeOf typeFrom scopeOf bindingOf times restOf onto rows textAt textOf textStart lineAt lineOf reader
+    rootLine nodeLine parameterLine fieldLine groupLine typeLine scopeLine unboundLine valueLine wordLine
+    mostA mostB mostC mostCount mostBits columnOf unpadded digits trimmed isGraphicText isName all isGraphic isWord endsIn
+is-admitted = refl
+
+-- a slot of the bed by its place
+abbrev slotAt : (place : ℕ) (f : Field) (s : Slot) → fieldOf (tree .nodes) 7 place ≡ ok (bed, f) → f .arm ≡ slot s
+    → SlotAt bytes 7 place
+slotAt place f s e h = record {
+  tree = tree;
+  node = bed;
+  field = f;
+  slot = s;
+  is-admitted = is-admitted;
+  is-found = e;
+  is-slot = h;
+}
+
+-- a text that the tree gives is given from its bytes
+given-bytes : (place : ℕ) (request : Request) (w : Str) → requests.textOf tree 7 place request ≡ ok w
+    → Gives bytes 7 place request w
+given-bytes place request w e = ap (λ x. outcomeOf x 7 place request) is-admitted ∙ ap given e
+
+-- ---- set and get
+
+-- a slot at a place of the bed, its kind, the texts of its setter and of its reader's getter, a value written and the value
+-- read
+pub record Example : Type 0 where
+  pub place : ℕ
+  pub field : Field
+  pub slot : Slot
+  pub kind : Kind
+  pub setter : Str
+  pub getter : Str
+  pub writes : ℕ
+  pub reads : ℕ
+
+-- a setter's text: what stands after `set_`, and the lines in it
+abbrev setterWith : String → String → Str
+setterWith opening lines = ascii "#[inline]\npub fn set_" ++ ascii opening ++ ascii ")  {\n" ++ ascii lines ++ ascii "}\n"
+
+-- an example of a reader's getter, by its place, its field's name and discriminant, and what else belongs to it
+abbrev example : ℕ → String → ℕ → Slot → Kind → Str → Str → ℕ → ℕ → Example
+example place name d s k setter getter v x = record {
+  place = place;
+  field = field name d (slot s);
+  slot = s;
+  kind = k;
+  setter = setter;
+  getter = getter;
+  writes = v;
+  reads = x;
+}
+
+-- isFree, with the value v
+abbrev free : ℕ → Example
+free v =
+    example 0 "isFree" 65535 isFree bool
+    (setterWith "is_free(&mut self, value: bool" "    self.builder.set_bool_field_mask(3, value, true);\n")
+    (ascii "bool\nself.reader.get_bool_field_mask(3, true)\n") v v
+
+-- the getter of an enum at 1 with the mask 2
+abbrev statusGetter : Str
+statusGetter =
+    ascii "::core::result::Result<status,::capnp::NotInSchema>\n"
+    ++ ascii "::core::convert::TryFrom::try_from(self.reader.get_data_field_mask::<u16>(1, 2))\n"
+
+-- the enum's default 2 without its flag: 2 written reads 0
+abbrev noFlag : Example
+noFlag =
+    example 1 "status" 65535 status kinds.enum
+    (setterWith "status(&mut self, value: status" "    self.builder.set_data_field::<u16>(1, value as u16);\n") statusGetter 2 0
+
+-- with its flag
+abbrev withFlag : Example
+withFlag =
+    example 2 "planned" 65535 planned kinds.enum
+    (setterWith "planned(&mut self, value: status" "    self.builder.set_data_field_mask::<u16>(1, value as u16, 2);\n")
+    statusGetter 2 2
+
+-- the default -0.0: the sign is flipped
+abbrev negativeZero : Example
+negativeZero =
+    example 3 "heat" 65535 heat (num float32)
+    (setterWith "heat(&mut self, value: f32" "    self.builder.set_data_field::<f32>(1, value);\n")
+    (ascii "f32\nself.reader.get_data_field_mask::<f32>(1, 2147483648)\n") 1065353216 3212836864
+
+-- a member of the union
+abbrev member : Example
+member =
+    example 4 "nights" 1 nights (num (uint One))
+    (setterWith "nights(&mut self, value: u8"
+    "    self.builder.set_data_field::<u16>(4, 1);\n    self.builder.set_data_field::<u8>(0, value);\n")
+    (ascii "u8\nself.reader.get_data_field::<u8>(0)\n") 9 9
+
+-- it meets the conditions of set and get, and the value is read that the claim says
+pub record Worked (x : Example) : Type 0 where
+  pub at : SlotAt bytes 7 (x .place)
+  pub case : Case at (x .kind) (x .setter) true false (x .getter) (x .writes) some16
+  pub reads : expectedAt at (x .kind) (x .writes) ≡ x .reads
+  pub runs : bindO (runSetter (x .setter) (x .writes) some16) (runGetter (x .getter)) ≡ some (x .reads)
+
+-- each of some examples is worked
+pub data All : List Example → Type 0 where
+  nil : All []
+  add : {x : Example} {l : List Example} → Worked x → All l → All (x ∷ l)
+
+-- what is left to compute of an example
+module _ (x : Example) (e : fieldOf (tree .nodes) 7 (x .place) ≡ ok (bed, x .field)) (h : x .field .arm ≡ slot (x .slot)) where
+  abbrev here : SlotAt bytes 7 (x .place)
+  here = slotAt (x .place) (x .field) (x .slot) e h
+
+  abbrev worked :
+      kindOf (kindAt here) ≡ some (x .kind)
+      → requests.textOf tree 7 (x .place) Setter ≡ ok (x .setter)
+      → requests.textOf tree 7 (x .place) (Getter true false) ≡ ok (x .getter)
+      → x .writes < 2 ^ slotBits (x .kind) → Holds (placeAt here (x .kind)) some16 → TagHolds (tagAt here) some16
+      → TagClear (tagAt here) (placeAt here (x .kind))
+      → expectedAt here (x .kind) (x .writes) ≡ x .reads
+      → bindO (runSetter (x .setter) (x .writes) some16) (runGetter (x .getter)) ≡ some (x .reads)
+      → Worked x
+  worked k s g v l t c r u = record {
+    at = here;
+    case = record {
+      has-bits = k;
+      setter = given-bytes (x .place) Setter (x .setter) s;
+      getter = given-bytes (x .place) (Getter true false) (x .getter) g;
+      value = v;
+      long = l;
+      tag-long = t;
+      clear = c;
+    };
+    reads = r;
+    runs = u;
+  }
+
+-- all of them
+pub all-worked : All (free 1 ∷ free 0 ∷ noFlag ∷ withFlag ∷ negativeZero ∷ member ∷ [])
+unfolding fieldOf byId nth requestText same isAscii taken snakeFrom camelToSnakeCase typeString types.nodeOf getBoolField
+    getDataField setBoolField setDataField primDefault getterMask getterText getterRequest generateSetter setterRequest
+    toLines flatMap join stringify decimal signed kindOf found stored getBits putBits typeName truth getMaskOf setMaskOf
+    dataArg boolArg writes gets getsIn runOp runLine runLines runSetter runGetter
+all-worked =
+    add (worked (free 1) refl refl refl refl refl (omega arith) (omega arith) tt tt refl refl)
+    (add (worked (free 0) refl refl refl refl refl (omega arith) (omega arith) tt tt refl refl)
+    (add (worked noFlag refl refl refl refl refl (omega arith) (omega arith) tt tt refl refl)
+    (add (worked withFlag refl refl refl refl refl (omega arith) (omega arith) tt tt refl refl)
+    (add (worked negativeZero refl refl refl refl refl (omega arith) (omega arith) tt tt refl refl)
+    (add (worked member refl refl refl refl refl (omega arith) (omega arith) (omega arith) (λ b h g. omega arith) refl refl)
+    nil)))))
+
+-- ---- the Void setter and hasers
+
+abbrev vacantSetter : Str
+vacantSetter = setterWith "vacant(&mut self, _value: ()" "    self.builder.set_data_field::<u16>(4, 2);\n"
+
+-- a Void member of the union
+pub vacant-worked : (kind (vacant .ty) ≡ 0) × Gives bytes 7 6 Setter vacantSetter × TagHolds (some (4, 2)) some16
+unfolding fieldOf byId nth requestText isAscii taken snakeFrom camelToSnakeCase setDataField generateSetter setterRequest toLines
+    flatMap join stringify decimal
+vacant-worked = (refl, given-bytes 6 Setter vacantSetter refl, omega arith)
+
+abbrev guestHaser : Str
+guestHaser =
+    ascii "#[inline]\npub fn has_guest(&self) -> bool {\n"
+    ++ ascii "    if self.reader.get_data_field::<u16>(4) != 42405 { return false; }\n"
+    ++ ascii "    !self.reader.get_pointer_field(1).is_null()\n}\n"
+
+-- a pointer in the union, whose tag is 42405 = 165 * 257: the second pointer is not null
+pub guest-worked :
+    (isPointer (guest .ty) ≡ true) × Gives bytes 7 5 (Haser true) guestHaser × (runHaser guestHaser some16 ≡ some true)
+unfolding fieldOf byId nth requestText isAscii taken snakeFrom camelToSnakeCase notNull tagTest generateHaser haserRequest toLines
+    flatMap join stringify decimal found getBits nullFlag typeName tests testsOf runTests runHaser
+guest-worked = (refl, given-bytes 5 (Haser true) guestHaser refl, refl)
+
+-- ---- answered bytes
+
+-- the haser of a Bool, one newline, put into three bytes at 1
+pub answered-worked :
+    Answered (0 ∷ 0 ∷ 0 ∷ []) (record { at = 1 }) (outcomeOf (admitted bytes) 7 0 (Haser true)) (0 ∷ 10 ∷ 0 ∷ [])
+    (Done (record { at = 2 }))
+unfolding fieldOf byId nth requestText generateHaser haserRequest toLines flatMap join stringify text.answerOf text.bufferOf
+    text.placed
+answered-worked =
+    rw (given-bytes 0 (Haser true) (unit 10) refl) (record { answer = refl; buffer = refl })

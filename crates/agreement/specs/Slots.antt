@@ -1,0 +1,61 @@
+-- A slot of a sheet's bytes, found by the id of its node and its place, and the texts of its requests. Assumes nothing.
+use mathlib.Core.Path.{_≡_}
+use mathlib.Core.Bool.{Bool}
+use mathlib.Core.Option.{Option, none, some}
+use Prim.Native.Nat.{ℕ, _-_}
+use lib.Dec.{eqb}
+use lib.ListN.{take, drop}
+use Rattle.text.specs.Bytes.{Str, cond}
+use Rattle.tree.specs.Tree as arm
+use Rattle.tree.specs.Tree.{Slot, Field, Node, Sheet}
+use Rattle.tree.specs.Read.{sheet, admitted}
+use Rattle.codegen_types.specs.Out.{ok}
+use Rattle.record.specs.Lines.{Tag}
+use Rattle.record.specs.Offsets.{Place}
+use Rattle.record.specs.Types.{Kind, placeOf}
+use Rattle.meaning.specs.Claims.{expected}
+use Rattle.requests.specs.Requests.{fieldOf, gives, outcomeOf}
+use Rattle.requests.specs.declared.Request.{Request}
+
+-- generated: the request gets a text, given room
+abbrev pub Gives : Str → ℕ → ℕ → Request → Str → Type 0
+Gives s id place request w = outcomeOf (admitted s) id place request ≡ gives w
+
+-- the bytes of a buffer from one fill count up to another
+abbrev pub between : ℕ → ℕ → Str → Str
+between from upto l = take (upto - from) (drop from l)
+
+-- a tag: none where the discriminant is 65535, else the 16 bits at the node's tag offset
+abbrev pub tagOf : ℕ → ℕ → Option Tag
+tagOf tagOffset discriminant = cond (eqb discriminant 65535) none (some (tagOffset, discriminant))
+
+-- the F line's flag
+abbrev pub isExplicit : Slot → Bool
+isExplicit s = eqb (s .explicit) 1
+
+-- a slot, at a place of the node with an id, in the sheet with the bytes s
+pub record SlotAt (s : Str) (id place : ℕ) : Type 0 where
+  pub tree : Sheet
+  pub node : Node
+  pub field : Field
+  pub slot : Slot
+  pub is-admitted : admitted s ≡ sheet tree
+  pub is-found : fieldOf (tree .nodes) id place ≡ ok (node, field)
+  pub is-slot : field .arm ≡ arm.slot slot
+
+module _ {s : Str} {id place : ℕ} (a : SlotAt s id place) where
+  -- the number of its kind
+  abbrev pub kindAt : ℕ
+  kindAt = arm.kind (a .slot .ty)
+
+  -- its tag, if it has one
+  abbrev pub tagAt : Option Tag
+  tagAt = tagOf (a .node .tagOffset) (a .field .discriminant)
+
+  -- its bits, as a slot of kind k
+  abbrev pub placeAt : Kind → Place
+  placeAt k = placeOf k (a .slot .offset)
+
+  -- what the value v reads as
+  abbrev pub expectedAt : Kind → ℕ → ℕ
+  expectedAt k v = expected k (a .slot .default .bits) (isExplicit (a .slot)) v
