@@ -1,0 +1,49 @@
+-- What is claimed of zeroing: crate agreement's laws say what the texts of getters and hasers are, and the laws of the record
+-- that is left say what they read there. Assumes nothing.
+use mathlib.Core.Path.{_≡_, ap, _∙_}
+use mathlib.Core.Bool.{false}
+use Prim.Native.Nat.{ℕ}
+use Rattle.text.specs.Bytes.{Str}
+use Rattle.codegen_types.specs.Out.{ok}
+use Rattle.codegen.specs.Zeroing.{zeroingRequest}
+use Rattle.meaning.specs.Meaning.{runGetter}
+use Rattle.requests.specs.Requests.{requestText}
+use Rattle.requests.specs.declared.Request.the-variants.{Zeroing}
+use Rattle.agreement.specs.Slots.{Gives, tagAt}
+use Rattle.agreement.proofs.ClaimLaws.{given-ok, getter-text, haser-holds}
+use Rattle.agreement.proofs.GetterLaws.{getter-given}
+use Rattle.agreement.proofs.SetGetLaws.{default-fits}
+use Rattle.agreement.proofs.SheetLaws.{bounds}
+use Rattle.agreement_zeroing.specs.Zeroing.{GroupAt, ZeroingHolds}
+use Rattle.agreement_zeroing.proofs.LeftLaws.{run-of, left, runs, lengths, bits-same, pointers-same, default-read, absent}
+use Rattle.agreement_zeroing.proofs.LeftLaws.{has-not}
+
+-- the text that is given is that of `zero_fields_of_group`
+zeroing-text : {s : Str} {id place : ℕ} (a : GroupAt s id place) (w : Str) → Gives s id place Zeroing w
+    → zeroingRequest (a .tree) (a .group) ≡ ok w
+unfolding requestText
+zeroing-text a w e =
+    rw (a .is-group) at (given-ok (requestText (a .tree) (a .node, a .field) Zeroing) w (rw (a .is-admitted, a .is-found) at e))
+
+pub zeroing-holds : ZeroingHolds
+zeroing-holds s id place a w e r long =
+    let c = run-of s (a .tree) (a .is-admitted) (a .group) w (zeroing-text a w e) r long in
+    record {
+      left = left c;
+      runs = runs c;
+      defaults = λ i place b k e isReader isFn t h.
+          let bound = bounds b in
+          let d = b .slot .default in
+          let x =
+          getter-given (b .tree) (bound .clean) (b .field .name) isReader isFn k (b .slot) false t e
+          (getter-text b isReader isFn t h) in
+          ap (λ (y : Str). runGetter y (left c)) (x .text)
+          ∙ default-read c i place b k e (default-fits (d .bits) (d .kind) k (rw (x .same-kind) at e) (bound .bits)) false
+          (x .typ) (x .one-line .is) isReader;
+      absent = absent c;
+      hasers = λ i place b e isReader h is reads.
+          haser-holds s _ place b isReader h (left c) e is ∙ has-not c i place b e (tagAt b) reads;
+      lengths = lengths c;
+      bits-same = bits-same c;
+      pointers-same = pointers-same c;
+    }

@@ -1,0 +1,230 @@
+-- A worked sheet, computed: a group in a group, whose slots share an offset, on a record that holds something else
+-- than their defaults. Assumes nothing.
+use Prim.Native.Nat.{ℕ}
+use Prim.Native.String.{String}
+use mathlib.Core.Path.{_≡_, refl}
+use mathlib.Core.Bool.{Bool, true, false}
+use mathlib.Core.List.{List, [], _∷_, _++_}
+use mathlib.Core.Option.{Option, none, some}
+use native.Mathlib.Omega.{arith}
+use lib.ListN.{replicate}
+use Rattle.text.specs.Bytes.{Str, ascii, same}
+use Rattle.text.specs.Decimal.{decimal}
+use Rattle.text.specs.Lines.{toLines, flatMap, join, stringify}
+use Rattle.names.specs.Names.{isAscii, taken, snakeFrom, camelToSnakeCase}
+use Rattle.tree.specs.Tree.{Ty, plain, enum, end, Slot, Arm, slot, group, Field, Node, Sheet}
+use Rattle.column.specs.Number.{trimmed, digits, unpadded, columnOf, padded}
+use Rattle.column.specs.Texts.{isWord, isGraphic, all, isName, isGraphicText, endsIn}
+use Rattle.row.specs.Rows.{rows, onto, restOf}
+use Rattle.row.specs.Line.{rootLine, nodeLine, parameterLine, fieldLine, groupLine}
+use Rattle.row.specs.Line.{typeLine, scopeLine, unboundLine, valueLine, wordLine}
+use Rattle.row.specs.Line.{mostA, mostB, mostC, mostCount, mostBits, reader, lineOf, lineAt, textStart, textOf, textAt}
+use Rattle.row.specs.Print.{columns, rowText}
+use Rattle.tree.specs.Reader.{times}
+use Rattle.tree.specs.Read.{sheet, admitted}
+use Rattle.tree.specs.Read as read
+use Rattle.tree.specs.Read.{bindingOf, scopeOf, typeFrom, typeOf, valueOf, wordsUpTo, wordsOf}
+use Rattle.tree.specs.Read.{among, overlap, fieldOf, fieldsUpTo, fieldsOf, groupIds, paramsOf, membersOf, nodeOf}
+use Rattle.tree.specs.Read.{nodesOf, sheetOf}
+use Rattle.tree.specs.Print.{scopeCount, typeRows, wordRows, fieldRows, paramRows, nodeRows, sheetRows, joined, printed}
+use Rattle.codegen_types.specs.TypeString as types
+use Rattle.codegen_types.specs.TypeString.{typeString}
+use Rattle.calls.specs.Calls.{setBoolField, setDataField, clearPointer, getBoolField, getDataField, notNull, tagTest}
+use Rattle.codegen.specs.Default.{getterMask}
+use Rattle.codegen.specs.Getter.{getterText, getterRequest}
+use Rattle.codegen.specs.Haser.{generateHaser, haserRequest}
+use Rattle.codegen.specs.Zeroing.{zeroLine, contains, zeroFields, zeroFieldsOfGroup, zeroingRequest}
+use Rattle.place.specs.Place.{byId, nth}
+use Rattle.requests.specs.Requests as requests
+use Rattle.requests.specs.Requests.{requestText, Outcome, gives, refuses, outcomeOf}
+use Rattle.requests.specs.declared.Request.the-variants.{Getter, Haser, Zeroing}
+use Rattle.agreement.specs.Slots.{Gives, SlotAt, kindAt}
+use Rattle.record.specs.Record.{Record, found, stored, getBits, putBits, nullFlag, clearFlag}
+use Rattle.record.specs.Types as kinds
+use Rattle.record.specs.Types.{kindOf}
+use Rattle.meaning.specs.Reading.{typeName, truth, getMaskOf, dataArg, boolArg}
+use Rattle.meaning.specs.Meaning.{writes, gets, getsIn, tests, runOp, runLine, runLines, runGetter, runZeroing}
+use Rattle.meaning.specs.Meaning.{testsOf, runTests, runHaser}
+use Rattle.agreement_zeroing.specs.Zeroing.{GroupAt, Inside, here, deeper, LongEnough}
+
+-- a slot by its type, its V line's kind, its offset and its V line's bits
+abbrev slotOf : Ty → ℕ → ℕ → ℕ → Slot
+slotOf ty kind offset bits = record {
+  offset = offset;
+  explicit = 0;
+  option = 0;
+  ty = ty;
+  default = record { kind = kind; bits = bits };
+  words = [];
+}
+
+-- a field by its name, its discriminant and what it is
+abbrev field : String → ℕ → Arm → Field
+field name discriminant arm = record { name = ascii name; discriminant = discriminant; arm = arm }
+
+-- a node without a parent, by its id, whether it is a struct, its tag's count and offset, its module and its fields
+abbrev node : ℕ → ℕ → ℕ → ℕ → String → List Field → Node
+node id isStruct tagCount tagOffset theMod fields = record {
+  id = id;
+  parent = 0;
+  scope = 0;
+  isStruct = isStruct;
+  generic = 0;
+  tagCount = tagCount;
+  tagOffset = tagOffset;
+  theMod = ascii theMod;
+  params = [];
+  fields = fields;
+}
+
+-- A ward has a group bed, and that has a group state. The bed's rank (default 7) and the state's status (default 2) and isFree
+-- (default true) share bits; note is a pointer in the bed's union.
+abbrev rank : Field
+rank = field "rank" 65535 (slot (slotOf (plain 7) 7 2 7))
+
+abbrev note : Field
+note = field "note" 0 (slot (slotOf (plain 12) 12 0 0))
+
+abbrev status : Field
+status = field "status" 65535 (slot (slotOf (enum 4 end) 15 2 2))
+
+abbrev isFree : Field
+isFree = field "isFree" 65535 (slot (slotOf (plain 1) 1 35 1))
+
+abbrev wardNode : Node
+wardNode = node 1 1 0 0 "ward" (field "bed" 65535 (group 2) ∷ [])
+
+abbrev bedNode : Node
+bedNode = node 2 1 1 1 "ward::bed" (rank ∷ note ∷ field "state" 65535 (group 3) ∷ [])
+
+abbrev stateNode : Node
+stateNode = node 3 1 0 0 "ward::bed::state" (status ∷ isFree ∷ [])
+
+abbrev ward : Sheet
+ward = record { root = ascii "::capnp"; nodes = wardNode ∷ bedNode ∷ stateNode ∷ node 4 0 0 0 "ward::Status" [] ∷ [] }
+
+-- its bytes
+wardBytes : Str
+wardBytes = printed ward
+
+ward-read : admitted wardBytes ≡ sheet ward
+unfolding wardBytes joined printed sheetRows nodeRows paramRows fieldRows wordRows typeRows scopeCount rowText columns padded
+    decimal admitted sheetOf nodesOf nodeOf membersOf paramsOf groupIds fieldsOf fieldsUpTo fieldOf overlap among read.slotOf
+    wordsOf wordsUpTo valueOf typeOf typeFrom scopeOf bindingOf times restOf onto rows textAt textOf textStart lineAt lineOf
+    reader rootLine nodeLine parameterLine fieldLine groupLine typeLine scopeLine unboundLine valueLine wordLine
+    mostA mostB mostC mostCount mostBits columnOf unpadded digits trimmed isGraphicText isName all isGraphic isWord endsIn
+ward-read = refl
+
+-- ---- the conditions are met
+
+bed : GroupAt wardBytes 1 0
+unfolding requests.fieldOf byId nth
+bed = record {
+  tree = ward;
+  node = wardNode;
+  field = field "bed" 65535 (group 2);
+  group = 2;
+  is-admitted = ward-read;
+  is-found = refl;
+  is-group = refl;
+}
+
+state-inside : Inside wardBytes 2 3
+unfolding requests.fieldOf byId nth
+state-inside = deeper 2 (record {
+  tree = ward;
+  node = bedNode;
+  field = field "state" 65535 (group 3);
+  group = 3;
+  is-admitted = ward-read;
+  is-found = refl;
+  is-group = refl;
+}) here
+
+-- repeats are dropped inside one group only, not across an inner one
+abbrev zeroText : Str
+zeroText =
+    ascii "self.builder.set_data_field::<u16>(1, 0);\n"
+    ++ ascii "self.builder.set_data_field::<u16>(2, 0u16);\n"
+    ++ ascii "self.builder.reborrow().get_pointer_field(0).clear();\n"
+    ++ ascii "self.builder.set_data_field::<u16>(2, 0u16);\n"
+    ++ ascii "self.builder.set_bool_field(35, false);\n"
+
+generated : Gives wardBytes 1 0 Zeroing zeroText
+unfolding requests.fieldOf byId nth requestText zeroingRequest zeroFieldsOfGroup zeroFields zeroLine contains types.nodeOf
+    same stringify join toLines flatMap
+    decimal setBoolField setDataField clearPointer
+generated = rw ward-read refl
+
+-- six bytes, of which the tag's are zero, and a pointer that is not null
+abbrev before : Record
+before = record { bits = replicate 16 true ++ replicate 16 false ++ replicate 16 true; pointers = true ∷ [] }
+
+long-enough : LongEnough zeroText before
+unfolding typeName truth dataArg boolArg writes
+long-enough = (omega arith, (omega arith, (omega arith, (omega arith, (omega arith, tt)))))
+
+-- a slot with bits in the group inside, and its getter
+statusSlot : SlotAt wardBytes 3 0
+unfolding requests.fieldOf byId nth
+statusSlot = record {
+  tree = ward;
+  node = stateNode;
+  field = status;
+  slot = slotOf (enum 4 end) 15 2 2;
+  is-admitted = ward-read;
+  is-found = refl;
+  is-slot = refl;
+}
+
+status-kind : kindOf (kindAt statusSlot) ≡ some kinds.enum
+unfolding statusSlot kindOf
+status-kind = refl
+
+abbrev statusText : Str
+statusText =
+    ascii "::core::result::Result<ward::Status,::capnp::NotInSchema>\n"
+    ++ ascii "::core::convert::TryFrom::try_from(self.reader.get_data_field_mask::<u16>(2, 2))\n"
+
+status-given : Gives wardBytes 3 0 (Getter true false) statusText
+unfolding requests.fieldOf byId nth requestText getterRequest getterText typeString types.nodeOf getterMask getDataField decimal
+    stringify join toLines flatMap
+status-given = rw ward-read refl
+
+-- ---- what is left
+
+abbrev after : Record
+after = record { bits = replicate 16 true ++ replicate 32 false; pointers = false ∷ [] }
+
+runs : runZeroing zeroText before ≡ some after
+unfolding found stored putBits clearFlag typeName truth dataArg boolArg writes runOp runLine runLines runZeroing
+runs = refl
+
+-- what a getter's and a haser's text answer on a record
+abbrev reads : Record → Outcome → Option ℕ
+reads r (gives t) = runGetter t r
+reads r (refuses k line) = none
+
+abbrev says : Record → Outcome → Option Bool
+says r (gives t) = runHaser t r
+says r (refuses k line) = none
+
+abbrev get : Record → ℕ → ℕ → Bool → Bool → Option ℕ
+get r id place isReader isFn = reads r (outcomeOf (sheet ward) id place (Getter isReader isFn))
+
+-- rank in two forms, status and isFree: not their defaults before, their defaults after
+defaults-read :
+    (get before 2 0 true false ≡ some 65528) × (get before 3 0 true false ≡ some 65533) × (get before 3 1 false false ≡ some 0)
+    × (get after 2 0 true false ≡ some 7) × (get after 2 0 false true ≡ some 7) × (get after 3 0 true false ≡ some 2)
+    × (get after 3 1 false false ≡ some 1)
+unfolding requests.fieldOf byId nth requestText getterRequest getterText typeString types.nodeOf getterMask getBoolField
+    getDataField decimal stringify join toLines flatMap same found getBits typeName truth getMaskOf gets getsIn runGetter
+defaults-read = (refl, refl, refl, refl, refl, refl, refl)
+
+-- note is there before, and absent after
+note-absent :
+    (says before (outcomeOf (sheet ward) 2 1 (Haser true)) ≡ some true)
+    × (says after (outcomeOf (sheet ward) 2 1 (Haser true)) ≡ some false)
+unfolding requests.fieldOf byId nth requestText haserRequest generateHaser camelToSnakeCase taken isAscii snakeFrom notNull
+    tagTest decimal stringify join toLines flatMap found getBits nullFlag typeName tests testsOf runTests runHaser
+note-absent = (refl, refl)

@@ -1,0 +1,2 @@
+pub mod Zeroing
+pub mod Examples
