@@ -90,11 +90,6 @@ pub mod answer {
         ) -> u64;
     }
 
-    /// Whether the library has requests of this kind; to the others it answers 15.
-    pub fn is_there(request: Request) -> bool {
-        matches!(request, Request::Type { .. })
-    }
-
     /// The number of a request at the boundary; the leaf goes beside it.
     fn number(request: Request) -> u64 {
         match request {
@@ -124,9 +119,8 @@ pub mod answer {
         let (buf_at, len) = (buf.as_mut_ptr(), buf.len());
         let request = number(request);
         let mut line = usize::MAX;
-        let number = unsafe {
-            kitlubas_answer(sheet_at, sheet_len, node, place, request, leaf, fill, &mut line, buf_at, len)
-        };
+        let number =
+            unsafe { kitlubas_answer(sheet_at, sheet_len, node, place, request, leaf, fill, &mut line, buf_at, len) };
         match number {
             0 => Ok(()),
             number => Err(Refusal { number, line: line as u64 }),

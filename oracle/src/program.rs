@@ -7,7 +7,7 @@ use crate::sheet::read::{read, Refusal};
 use crate::sheet::{Field, Node};
 
 /// The size of the program's buffer.
-const BUFFER: usize = 65_536;
+pub const BUFFER: usize = 65_536;
 
 pub fn accessors(bytes: &[u8]) -> Vec<u8> {
     let sheet = match read(bytes) {

@@ -25,12 +25,8 @@ const PARTS: [Part; 5] = [
     Part { name: "names, numbers and lines", landed: true, run: leaves_reports },
     Part { name: "admission", landed: true, run: sheet_reports },
     Part { name: "types' texts", landed: true, run: type_reports },
-    Part { name: "getters, setters, hasers, zeroing", landed: false, run: accessor_reports },
-    Part {
-        name: "the program accessors",
-        landed: false,
-        run: |times| programs::outputs(times).map(|report| vec![report]),
-    },
+    Part { name: "getters, setters, hasers, zeroing", landed: true, run: accessor_reports },
+    Part { name: "the program accessors", landed: true, run: program_reports },
 ];
 
 /// Runs every part that is there and prints its reports and their sum: whether nothing differs and nothing that landed is
@@ -51,6 +47,10 @@ pub fn all(times: u64) -> bool {
     }
     println!("comparison with capnpc: {cases} cases, {differ} differ");
     differ == 0 && !missing
+}
+
+fn program_reports(times: u64) -> Option<Vec<Report>> {
+    programs::outputs(times).map(|report| vec![report])
 }
 
 #[cfg(has_leaves)]
@@ -85,7 +85,7 @@ fn type_reports(_times: u64) -> Option<Vec<Report>> {
 
 #[cfg(has_answer)]
 fn accessor_reports(times: u64) -> Option<Vec<Report>> {
-    requests::accessors(times).map(|report| vec![report])
+    Some(vec![requests::accessors(times)])
 }
 
 #[cfg(not(has_answer))]

@@ -1,6 +1,6 @@
 //! The program `accessors`, run on whole sheets: what it prints against what capnpc's functions give.
 
-use crate::generate::{self, bounds, corners, damage};
+use crate::generate::{self, bounds, corners, damage, full};
 use crate::program::accessors;
 use crate::random::Random;
 use crate::report::{kept, Report};
@@ -20,14 +20,14 @@ pub fn outputs(times: u64) -> Option<Report> {
         return None;
     }
     let mut report = Report::new("accessors");
-    for corner in corners::all() {
+    for corner in corners::all().into_iter().chain(full::all()) {
         one_sheet(&mut report, program, &print(&corner.sheet), &corner.name);
     }
     for bound in bounds::all() {
         one_sheet(&mut report, program, &bound.bytes, &bound.name);
     }
     let random = &mut Random::new(51);
-    for turn in 0..2_500 * times {
+    for turn in 0..9_500 * times {
         let (_, bytes) = generate::sheet(random, turn);
         one_sheet(&mut report, program, &bytes, "valid");
         one_sheet(&mut report, program, &damage::damaged(random, &bytes), "damaged");

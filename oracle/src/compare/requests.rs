@@ -20,10 +20,9 @@ pub fn types(times: u64) -> Report {
     compare("types' texts", 41, 700 * times, &requests)
 }
 
-/// Getters, setters, hasers and zeroing, those of them that are there.
-pub fn accessors(times: u64) -> Option<Report> {
-    let requests: Vec<Request> = Request::PARTS.into_iter().filter(|&request| kitlubas::is_there(request)).collect();
-    (!requests.is_empty()).then(|| compare("getters, setters, hasers, zeroing", 42, 2_200 * times, &requests))
+/// Getters, setters, hasers and zeroing.
+pub fn accessors(times: u64) -> Report {
+    compare("getters, setters, hasers, zeroing", 42, 2_200 * times, &Request::PARTS)
 }
 
 /// Every request on every field of the corners and of `count` random sheets, and on some of the hostile ones.

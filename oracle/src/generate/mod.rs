@@ -3,6 +3,7 @@
 pub mod bounds;
 pub mod corners;
 pub mod damage;
+pub mod full;
 pub mod hostile;
 mod types;
 pub mod valid;

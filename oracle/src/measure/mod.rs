@@ -179,10 +179,7 @@ fn kitlubas_admit(_bytes: Vec<u8>) -> Option<Round> {
 
 #[cfg(has_answer)]
 fn kitlubas_answer(bytes: Vec<u8>, request: Request) -> Option<Round> {
-    use crate::boundary::answer::{answer, is_there};
-    if !is_there(request) {
-        return None;
-    }
+    use crate::boundary::answer::answer;
     let mut buffer = vec![0; BUFFER];
     Some(Box::new(move || {
         let mut fill = 0;
