@@ -1,0 +1,152 @@
+//! Every refusal but 14, from a smallest sheet that is refused by it; 14 is in zeroing.rs.
+
+use crate::common::{ask, requests, sheet};
+use kitlubas::{admit, Form, Leaf, Refusal, Request, Side};
+
+const OWNED: Request = Request::TypeText(Leaf::Owned);
+const GETTER: Request = Request::Getter { side: Side::Reader, form: Form::Plain };
+
+fn refused(number: u64) -> Refusal {
+    Refusal { number, line: None }
+}
+
+fn at_line(number: u64, line: usize) -> Refusal {
+    Refusal { number, line: Some(line) }
+}
+
+/// A sheet whose node 7 has one slot, of these lines; the slot's F line is the third.
+fn slot(lines: &str) -> Vec<u8> {
+    sheet(&format!("R ::capnp\nN 7 0 0 1 0 0 0 bed\n{lines}"))
+}
+
+/// The refusal of a request on the slot of node 7.
+fn refusal(sheet: &[u8], request: Request) -> Refusal {
+    ask(sheet, (7, 0), request, 65_536, 0).expect_err("the request is refused")
+}
+
+#[test]
+fn number_1_a_sheet_over_65536_bytes() {
+    assert_eq!(admit(&[0; 65_537]), Err(refused(1)));
+    assert_eq!(admit(&[0; 65_536]), Err(at_line(2, 1)));
+    assert_eq!(refusal(&[0; 65_537], OWNED), refused(1));
+}
+
+#[test]
+fn number_2_a_line_or_order() {
+    assert_eq!(admit(b""), Err(at_line(2, 1)));
+    assert_eq!(admit(b"R ::capnp\n"), Err(at_line(2, 2)));
+    assert_eq!(admit(&slot("F 3 65535 1 0 isFree\nT 1 0 0 0\n")), Err(at_line(2, 5)));
+    assert_eq!(admit(&slot("U")), Err(at_line(2, 3)));
+    assert_eq!(refusal(b"", OWNED), at_line(2, 1));
+}
+
+#[test]
+fn number_3_an_id_on_a_second_node() {
+    assert_eq!(admit(&slot("N 7 0 0 1 0 0 0 bed\n")), Err(at_line(3, 3)));
+    assert_eq!(admit(&slot("G 9 65535 plan\nG 9 65535 plan\n")), Err(at_line(3, 4)));
+}
+
+#[test]
+fn number_4_a_17th_level() {
+    let lists = |count| format!("F 0 65535 0 0 plan\n{}T 1 0 0 0\nV 14 0\n", "T 14 0 0 0\n".repeat(count));
+    assert_eq!(admit(&slot(&lists(15))), Ok(()));
+    assert_eq!(admit(&slot(&lists(16))), Err(at_line(4, 20)));
+    let own_parent = sheet("R ::capnp\nN 7 7 7 1 0 0 0 bed\nF 0 65535 0 0 plan\nT 16 7 0 0\nV 16 0\n");
+    assert_eq!(refusal(&own_parent, OWNED), refused(4));
+}
+
+#[test]
+fn number_5_a_node_that_is_not_there() {
+    assert_eq!(refusal(&slot("F 0 65535 0 0 status\nT 15 9 0 0\nV 15 0\n"), OWNED), refused(5));
+}
+
+#[test]
+fn number_6_a_list_of_any_pointer() {
+    assert_eq!(refusal(&slot("F 0 65535 0 0 plans\nT 14 0 0 0\nT 18 0 0 0\nV 14 0\n"), OWNED), refused(6));
+}
+
+#[test]
+fn number_7_a_parameter_without_such_a_leaf() {
+    let generic = slot("P Plan\nF 0 65535 0 0 plan\nT 18 1 7 0\nV 18 0\n");
+    for leaf in [Leaf::Client, Leaf::Server, Leaf::ServerDispatch, Leaf::GetType] {
+        assert_eq!(refusal(&generic, Request::TypeText(leaf)), refused(7));
+    }
+    assert!(ask(&generic, (7, 0), OWNED, 100, 0).is_ok());
+}
+
+#[test]
+fn number_8_bindings_and_parameters() {
+    assert_eq!(refusal(&slot("F 0 65535 0 0 plan\nT 16 7 1 0\nS 7 1 1\nU\nV 16 0\n"), OWNED), refused(8));
+}
+
+#[test]
+fn number_9_option_on_a_slot_that_is_no_pointer() {
+    let flag = slot("F 3 65535 0 1 isFree\nT 1 0 0 0\nV 1 0\n");
+    assert_eq!(refusal(&flag, GETTER), refused(9));
+    assert!(ask(&flag, (7, 0), Request::Setter, 200, 0).is_ok());
+}
+
+#[test]
+fn number_10_a_getter_with_a_default_of_another_type() {
+    let flag = slot("F 3 65535 0 0 isFree\nT 1 0 0 0\nV 2 3\n");
+    assert_eq!(refusal(&flag, GETTER), refused(10));
+    assert!(ask(&flag, (7, 0), Request::Setter, 200, 0).is_ok());
+}
+
+#[test]
+fn number_11_a_setter_with_a_default_that_is_no_number() {
+    assert_eq!(refusal(&slot("F 3 65535 0 0 isFree\nT 1 0 0 0\nV 0 0\n"), Request::Setter), refused(11));
+}
+
+#[test]
+fn number_12_a_setter_with_an_explicit_default_that_is_no_enum() {
+    let status = |explicit| slot(&format!("F 4 65535 {explicit} 0 status\nT 15 7 0 0\nV 7 2\n"));
+    assert_eq!(refusal(&status(1), Request::Setter), refused(12));
+    assert!(ask(&status(0), (7, 0), Request::Setter, 200, 0).is_ok());
+}
+
+#[test]
+fn number_13_a_parameter_past_the_end() {
+    assert_eq!(refusal(&slot("F 0 65535 0 0 plan\nT 18 1 7 0\nV 18 0\n"), OWNED), refused(13));
+}
+
+#[test]
+fn number_15_no_such_node_or_field() {
+    let flag = slot("F 3 65535 0 0 isFree\nT 1 0 0 0\nV 1 0\nG 9 65535 plan\n");
+    for (node, place) in [(8, 0), (7, 2), (7, u64::MAX), (u64::MAX, 0), (0, 0)] {
+        assert_eq!(ask(&flag, (node, place), OWNED, 100, 0), Err(refused(15)));
+    }
+    // A group has no type and no accessors, and a slot has no zeroing.
+    for request in requests() {
+        assert_eq!(ask(&flag, (7, 1), request, 100, 0), Err(refused(15)));
+    }
+    assert_eq!(ask(&flag, (7, 0), Request::Zeroing, 100, 0), Err(refused(15)));
+}
+
+#[test]
+fn number_21_a_fill_count_above_the_length() {
+    let flag = slot("F 3 65535 0 0 isFree\nT 1 0 0 0\nV 1 0\n");
+    assert_eq!(ask(&flag, (7, 0), OWNED, 100, 101), Err(refused(21)));
+    assert_eq!(ask(&flag, (7, 0), OWNED, 0, usize::MAX), Err(refused(21)));
+    // It comes before every other refusal.
+    assert_eq!(ask(&[0; 65_537], (7, 0), OWNED, 0, 1), Err(refused(21)));
+}
+
+#[test]
+fn number_22_no_room() {
+    let flag = slot("F 3 65535 0 0 isFree\nT 1 0 0 0\nV 1 0\n");
+    assert_eq!(ask(&flag, (7, 0), OWNED, 3, 0), Err(refused(22)));
+    assert_eq!(ask(&flag, (7, 0), OWNED, 4, 0), Ok("bool".into()));
+    // It comes after every other refusal.
+    assert_eq!(ask(&flag, (8, 0), OWNED, 0, 0), Err(refused(15)));
+}
+
+#[test]
+fn each_number_has_a_sentence_of_its_own() {
+    let numbers: Vec<u64> = (1..=15).chain([21, 22]).collect();
+    let sentences: std::collections::HashSet<&str> = numbers.iter().map(|&n| refused(n).sentence()).collect();
+    assert_eq!(sentences.len(), numbers.len());
+    assert!(!sentences.contains(refused(16).sentence()));
+    assert_eq!(refused(1).to_string(), "the sheet has more than 65,536 bytes (refusal 1)");
+    assert_eq!(at_line(3, 5).to_string(), format!("{} (refusal 3, line 5)", refused(3).sentence()));
+}
