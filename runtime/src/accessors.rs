@@ -1,4 +1,5 @@
-// Accessors of a struct in a real message, written by hand as capnpc writes them: each body is one call of StructReader or StructBuilder.
+// Accessors of a struct in a real message, written by hand as capnpc writes them: each body is one call of StructReader or
+// StructBuilder.
 use capnp::private::layout::{PointerBuilder, StructBuilder, StructReader, StructSize};
 use capnp::traits::{FromPointerBuilder, IntoInternalStructReader};
 use capnp::{Result, Word};

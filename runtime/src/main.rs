@@ -1,41 +1,13 @@
-// Does the same random operations on records in real messages, through the capnp runtime, and on a copy of their bytes, through the
-// static library, and compares every answer, every data byte and every pointer after each operation.
+// Does the same random operations on records in real messages, through the capnp runtime, and on a copy of their bytes, through
+// the static library, and compares every answer, every data byte and every pointer after each operation.
 //
 //     runtime [operations [seed]]
 mod accessors;
 mod kitlubas;
+mod random;
 
 use accessors::{Builder, Kind, KINDS};
-
-// xorshift64*, so that a seed gives the same run everywhere
-struct Random(u64);
-
-impl Random {
-    fn next(&mut self) -> u64 {
-        self.0 ^= self.0 >> 12;
-        self.0 ^= self.0 << 25;
-        self.0 ^= self.0 >> 27;
-        self.0.wrapping_mul(0x2545_F491_4F6C_DD1D)
-    }
-
-    fn below(&mut self, n: u64) -> u64 {
-        (self.next() >> 16) % n
-    }
-
-    fn maybe<T>(&mut self, x: T) -> Option<T> {
-        if self.below(2) == 0 { None } else { Some(x) }
-    }
-
-    // bits of a width, of which few or many are set
-    fn bits(&mut self, width: u32) -> u64 {
-        let v = match self.below(4) {
-            0 => self.below(4),
-            1 => !self.below(4),
-            _ => self.next(),
-        };
-        if width == 8 { v } else { v & ((1 << (8 * width)) - 1) }
-    }
-}
+use random::Random;
 
 // A record in a message, and its copy: data bytes, and a byte for each pointer.
 struct Pair<'a> {
@@ -168,7 +140,7 @@ fn main() {
     let mut args = std::env::args().skip(1);
     let operations: u64 = args.next().map_or(2_000_000, |a| a.parse().expect("a number of operations"));
     let seed: u64 = args.next().map_or(1, |a| a.parse().expect("a seed"));
-    let mut random = Random(seed.wrapping_mul(0x9E37_79B9_7F4A_7C15) | 1);
+    let mut random = Random::new(seed);
     let (mut done, mut different, mut records) = (0, 0, 0);
     while done < operations {
         let (words, pointers) = (random.below(9) as usize, random.below(9) as usize);
