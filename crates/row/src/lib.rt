@@ -1,12 +1,12 @@
 // Rows of a sheet: where a row ends, what it says, and the text that it has.
 use column::Number;
 ghost use mathlib.Core.Path.{_≡_};
-ghost use Prim.Native.Nat.{_+_, _≤_};
+ghost use Prim.Native.Nat.{_+_, _≤_, _<_};
 ghost use lib.ListN.{drop, length};
 ghost use Rattle.row.specs.Rows.{rowLen, Passes, rows, restOf, lineNo};
 ghost use Rattle.row.specs.Line.{rootLine, nodeLine, parameterLine, fieldLine, groupLine};
 ghost use Rattle.row.specs.Line.{typeLine, scopeLine, unboundLine, valueLine, wordLine};
-ghost use Rattle.row.specs.Line.{mostA, mostB, mostC, mostCount, mostBits, reader, lineAt, textStart, textAt};
+ghost use Rattle.row.specs.Line.{mostA, mostB, mostC, mostCount, mostBits, reader, lineAt, textStart, textAt, Good, SaysRow};
 
 // The greatest numbers of 64, 32 and 16 bits.
 const MOST_64: u64 = 0xffff_ffff_ffff_ffff;
@@ -443,6 +443,60 @@ fn read(letter: u8, t: &[u8]) -> Line
     Line::Bad
 }
 
+// The least bytes that a line with a letter has. A row is read right whatever this says: it only tells from where to seek the end.
+fn least_length(letter: u8) -> usize {
+    match letter {
+        b'R' => 3,
+        b'N' => 150,
+        b'P' => 3,
+        b'F' => 87,
+        b'G' => 45,
+        b'T' => 85,
+        b'S' => 64,
+        b'U' => 1,
+        b'V' => 43,
+        b'W' => 22,
+        _ => 0,
+    }
+}
+
+// The row at a position, where it says a line: its end is not sought before such a line can end.
+fn good_row(s: &[u8], at: usize) -> Got
+    requires { ⌜ at < length (now s) ⌝ }
+    ensures { λ r. ⌜ (Good (r .line) → SaysRow (now (s .entry)) at r) ⌝ }
+{
+    let k = least_length(s[at]);
+    if k < s.len() - at {
+        let e = row_end(s, at + k);
+        let z = e - 1;
+        if s[z] == b'\n' {
+            let line = read(s[at], &s[at..z]);
+            return Got { line, next: e };
+        }
+    }
+    Got {
+        line: Line::Bad,
+        next: at,
+    }
+}
+
+// The row at a position inside the sheet, whatever it says.
+fn any_row(s: &[u8], at: usize) -> Got
+    requires { ⌜ at < length (now s) ⌝ }
+    ensures { λ r. ⌜ SaysRow (now (s .entry)) at r ⌝ }
+{
+    let e = row_end(s, at);
+    let z = e - 1;
+    if s[z] != b'\n' {
+        return Got {
+            line: Line::Bad,
+            next: e,
+        };
+    }
+    let line = read(s[at], &s[at..z]);
+    Got { line, next: e }
+}
+
 // The row at a position; past the end stands a bad line, and no row follows.
 pub fn next(s: &[u8], at: usize) -> Got
     ensures { λ r. ⌜ r .line ≡ lineAt (rows (drop at (now (s .entry)))) ⌝ }
@@ -454,16 +508,12 @@ pub fn next(s: &[u8], at: usize) -> Got
             next: at,
         };
     }
-    let e = row_end(s, at);
-    let z = e - 1;
-    if s[z] != b'\n' {
-        return Got {
-            line: Line::Bad,
-            next: e,
-        };
+    let g = good_row(s, at);
+    let line = g.line;
+    match line {
+        Line::Bad => any_row(s, at),
+        _ => g,
     }
-    let line = read(s[at], &s[at..z]);
-    Got { line, next: e }
 }
 
 // Where the text of a line with a letter begins, after its numbers and a space; 0 for a line without a text.
