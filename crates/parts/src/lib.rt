@@ -27,7 +27,7 @@ ghost use Rattle.parts.specs.Program.{opening as Program·opening};
 ghost use Rattle.parts.specs.Left.{Left, mostLeft, PartMade};
 
 // A part of a field: the first five are those of a slot, the last is a group's.
-pub enum Part {
+enum Part {
     GetterReader,
     GetterBuilder,
     Setter,
@@ -37,16 +37,16 @@ pub enum Part {
 }
 
 // Where the printing of a node stands: at a part of the field at a position, or past the node's last part.
-pub enum Place {
+enum Place {
     At { field: usize, part: Part },
     End,
 }
 
 // A part that is made: how many bytes of the two buffers are its header and its text, and where the next part stands.
-pub struct Made {
-    pub header: usize,
-    pub text: usize,
-    pub next: Place,
+struct Made {
+    header: usize,
+    text: usize,
+    next: Place,
 }
 
 // What is requested for a part.
@@ -157,7 +157,7 @@ fn first_of(s: &[u8], at: usize) -> Place
 }
 
 // The first part of the node at a position.
-pub fn first(s: &[u8], node: usize) -> Place
+fn first(s: &[u8], node: usize) -> Place
     ensures { λ r. ⌜ ((n : Node) → NodeAt (now (s .entry)) node n → Left (now (s .entry)) r (fieldParts (n .fields))) ⌝ }
 {
     first_of(s, place::first_field(s, node))
@@ -204,7 +204,7 @@ fn after(s: &[u8], field: usize, part: Part) -> Place
 }
 
 // A part of the field at a position: its header into `head`, its text into `buf`.
-pub fn make(
+fn make(
     s: &[u8],
     ids: &[u64],
     ats: &[usize],
@@ -230,7 +230,7 @@ pub fn make(
 }
 
 // What is printed of a refused sheet: so many bytes of the buffer.
-pub fn refused_sheet(number: u64, line: usize, buf: &mut [u8; 128]) -> usize
+fn refused_sheet(number: u64, line: usize, buf: &mut [u8; 128]) -> usize
     ensures count { λ r. ⌜ Counts r (now (buf .exit)) ⌝ }
     ensures said { λ r. ⌜ take r (now (buf .exit)) ≡ refusedSheetText number line ⌝ }
 {
