@@ -49,7 +49,7 @@ loop-again c =
       search needs,
       turn .before .loop .inv .1
           ∙ digits-more _ _ (turn .loop-test .taken) _ (digit .before .if1 .left) (digit .if2 .left) (omega arith)
-          ∙ rw (c .before .before .wide .ensures),
+          ∙ rw (c .before .before .wide .ensures .0),
     )
 
 returns-5 : tie.Need-returns-5 Inv-loop μ-loop
