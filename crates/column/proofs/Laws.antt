@@ -4,7 +4,7 @@ use mathlib.Core.Bool.{Bool, true, false}
 use mathlib.Core.List.{[], _∷_}
 use Prim.Native.Nat.{ℕ, _+_, _-_, _*_, _^_, _≤_, _<_}
 use native.Mathlib.Omega.{arith}
-use native.Mathlib.Nat.{add-sub-cancel-left}
+use native.Mathlib.Nat.{add-sub-cancel-left, pow-suc, pow-le-pow-right}
 use native.Mathlib.Numerals.{add-one}
 use lib.ListN.{length, getD, take, drop, drop-of-length-le, length-drop, List·getD-eq-default}
 use lib.Seq.{drop-cons, take-all}
@@ -68,6 +68,13 @@ module _ (t : Str) (i : ℕ) (h : i < length t) where
   digits-more v l g o =
       let b = getD t i 0 in
       rw (add-one, drop-cons t i 0 h, digits, le-ltb b 48 l, le-ltb 57 b g, lt-ltb (v * 10 + (b - 48)) (2 ^ 64) o)
+
+-- a number of fewer than 19 digits, and one more digit
+pub few-digits : (v i : ℕ) → v < 10 ^ i → i < 19 → v < 10 ^ 18
+few-digits v i l h = omega (arith, pow-le-pow-right {n = 10} (omega arith) {i = i} {j = 18} (omega arith))
+
+pub one-more-digit : (v i d : ℕ) → v < 10 ^ i → d < 10 → v * 10 + d < 10 ^ (i + 1)
+one-more-digit v i d l h = rw (add-one, pow-suc 10 i) (omega arith)
 
 -- four bytes that make the number of four spaces
 pub trimmed-four :

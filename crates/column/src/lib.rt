@@ -56,12 +56,13 @@ fn trimmed(t: &[u8]) -> &[u8]
     &t[i..]
 }
 
-// The number that digits make, where it fits 64 bits. Past 1844674407370955161, ten times the number does not.
-fn digits(t: &[u8]) -> Number
-    ensures { λ r. ⌜ r ≡ digits 0 (now (t .entry)) ⌝ }
+// The number of which the digits before `from` make `head`, where it fits 64 bits. Past 1844674407370955161, ten times the
+// number does not.
+fn more_digits(t: &[u8], from: usize, head: u64) -> Number
+    ensures { λ r. ⌜ r ≡ digits head (drop from (now (t .entry))) ⌝ }
 {
-    let mut v: u64 = 0;
-    let mut i = 0;
+    let mut v = head;
+    let mut i = from;
     while i < t.len() {
         let b = t[i];
         if b < b'0' {
@@ -78,6 +79,29 @@ fn digits(t: &[u8]) -> Number
             return Number::Not;
         }
         v = v * 10 + d;
+        i += 1;
+    }
+    Number::Is(v)
+}
+
+// The number that digits make, where it fits 64 bits: 19 digits do, and those after them are tested.
+fn digits(t: &[u8]) -> Number
+    ensures { λ r. ⌜ r ≡ digits 0 (now (t .entry)) ⌝ }
+{
+    let mut v: u64 = 0;
+    let mut i = 0;
+    while i < t.len() {
+        if i == 19 {
+            return more_digits(t, i, v);
+        }
+        let b = t[i];
+        if b < b'0' {
+            return Number::Not;
+        }
+        if b'9' < b {
+            return Number::Not;
+        }
+        v = v * 10 + (wide(b) - 48);
         i += 1;
     }
     Number::Is(v)
