@@ -4,13 +4,13 @@ use mathlib.Core.Bool.{Bool, true, false}
 use mathlib.Core.List.{[], _∷_}
 use Prim.Native.Nat.{ℕ, _+_, _-_, _*_, _^_, _≤_, _<_}
 use native.Mathlib.Omega.{arith}
-use native.Mathlib.Nat.{add-sub-cancel-left}
+use native.Mathlib.Nat.{add-sub-cancel-left, pow-suc, pow-le-pow-right}
 use native.Mathlib.Numerals.{add-one}
 use lib.ListN.{length, getD, take, drop, drop-of-length-le, length-drop, List·getD-eq-default}
 use lib.Seq.{drop-cons, take-all}
 use borrow.Author.Tests.{eq-eqb, ne-eqb, lt-ltb, le-ltb, le-leb, lt-leb}
 use Rattle.text.specs.Bytes.{Str, cond, either}
-use Rattle.column.specs.Number.{trimmed, digits, unpadded, within, columnOf}
+use Rattle.column.specs.Number.{trimmed, fourBytes, digits, unpadded, within, columnOf}
 use Rattle.column.specs.Texts.{between, isDigit, isWord, isGraphic, all, sized, isName, isGraphicText, endsIn}
 use Rattle.column.specs.declared.Number.{Number}
 use Rattle.column.specs.declared.Number.the-variants.{Is, Not}
@@ -68,6 +68,29 @@ module _ (t : Str) (i : ℕ) (h : i < length t) where
   digits-more v l g o =
       let b = getD t i 0 in
       rw (add-one, drop-cons t i 0 h, digits, le-ltb b 48 l, le-ltb 57 b g, lt-ltb (v * 10 + (b - 48)) (2 ^ 64) o)
+
+-- a number of fewer than 19 digits, and one more digit
+pub few-digits : (v i : ℕ) → v < 10 ^ i → i < 19 → v < 10 ^ 18
+few-digits v i l h = omega (arith, pow-le-pow-right {n = 10} (omega arith) {i = i} {j = 18} (omega arith))
+
+pub one-more-digit : (v i d : ℕ) → v < 10 ^ i → d < 10 → v * 10 + d < 10 ^ (i + 1)
+one-more-digit v i d l h = rw (add-one, pow-suc 10 i) (omega arith)
+
+-- four bytes that make the number of four spaces
+pub trimmed-four :
+    (t : Str) (i : ℕ) → ((j : ℕ) → getD t j 0 < 256) → i + 4 ≤ length t → fourBytes t i ≡ 0x20202020
+    → trimmed (drop i t) ≡ trimmed (drop (i + 4) t)
+trimmed-four t i fits h e =
+    let b₀ = fits i in
+    let b₁ = fits (i + 1) in
+    let b₂ = fits (i + 2) in
+    on i (i + 1) (omega arith) (omega arith) (omega arith)
+    ∙ on (i + 1) (i + 2) (omega arith) (omega arith) (omega arith)
+    ∙ on (i + 2) (i + 3) (omega arith) (omega arith) (omega arith)
+    ∙ on (i + 3) (i + 4) (omega arith) (omega arith) (omega arith)
+  where
+    on : (m n : ℕ) → n ≡ m + 1 → m < length t → getD t m 0 ≡ 32 → trimmed (drop m t) ≡ trimmed (drop n t)
+    on m n e h s = rw e (trimmed-more t m h s)
 
 pub all-end : (ok : ℕ → Bool) (t : Str) (i : ℕ) → length t ≤ i → all ok (drop i t) ≡ true
 unfolding all

@@ -2,7 +2,7 @@
 use mathlib.Core.List.{[], _∷_, _++_}
 use Prim.Native.Nat.{ℕ, _+_, _-_, _*_, _^_}
 use lib.Dec.{eqb, ltb}
-use lib.ListN.{length, take, drop, replicate}
+use lib.ListN.{length, getD, take, drop, replicate}
 use Rattle.text.specs.Bytes.{Str, cond}
 use Rattle.text.specs.Decimal.{decimal}
 use Rattle.column.specs.declared.Number.{Number}
@@ -12,6 +12,10 @@ use Rattle.column.specs.declared.Number.the-variants.{Is, Not}
 unfoldable pub trimmed : Str → Str
 trimmed [] = []
 trimmed (b ∷ t) = cond (eqb b 32) (trimmed t) (b ∷ t)
+
+-- the four bytes from i on as one number, the first lowest
+abbrev pub fourBytes : Str → ℕ → ℕ
+fourBytes t i = getD t i 0 + 0x100 * getD t (i + 1) 0 + 0x10000 * getD t (i + 2) 0 + 0x1000000 * getD t (i + 3) 0
 
 -- v, where b is a digit
 abbrev pub digit : ℕ → Number → Number

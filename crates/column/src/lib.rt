@@ -1,6 +1,8 @@
 // The columns of a sheet's line: a number, right-justified in 21 columns, and a text after one space.
 ghost use mathlib.Core.Path.{_≡_};
-ghost use Rattle.column.specs.Number.{trimmed, digits, unpadded, columnOf};
+ghost use Prim.Native.Nat.{_+_, _≤_, _<_};
+ghost use lib.ListN.{length, drop};
+ghost use Rattle.column.specs.Number.{trimmed, fourBytes, digits, unpadded, columnOf};
 ghost use Rattle.column.specs.Texts.{isDigit, isWord, isGraphic, all, isName, isGraphicText, endsIn};
 
 // What stands in a number's columns: the number, where it is one and lies in its bounds.
@@ -9,11 +11,42 @@ pub enum Number {
     Not,
 }
 
-// The bytes after the spaces in front.
+// A byte as a number of 64 bits.
+fn wide(b: u8) -> u64
+    ensures { λ r. ⌜ r ≡ b ⌝ }
+    ensures { λ r. ⌜ r < 256 ⌝ }
+{
+    b as u64
+}
+
+// The four bytes from `i` on as one number, the first lowest.
+fn four_bytes(t: &[u8], i: usize) -> u64
+    requires { ⌜ i + 4 ≤ length (now t) ⌝ }
+    ensures { λ r. ⌜ r ≡ fourBytes (now (t .entry)) i ⌝ }
+{
+    wide(t[i]) + 0x100 * wide(t[i + 1]) + 0x1_0000 * wide(t[i + 2]) + 0x100_0000 * wide(t[i + 3])
+}
+
+// Past fours of bytes that are all spaces.
+fn past_fours(t: &[u8]) -> usize
+    ensures { λ r. ⌜ r ≤ length (now (t .entry)) ⌝ }
+    ensures { λ r. ⌜ trimmed (now (t .entry)) ≡ trimmed (drop r (now (t .entry))) ⌝ }
+{
+    let mut i = 0;
+    while 4 <= t.len() - i {
+        if four_bytes(t, i) != 0x2020_2020 {
+            return i;
+        }
+        i += 4;
+    }
+    i
+}
+
+// The bytes after the spaces in front: by fours, and the last few singly.
 fn trimmed(t: &[u8]) -> &[u8]
     ensures { λ r. ⌜ now r ≡ trimmed (now (t .entry)) ⌝ }
 {
-    let mut i = 0;
+    let mut i = past_fours(t);
     while i < t.len() {
         if t[i] != b' ' {
             return &t[i..];
@@ -23,19 +56,13 @@ fn trimmed(t: &[u8]) -> &[u8]
     &t[i..]
 }
 
-// A byte as a number of 64 bits.
-fn wide(b: u8) -> u64
-    ensures { λ r. ⌜ r ≡ b ⌝ }
+// The number of which the digits before `from` make `head`, where it fits 64 bits. Past 1844674407370955161, ten times the
+// number does not.
+fn more_digits(t: &[u8], from: usize, head: u64) -> Number
+    ensures { λ r. ⌜ r ≡ digits head (drop from (now (t .entry))) ⌝ }
 {
-    b as u64
-}
-
-// The number that digits make, where it fits 64 bits. Past 1844674407370955161, ten times the number does not.
-fn digits(t: &[u8]) -> Number
-    ensures { λ r. ⌜ r ≡ digits 0 (now (t .entry)) ⌝ }
-{
-    let mut v: u64 = 0;
-    let mut i = 0;
+    let mut v = head;
+    let mut i = from;
     while i < t.len() {
         let b = t[i];
         if b < b'0' {
@@ -52,6 +79,29 @@ fn digits(t: &[u8]) -> Number
             return Number::Not;
         }
         v = v * 10 + d;
+        i += 1;
+    }
+    Number::Is(v)
+}
+
+// The number that digits make, where it fits 64 bits: 19 digits do, and those after them are tested.
+fn digits(t: &[u8]) -> Number
+    ensures { λ r. ⌜ r ≡ digits 0 (now (t .entry)) ⌝ }
+{
+    let mut v: u64 = 0;
+    let mut i = 0;
+    while i < t.len() {
+        if i == 19 {
+            return more_digits(t, i, v);
+        }
+        let b = t[i];
+        if b < b'0' {
+            return Number::Not;
+        }
+        if b'9' < b {
+            return Number::Not;
+        }
+        v = v * 10 + (wide(b) - 48);
         i += 1;
     }
     Number::Is(v)

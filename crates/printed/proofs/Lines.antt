@@ -5,11 +5,11 @@ use mathlib.Core.List.{[], _∷_}
 use Prim.Native.Nat.{ℕ}
 use Rattle.text.specs.Bytes.{Str}
 use Rattle.row.specs.Rows.{restOf}
-use Rattle.row.specs.Line.{lineAt, textAt, cases, Good}
+use Rattle.row.specs.Line.{lineAt, textAt, cases}
 use Rattle.row.specs.Print.{printLine, Fits}
 use Rattle.row.specs.declared.Line.{Line}
 use Rattle.row.specs.declared.Line.the-variants.{Root, Node, Parameter, Field, Group, Typ, Scope, Unbound, Value, Word, Bad}
-use Rattle.row.proofs.ReadLaws.{printed-line}
+use Rattle.row.proofs.ReadLaws.{Good, printed-line}
 use Rattle.tree.specs.Reader.{Rows, Reader, onRoot, onNode, onParameter, onField, onGroup}
 use Rattle.tree.specs.Reader.{onType, onScope, onUnbound, onValue, onWord}
 use Rattle.printed.proofs.Reading.{Tells}

@@ -6,27 +6,36 @@ use mathlib.Core.List.{List, [], _∷_, _++_}
 use Prim.Native.Nat.{ℕ, suc, _+_, _-_, _≤_, _<_}
 use native.Mathlib.Omega.{arith}
 use lib.Dec.{eqb}
-use lib.ListN.{length, getD, take, drop, drop-of-length-le, take-append-drop}
-use lib.Seq.{take-length, take-suc, drop-drop}
-use borrow.Author.Tests.{eqb-true, eq-eqb}
-use types.Run.{OneOf, miss}
-use denote.Enum.Declared.{tagOf}
+use lib.ListN.{length, getD, take, drop, drop-of-length-le}
+use lib.Seq.{take-length, take-suc}
+use borrow.Author.Tests.{eqb-true}
 use Rattle.text.specs.Bytes.{Str, cond, unit}
 use Rattle.column.specs.Number.{columnOf, padded}
 use Rattle.column.specs.Texts.{isName, isGraphicText}
 use Rattle.column.specs.declared.Number.{Number}
 use Rattle.column.specs.declared.Number.the-variants.{Is, Not}
 use Rattle.column.proofs.PaddedLaws.{Stands, column-stands, Ends, ends-stands}
-use Rattle.row.specs.Rows.{rows, restOf}
 use Rattle.row.specs.Line.{rootLine, nodeLine, parameterLine, fieldLine, groupLine}
 use Rattle.row.specs.Line.{typeLine, scopeLine, unboundLine, valueLine, wordLine}
-use Rattle.row.specs.Line.{given, reader, badLine, lineOf, lineAt, textStart, textOf, Good}
+use Rattle.row.specs.Line.{given, reader, badLine, lineOf, textStart, textOf}
 use Rattle.row.specs.Print.{columns, rowText, printLine, Fits}
 use Rattle.row.specs.declared.Line.{Line}
 use Rattle.row.specs.declared.Line.the-variants.{Root, Node, Parameter, Field, Group, Typ, Scope, Unbound, Value, Word, Bad}
-use Rattle.row.proofs.Line.{the-type}
-use Rattle.row.proofs.Laws.{line-row}
-use Rattle.row.proofs.PrintLaws.{row-is, line-read, text-read, rows-printed}
+use Rattle.row.proofs.PrintLaws.{row-is, line-read, text-read}
+
+-- any line but the bad one
+abbrev pub Good : Line → Type 0
+Good Root = Unit
+Good (Node i p s x g c o) = Unit
+Good Parameter = Unit
+Good (Field o d e p) = Unit
+Good (Group i d) = Unit
+Good (Typ k a b c) = Unit
+Good (Scope i b n) = Unit
+Good Unbound = Unit
+Good (Value k b) = Unit
+Good (Word v) = Unit
+Good Bad = ⊥
 
 -- row r is line l printed with its text, in the line's bounds
 pub record Printed (r : Str) (l : Line) : Type 0 where
@@ -271,42 +280,3 @@ row-told r = go (eqb (getD r (length r - 1) 0) 10) refl
 -- a row that says a line is that line printed: `printed-line r (Field o d e p) tt e` for e : lineOf r ≡ Field o d e p
 pub printed-line : (r : Str) (l : Line) → Good l → lineOf r ≡ l → Printed r l
 printed-line r l g e = let t : Told r l = rw (← e) (row-told r) in t g
-
--- a part of the sheet that ends in byte 10 and says a line is the first row from its start on: a printed line has no other byte 10
-module _ (s : Str) (at e : ℕ) (lo : at < e) (hi : e ≤ length s) (ends : getD s (e - 1) 0 ≡ 10) where
-  pub good-row :
-      (l : Line) → l ≡ reader (getD s at 0) (take (e - 1 - at) (drop at s)) → Good l
-      → (l ≡ lineAt (rows (drop at s))) × (rows (drop e s) ≡ restOf (rows (drop at s)))
-  unfolding lineAt restOf
-  good-row l says good = (rw first (sym is), rw first)
-    where
-      r : Str
-      r = take (e - at) (drop at s)
-
-      is : lineOf r ≡ l
-      is = line-row s at e lo hi ∙ rw (eq-eqb (getD s (e - 1) 0) 10 ends) (sym says)
-
-      parts : drop at s ≡ r ++ drop e s
-      parts =
-          let j : at + (e - at) ≡ e = omega arith in
-          sym (ap (λ (x : Str). r ++ x) (sym (drop-drop (e - at) at s ∙ rw j)) ∙ take-append-drop (e - at) (drop at s))
-
-      first : rows (drop at s) ≡ r ∷ rows (drop e s)
-      first =
-          let p = printed-line r l good is in
-          ap rows parts ∙ ap (λ (x : Str). rows (x ++ drop e s)) (p .whole) ∙ rows-printed l (textOf r) (drop e s) (p .fits)
-          ∙ ap (λ (x : Str). x ∷ rows (drop e s)) (sym (p .whole))
-
--- a line that is not bad, by its tag
-pub good-line : (l : Line) → OneOf (0 ∷ 1 ∷ 2 ∷ 3 ∷ 4 ∷ 5 ∷ 6 ∷ 7 ∷ 8 ∷ 9 ∷ []) (tagOf the-type l) → Good l
-good-line Root h = tt
-good-line (Node i p s x g c o) h = tt
-good-line Parameter h = tt
-good-line (Field o d e p) h = tt
-good-line (Group i d) h = tt
-good-line (Typ k a b c) h = tt
-good-line (Scope i b n) h = tt
-good-line Unbound h = tt
-good-line (Value k b) h = tt
-good-line (Word v) h = tt
-good-line Bad h = miss (0 ∷ 1 ∷ 2 ∷ 3 ∷ 4 ∷ 5 ∷ 6 ∷ 7 ∷ 8 ∷ 9 ∷ []) 10 tt h

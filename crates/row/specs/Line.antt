@@ -1,6 +1,5 @@
 -- What a row says: a letter, its numbers in 21 columns each, one space and a text where one belongs, then byte 10.
 -- Assumes nothing.
-use mathlib.Core.Path.{_≡_}
 use mathlib.Core.List.{List, [], _∷_}
 use Prim.Native.Nat.{ℕ, _-_}
 use Prim.Native.Char.{code}
@@ -12,8 +11,6 @@ use Rattle.column.specs.Number.{columnOf, most}
 use Rattle.column.specs.Texts.{endsIn, isName, isGraphicText}
 use Rattle.column.specs.declared.Number.{Number}
 use Rattle.column.specs.declared.Number.the-variants.{Is, Not}
-use Rattle.row.specs.Rows.{rows, restOf}
-use Rattle.row.specs.declared.Got.{Got}
 use Rattle.row.specs.declared.Line.{Line}
 use Rattle.row.specs.declared.Line.the-variants.{Root, Node, Parameter, Field, Group, Typ, Scope, Unbound, Value, Word, Bad}
 
@@ -149,24 +146,6 @@ lineOf r = cond (eqb (getD r (length r - 1) 0) 10) (reader (getD r 0 0)) badLine
 unfoldable pub lineAt : List Str → Line
 lineAt [] = Bad
 lineAt (r ∷ rs) = lineOf r
-
--- any line but the bad one
-abbrev pub Good : Line → Type 0
-Good Root = Unit
-Good (Node i p s x g c o) = Unit
-Good Parameter = Unit
-Good (Field o d e p) = Unit
-Good (Group i d) = Unit
-Good (Typ k a b c) = Unit
-Good (Scope i b n) = Unit
-Good Unbound = Unit
-Good (Value k b) = Unit
-Good (Word v) = Unit
-Good Bad = ⊥
-
--- what the first row from a position on says, and where the rows after it begin
-abbrev pub SaysRow : Str → ℕ → Got → Type 0
-SaysRow s at g = (g .line ≡ lineAt (rows (drop at s))) × (rows (drop (g .next) s) ≡ restOf (rows (drop at s)))
 
 -- where the text of a line with a letter begins, after its numbers and a space; 0 for a line without a text
 unfoldable pub textStart : ℕ → ℕ

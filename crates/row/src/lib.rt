@@ -1,12 +1,14 @@
 // Rows of a sheet: where a row ends, what it says, and the text that it has.
 use column::Number;
 ghost use mathlib.Core.Path.{_≡_};
-ghost use Prim.Native.Nat.{_+_, _≤_, _<_};
-ghost use lib.ListN.{drop, length};
+ghost use Prim.Native.Nat.{_+_, _-_, _≤_, _<_};
+ghost use lib.ListN.{take, drop, length};
 ghost use Rattle.row.specs.Rows.{rowLen, Passes, rows, restOf, lineNo};
 ghost use Rattle.row.specs.Line.{rootLine, nodeLine, parameterLine, fieldLine, groupLine};
 ghost use Rattle.row.specs.Line.{typeLine, scopeLine, unboundLine, valueLine, wordLine};
-ghost use Rattle.row.specs.Line.{mostA, mostB, mostC, mostCount, mostBits, reader, lineAt, textStart, textAt, Good, SaysRow};
+ghost use Rattle.row.specs.Line.{mostA, mostB, mostC, mostCount, mostBits, reader, lineOf, lineAt, textStart, textAt};
+ghost use Rattle.row.specs.declared.Line.the-variants.{Bad};
+ghost use Rattle.text.specs.Bytes.{Str};
 
 // The greatest numbers of 64, 32 and 16 bits.
 const MOST_64: u64 = 0xffff_ffff_ffff_ffff;
@@ -443,8 +445,10 @@ fn read(letter: u8, t: &[u8]) -> Line
     Line::Bad
 }
 
-// The least bytes that a line with a letter has. A row is read right whatever this says: it only tells from where to seek the end.
-fn least_length(letter: u8) -> usize {
+// The least bytes that a line with a letter has.
+fn least_length(letter: u8) -> usize
+    ensures { λ r. ⌜ ((t : Str) → length t < r → reader letter t ≡ Bad) ⌝ }
+{
     match letter {
         b'R' => 3,
         b'N' => 150,
@@ -460,44 +464,20 @@ fn least_length(letter: u8) -> usize {
     }
 }
 
-// The row at a position, where it says a line: its end is not sought before such a line can end.
-fn good_row(s: &[u8], at: usize) -> Got
-    requires { ⌜ at < length (now s) ⌝ }
-    ensures { λ r. ⌜ (Good (r .line) → SaysRow (now (s .entry)) at r) ⌝ }
+// What the part from `at` to `e` says, taken as a row.
+fn line_to(s: &[u8], at: usize, e: usize) -> Line
+    requires { ⌜ (at < e) × (e ≤ length (now s)) ⌝ }
+    ensures { λ r. ⌜ r ≡ lineOf (take (e - at) (drop at (now (s .entry)))) ⌝ }
 {
-    let k = least_length(s[at]);
-    if k < s.len() - at {
-        let e = row_end(s, at + k);
-        let z = e - 1;
-        if s[z] == b'\n' {
-            let line = read(s[at], &s[at..z]);
-            return Got { line, next: e };
-        }
-    }
-    Got {
-        line: Line::Bad,
-        next: at,
-    }
-}
-
-// The row at a position inside the sheet, whatever it says.
-fn any_row(s: &[u8], at: usize) -> Got
-    requires { ⌜ at < length (now s) ⌝ }
-    ensures { λ r. ⌜ SaysRow (now (s .entry)) at r ⌝ }
-{
-    let e = row_end(s, at);
     let z = e - 1;
     if s[z] != b'\n' {
-        return Got {
-            line: Line::Bad,
-            next: e,
-        };
+        return Line::Bad;
     }
-    let line = read(s[at], &s[at..z]);
-    Got { line, next: e }
+    read(s[at], &s[at..z])
 }
 
-// The row at a position; past the end stands a bad line, and no row follows.
+// The row at a position; past the end stands a bad line, and no row follows. A line has no byte 10 before its end, so that the
+// end is first sought where a line with this letter can end; where what stands there is no line, the row is bad.
 pub fn next(s: &[u8], at: usize) -> Got
     ensures { λ r. ⌜ r .line ≡ lineAt (rows (drop at (now (s .entry)))) ⌝ }
     ensures { λ r. ⌜ rows (drop (r .next) (now (s .entry))) ≡ restOf (rows (drop at (now (s .entry)))) ⌝ }
@@ -508,11 +488,21 @@ pub fn next(s: &[u8], at: usize) -> Got
             next: at,
         };
     }
-    let g = good_row(s, at);
-    let line = g.line;
+    let k = least_length(s[at]);
+    if s.len() - at <= k {
+        return Got {
+            line: Line::Bad,
+            next: row_end(s, at),
+        };
+    }
+    let e = row_end(s, at + k);
+    let line = line_to(s, at, e);
     match line {
-        Line::Bad => any_row(s, at),
-        _ => g,
+        Line::Bad => Got {
+            line,
+            next: row_end(s, at),
+        },
+        _ => Got { line, next: e },
     }
 }
 

@@ -17,7 +17,7 @@ abbrev μ-loop : tie.MeasureT-loop
 returns : tie.Need-returns Inv-loop μ-loop
 returns c =
     let turn = c .before .before .before in
-    rest-is (turn .before .before .args .t .now) (turn .before .loop .i)
+    rest-is (turn .before .before .before .before .args .t .now) (turn .before .loop .i)
     ∙ sym (turn .before .loop .inv .1 ∙ trimmed-stop _ _ (turn .loop-test .taken) (c .before .if1 .taken))
 
 loop-again : tie.Need-loop-again Inv-loop μ-loop
@@ -27,7 +27,7 @@ loop-again c =
 
 returns-2 : tie.Need-returns-2 Inv-loop μ-loop
 returns-2 c =
-    rest-is (c .before .before .before .args .t .now) (c .before .before .loop .i)
+    rest-is (c .before .before .before .before .before .args .t .now) (c .before .before .loop .i)
     ∙ sym (c .before .before .loop .inv .1 ∙ trimmed-end _ _ (c .before .loop-test .left))
 
 pub trimmed-spec : {M : Type 1} → statement M
@@ -36,6 +36,7 @@ trimmed-spec =
     (tie.spec
     Inv-loop
     μ-loop
+    (λ c κs. search needs)
     (λ c. search needs)
     (λ c. search needs)
     (λ c. search needs)
