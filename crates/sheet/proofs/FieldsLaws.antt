@@ -6,11 +6,11 @@ use Prim.Native.Nat.{ℕ, _+_, _≤_, _<_}
 use native.Mathlib.Omega.{arith}
 use native.Mathlib.Numerals.{add-one}
 use borrow.Author.Tests.{eq-eqb, ne-eqb}
-use lib.ListN.{length, getD, take, drop, set, drop-of-length-le}
-use lib.Seq.{drop-cons, getD-take, length-take-le, take-suc-set}
+use lib.ListN.{length, getD, take, drop, set, drop-of-length-le, take-append-drop}
+use lib.Seq.{drop-cons, drop-append-le, getD-take, length-take-le, take-take, take-suc-set}
 use types.Run.{OneOf}
 use denote.Enum.Declared.{tagOf}
-use Rattle.text.specs.Bytes.{unit}
+use Rattle.text.specs.Bytes.{unit, either}
 use Rattle.row.proofs.Line.{the-type}
 use Rattle.row.specs.Rows.{rows, restOf, size}
 use Rattle.row.specs.Line.{lineAt, textAt}
@@ -23,6 +23,7 @@ use Rattle.tree.proofs.OtherLines.{never, not-a-field, not-parameter}
 use Rattle.tree.proofs.WalkLaws.{passed-map}
 use Rattle.tree.proofs.TailLaws.{Tail, tail-rest, tail-length, tail-size, leaves-passed, leaves-slot}
 use Rattle.tree.proofs.FieldLaws.{fields-here}
+use Rattle.tree.proofs.NodeLaws.{among-append}
 use Rattle.sheet.proofs.RoomLaws.{group-room}
 use Rattle.sheet.specs.Admission.{groupsAfter}
 use Rattle.row.specs.declared.Line.the-variants as line
@@ -49,6 +50,18 @@ module _ (ids : List ℕ) (count id : ℕ) (fits : count ≤ length ids) where
   pub seen-none : (i : ℕ) → count ≤ i → among id (drop i (take count ids)) ≡ false
   unfolding among
   seen-none i h = rw (drop-of-length-le (take count ids) {i = i} (omega (arith, cut)))
+
+  -- those up to a place j, where b says whether it is found, and those from there on
+  pub seen-parts :
+      (i j : ℕ) → i ≤ j → j ≤ count → (b : Bool) → b ≡ among id (drop i (take j ids))
+      → among id (drop i (take count ids)) ≡ either b (among id (drop j (take count ids)))
+  seen-parts i j h g b e =
+      let joined : take j ids ++ drop j (take count ids) ≡ take count ids = rw (← take-take j count ids g)
+      (take-append-drop j (take count ids)) in
+      let first : length (take j ids) ≡ j = length-take-le j ids (omega arith) in
+      ap (λ (x : List ℕ). among id (drop i x)) (sym joined)
+      ∙ ap (among id) (drop-append-le i (take j ids) (drop j (take count ids)) (omega arith))
+      ∙ rw (among-append id (drop i (take j ids)) (drop j (take count ids)), e)
 
 -- an id put after the first n
 pub pushed : (l : List ℕ) (n i : ℕ) → n < length l → take (n + 1) (set l n i) ≡ take n l ++ unit i

@@ -2,12 +2,12 @@
 use mathlib.Core.Path.{_≡_}
 use mathlib.Core.Bool.{true}
 use mathlib.Core.List.{List, _++_}
-use Prim.Native.Nat.{ℕ, _+_, _*_, _%_, _≤_}
+use Prim.Native.Nat.{ℕ, _+_, _*_, _%_, _≤_, _<_}
 use lib.ListN.{length, drop, take, getD}
 use Rattle.text.specs.Bytes.{Str}
 use Rattle.row.specs.Rows.{rows, size}
 use Rattle.tree.specs.Tree.{Node, Sheet}
-use Rattle.tree.specs.Reader.{Reading, got, no, Reader, mapR}
+use Rattle.tree.specs.Reader.{Rows, Reading, got, no, Reader, mapR}
 use Rattle.tree.specs.Read.{among, fieldsOf, groupIds, nodeOf, Admitted, sheet, refused}
 use Rattle.tree.specs.Walked.{passed, walked}
 use Rattle.tree.specs.Index.{On, Indexed}
@@ -16,6 +16,8 @@ use Rattle.tree.specs.declared.Walk.the-variants.{Next, Refused}
 use Rattle.sheet.specs.declared.Answer.{Answer}
 use Rattle.sheet.specs.declared.Answer.the-variants as answer
 use Rattle.sheet.specs.declared.Index.{Index}
+use Rattle.sheet.specs.declared.Turn.{Turn}
+use Rattle.sheet.specs.declared.Turn.the-variants as turn
 
 -- document 01's answer for what is admitted: a sheet, or the number and the line of its refusal
 abbrev pub verdict : Admitted → Answer
@@ -52,6 +54,19 @@ Room groups count left = 44 * count + left ≤ 44 * length groups + 43
 abbrev pub leftAfter : Str → Walk → ℕ
 leftAfter s (Next at) = size (rows (drop at s))
 leftAfter s (Refused k at) = 0
+
+-- one turn of the reading of fields, from rows rs on with these group ids seen: after a field it goes on with the ids held then,
+-- over fewer rows; at its end it is told
+abbrev pub Turned : Str → Rows → List ℕ → ℕ → List ℕ → List ℕ → Turn → Type 0
+Turned s rs seen count groups marks (turn.Field at n) =
+    (groupsAfter seen rs ≡ groupsAfter (take n groups) (rows (drop at s)))
+    × Room groups n (size (rows (drop at s)))
+    × Marked marks (take n groups)
+    × (length (rows (drop at s)) < length rs)
+Turned s rs seen count groups marks (turn.End w) =
+    (told s w (take count groups) ≡ groupsAfter seen rs)
+    × Room groups count (leftAfter s w)
+    × Marked marks (take count groups)
 
 -- a node's id, and the group ids seen after it
 abbrev pub seenAfter : List ℕ → Node → ℕ × List ℕ

@@ -9,7 +9,8 @@ ghost use Rattle.row.specs.Rows.{rows, size};
 ghost use Rattle.tree.specs.Reader.{got};
 ghost use Rattle.tree.specs.Read.{among, paramsOf, nodesOf, admitted};
 ghost use Rattle.tree.specs.Walked.{passed};
-ghost use Rattle.sheet.specs.Admission.{verdict, IndexOf, told, Marked, Room, groupsAfter, leftAfter, nodeAfter, NodesRead};
+ghost use Rattle.sheet.specs.Admission.{verdict, IndexOf, told, Marked, Room, groupsAfter, leftAfter, Turned, nodeAfter};
+ghost use Rattle.sheet.specs.Admission.{NodesRead};
 
 // The ids of the nodes and the positions of their N rows, in the sheet's order: the first `count` of each.
 pub struct Index {
@@ -35,6 +36,13 @@ struct Run {
     count: usize,
 }
 
+// What stands where a field may stand: a field, with the position after it and how many group ids are held then, or the end of
+// the walk over the fields.
+enum Turn {
+    Field { at: usize, count: usize },
+    End { walk: Walk },
+}
+
 // A walk over one node, its id, and how many group ids are held after it.
 struct NodeRun {
     walk: Walk,
@@ -48,19 +56,35 @@ struct IndexRun {
     index: Index,
 }
 
-// Whether an id is one of the first `count`.
-fn seen(ids: &[u64], count: usize, id: u64) -> bool
-    requires { ⌜ count ≤ length (now ids) ⌝ }
-    ensures { λ r. ⌜ r ≡ among id (take count (now (ids .entry))) ⌝ }
+// Whether an id is one of those from a place on, up to another.
+fn seen_between(ids: &[u64], from: usize, to: usize, id: u64) -> bool
+    requires { ⌜ to ≤ length (now ids) ⌝ }
+    ensures { λ r. ⌜ r ≡ among id (drop from (take to (now (ids .entry)))) ⌝ }
 {
-    let mut i = 0;
-    while i < count {
+    let mut i = from;
+    while i < to {
         if ids[i] == id {
             return true;
         }
         i += 1;
     }
     false
+}
+
+// Whether an id is one of the first `count`. They are searched 32 at a time, which the compiler writes out without a loop.
+fn seen(ids: &[u64], count: usize, id: u64) -> bool
+    requires { ⌜ count ≤ length (now ids) ⌝ }
+    ensures { λ r. ⌜ r ≡ among id (take count (now (ids .entry))) ⌝ }
+{
+    let whole = count - count % 32;
+    let mut i = 0;
+    while i < whole {
+        if seen_between(ids, i, i + 32, id) {
+            return true;
+        }
+        i += 32;
+    }
+    seen_between(ids, i, count, id)
 }
 
 // Whether a group id is one of the first `count`. Where its mark is 0 it is none of them, and no search is made.
@@ -98,6 +122,51 @@ pub fn params(s: &[u8], from: usize) -> usize
     }
 }
 
+// One field, whose row stands there: an F row with what belongs to it, or a G row, whose id is put after the first `count` of
+// `groups`, with its mark.
+fn field(s: &[u8], at: usize, groups: &mut [u64], marks: &mut [u8], count: usize) -> Turn
+    requires { ⌜ (length (now marks) ≡ 2048) × Room (now groups) count (size (rows (drop at (now s))))
+        × Marked (now marks) (take count (now groups)) ⌝ }
+    ensures { λ r. ⌜ Turned (now (s .entry)) (rows (drop at (now (s .entry)))) (take count (now (groups .entry))) count
+        (now (groups .exit)) (now (marks .exit)) r ⌝ }
+{
+    let g = row::next(s, at);
+    let l = g.line;
+    let e = g.next;
+    match l {
+        Line::Field {
+            offset: _,
+            discriminant: _,
+            explicit,
+            option: _,
+        } => match tree::slot(s, e, explicit) {
+            Walk::Next { at: q } => Turn::Field { at: q, count },
+            Walk::Refused { number, at: q } => Turn::End {
+                walk: Walk::Refused { number, at: q },
+            },
+        },
+        Line::Group {
+            id,
+            discriminant: _,
+        } => {
+            if known(groups, count, marks, id) {
+                return Turn::End {
+                    walk: Walk::Refused { number: 3, at },
+                };
+            }
+            groups[count] = id;
+            mark(marks, id);
+            Turn::Field {
+                at: e,
+                count: count + 1,
+            }
+        }
+        _ => Turn::End {
+            walk: Walk::Next { at },
+        },
+    }
+}
+
 // The fields of a node: F rows with what belongs to them, and G rows. The ids of all G rows before stand in `groups`, and
 // those of this node are put after them, with their marks. A G row has 44 bytes or more, so that there is room for all of them
 // where there is room for one in each 44 bytes.
@@ -112,48 +181,13 @@ fn fields(s: &[u8], from: usize, groups: &mut [u64], marks: &mut [u8], count: us
     let mut at = from;
     let mut n = count;
     loop {
-        let g = row::next(s, at);
-        let l = g.line;
-        let e = g.next;
-        match l {
-            Line::Field {
-                offset: _,
-                discriminant: _,
-                explicit,
-                option: _,
-            } => match tree::slot(s, e, explicit) {
-                Walk::Next { at: q } => {
-                    at = q;
-                    continue;
-                }
-                Walk::Refused { number, at: q } => {
-                    return Run {
-                        walk: Walk::Refused { number, at: q },
-                        count: n,
-                    };
-                }
-            },
-            Line::Group {
-                id,
-                discriminant: _,
-            } => {
-                if known(groups, n, marks, id) {
-                    return Run {
-                        walk: Walk::Refused { number: 3, at },
-                        count: n,
-                    };
-                }
-                groups[n] = id;
-                mark(marks, id);
-                n += 1;
-                at = e;
-                continue;
+        match field(s, at, groups, marks, n) {
+            Turn::Field { at: q, count: held } => {
+                at = q;
+                n = held;
             }
-            _ => {
-                return Run {
-                    walk: Walk::Next { at },
-                    count: n,
-                };
+            Turn::End { walk } => {
+                return Run { walk, count: n };
             }
         }
     }

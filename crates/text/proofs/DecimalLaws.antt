@@ -1,14 +1,14 @@
 -- Decimal text by its last digit: any fuel from the number on will do. Assumes nothing.
 use mathlib.Core.Path.{_≡_, refl, sym, ap, _∙_}
 use mathlib.Core.Bool.{Bool, true, false}
-use mathlib.Core.List.{List, _++_, append-assoc}
+use mathlib.Core.List.{List, _++_, append-assoc, append-nil}
 use Prim.Native.Nat.{ℕ, zero, suc, _+_, _-_, _*_, _/_, _%_, _^_, _≤_, _<_}
 use native.Mathlib.Nat.{pow-suc, div-lt-iff-lt-mul}
 use native.Mathlib.Numerals.{add-one}
 use native.Mathlib.Omega.{arith}
 use borrow.Author.Tests.{lt-ltb, le-ltb, ltb-true, ltb-false}
 use lib.Dec.{ltb, lit<}
-use lib.ListN.{length, drop, set, length-set}
+use lib.ListN.{length, drop, set, length-set, drop-of-length-le}
 use lib.Seq.{drop-cons, getD-set-same, drop-set-lt}
 use Rattle.text.specs.Bytes.{unit}
 use Rattle.text.specs.Decimal.{digits, decimal, signed}
@@ -31,7 +31,8 @@ fuel (suc k) (suc m) n h g = go (fuel k m (n / 10)) (ltb n 10) refl
     go f true e = digits-low (suc k) n (ltb-true n 10 e) ∙ sym (digits-low (suc m) n (ltb-true n 10 e))
     go f false e =
         let l = ltb-false n 10 e in
-        digits-high k n l ∙ ap (λ (x : List ℕ). x ++ unit (48 + n % 10)) (f (omega arith) (omega arith)) ∙ sym (digits-high m n l)
+        digits-high k n l ∙ ap (λ (x : List ℕ). x ++ unit (48 + n % 10)) (f (omega arith) (omega arith))
+        ∙ sym (digits-high m n l)
 
 pub decimal-low : (n : ℕ) → n < 10 → decimal n ≡ unit (48 + n)
 unfolding decimal
@@ -51,10 +52,24 @@ pub signed-high : (half n : ℕ) → half ≤ n → signed half n ≡ unit 45 ++
 unfolding signed
 signed-high half n h = rw (le-ltb _ _ h, signed)
 
--- Digits found from the last one on: ds holds those found from place i + 1 on, and left is the number that is left to write.
+-- Digits found from the last one on: ds holds those found from place i + 1 on, and left is the number that is left to write,
+-- with at most as many digits as there are places.
+pub record Found (n : ℕ) (ds : List ℕ) (i left : ℕ) : Type 0 where
+  pub place : i ≤ 19
+  pub size : length ds ≡ 20
+  pub few : left < 10 ^ (i + 1)
+  pub text : decimal n ≡ decimal left ++ drop (i + 1) ds
+
+pub found-none : (n : ℕ) (ds : List ℕ) → length ds ≡ 20 → n < 2 ^ 64 → Found n ds 19 n
+found-none n ds h b = record {
+  place = omega arith;
+  size = h;
+  few = omega arith;
+  text = rw (drop-of-length-le ds {i = 20} (omega arith)) (sym (append-nil (decimal n)));
+}
 
 -- a number of two digits or more has one digit fewer without its last
-pub fewer : (i left : ℕ) → 10 ≤ left → left < 10 ^ (i + 1) → (1 ≤ i) × (left / 10 < 10 ^ (i - 1 + 1))
+fewer : (i left : ℕ) → 10 ≤ left → left < 10 ^ (i + 1) → (1 ≤ i) × (left / 10 < 10 ^ (i - 1 + 1))
 fewer zero left h g = let z : ⊥ = omega arith in absurd z
 fewer (suc i) left h g =
     let e : suc i - 1 + 1 ≡ suc i = omega arith in
@@ -62,19 +77,39 @@ fewer (suc i) left h g =
     (omega arith, rw e (div-lt-iff-lt-mul (lit< tt) .1 (rw f at g)))
 
 -- the list from a place on, once that place is set
-found : (ds : List ℕ) (i d : ℕ) → i < length ds → drop i (set ds i d) ≡ unit d ++ drop (i + 1) ds
-found ds i d h =
+from-set : (ds : List ℕ) (i d : ℕ) → i < length ds → drop i (set ds i d) ≡ unit d ++ drop (i + 1) ds
+from-set ds i d h =
     drop-cons (set ds i d) i 0 (rw length-set h)
     ∙ rw (getD-set-same ds i d 0 h, drop-set-lt (suc i) ds i d (omega arith), add-one)
 
-pub last-digit : (n left i : ℕ) (ds : List ℕ) → i < length ds → 1 ≤ i → 10 ≤ left
-    → decimal n ≡ decimal left ++ drop (i + 1) ds
-    → decimal n ≡ decimal (left / 10) ++ drop (i - 1 + 1) (set ds i (48 + left % 10))
-last-digit n left i ds h g k e =
-    let f : i - 1 + 1 ≡ i = omega arith in
-    rw (f, found ds i (48 + left % 10) h)
-    (e ∙ rw (decimal-high left k) (append-assoc (decimal (left / 10)) (unit (48 + left % 10)) (drop (i + 1) ds)))
+module _ {n : ℕ} {ds : List ℕ} {i left : ℕ} (f : Found n ds i left) where
+  -- a place is left before the one that is written
+  pub place-left : 10 ≤ left → 1 ≤ i
+  place-left h = fewer i left h (f .few) .0
 
-pub first-digit : (n left i : ℕ) (ds : List ℕ) → i < length ds → left < 10
-    → decimal n ≡ decimal left ++ drop (i + 1) ds → decimal n ≡ drop i (set ds i (48 + left))
-first-digit n left i ds h k e = rw (found ds i (48 + left) h) (e ∙ rw (decimal-low left k))
+  pub last-digit : 10 ≤ left → Found n (set ds i (48 + left % 10)) (i - 1) (left / 10)
+  last-digit h =
+      let e : i - 1 + 1 ≡ i = omega (arith, place-left h) in
+      record {
+        place = omega arith;
+        size = length-set ds i (48 + left % 10) ∙ f .size;
+        few = fewer i left h (f .few) .1;
+        text = rw (e, from-set ds i (48 + left % 10) (omega arith))
+            (f .text
+            ∙ rw (decimal-high left h) (append-assoc (decimal (left / 10)) (unit (48 + left % 10)) (drop (i + 1) ds)));
+      }
+
+  pub first-digit : left < 10 → decimal n ≡ drop i (set ds i (48 + left))
+  first-digit h = rw (from-set ds i (48 + left) (omega arith)) (f .text ∙ rw (decimal-low left h))
+
+module _ {n : ℕ} {ds : List ℕ} {i left : ℕ} (f : Found n ds i left) (h : 100 ≤ left) where
+  pub places-left : 2 ≤ i
+  places-left = omega (arith, place-left (last-digit f (omega arith)) (omega arith))
+
+  pub last-digits : Found n (set (set ds i (48 + left % 100 % 10)) (i - 1) (48 + left % 100 / 10)) (i - 2) (left / 100)
+  last-digits =
+      let a : left % 100 % 10 ≡ left % 10 = omega arith in
+      let d : left / 100 ≡ left / 10 / 10 = omega arith in
+      let b : left % 100 / 10 ≡ left / 10 % 10 = omega arith in
+      let e : i - 2 ≡ i - 1 - 1 = omega arith in
+      rw (a, b, d, e) (last-digit (last-digit f (omega arith)) (omega arith))

@@ -1,4 +1,5 @@
--- Laws of writing: one text after another, lengths, and what is left of a loop's text. By induction on the text. Assumes nothing.
+-- Laws of writing: one text after another, lengths, and what is left of a loop's text. By induction on the text. Assumes
+-- nothing.
 use mathlib.Core.Path.{_≡_, refl, sym, _∙_}
 use mathlib.Core.List.{List, [], _∷_, _++_}
 use Prim.Native.Nat.{ℕ, _+_, _<_}

@@ -96,7 +96,7 @@ impl Text {
         t
     }
 
-    // n in decimal: the last digit is found first
+    // n in decimal: the last digits are found first, two in a turn
     pub fn number(self, buf: &mut [u8], n: u64) -> Text
         ensures { λ r. ⌜ Wrote (now (buf .entry)) self (decimal n) (now (buf .exit)) r ⌝ }
     {
@@ -106,7 +106,14 @@ impl Text {
         let mut digits = [0u8; 20];
         let mut i = 19;
         let mut left = n;
-        while left >= 10 {
+        while left >= 100 {
+            let pair = left % 100;
+            digits[i] = b'0' + (pair % 10) as u8;
+            digits[i - 1] = b'0' + (pair / 10) as u8;
+            i -= 2;
+            left = left / 100;
+        }
+        if left >= 10 {
             digits[i] = b'0' + (left % 10) as u8;
             i -= 1;
             left = left / 10;

@@ -32,7 +32,7 @@ either-false : (a b : Bool) → either a b ≡ false → (a ≡ false) × (b ≡
 either-false true b e = (e, cc)
 either-false false b e = (refl, e)
 
-among-append : (i : ℕ) (a b : List ℕ) → among i (a ++ b) ≡ either (among i a) (among i b)
+pub among-append : (i : ℕ) (a b : List ℕ) → among i (a ++ b) ≡ either (among i a) (among i b)
 unfolding among
 among-append i [] b = refl
 among-append i (x ∷ a) b = go (among-append i a b) (eqb x i)

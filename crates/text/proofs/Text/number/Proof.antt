@@ -1,20 +1,19 @@
--- `text::Text::number` meets its contract. The loop's invariant: the digits that are left to write, and those found so far, are
--- the number's; and what is left has at most as many digits as there are places. Assumes nothing.
+-- `text::Text::number` meets its contract. The loop's invariant (`Found`): the digits that are left to write, and those found so
+-- far, are the number's; and what is left has at most as many digits as there are places. Assumes nothing.
 use borrow.Author.Needs.{needs}
-use mathlib.Core.Path.{_≡_, refl, sym, _∙_}
-use mathlib.Core.List.{_++_, append-nil}
-use Prim.Native.Nat.{_+_, _-_, _/_, _^_, _≤_, _<_}
+use mathlib.Core.Path.{refl, sym, _∙_}
+use mathlib.Core.Logic.{⊎-elim}
+use Prim.Native.Nat.{_+_, _-_, _<_}
 use native.Mathlib.Omega.{arith}
-use lib.ListN.{length, drop, set, length-drop, length-set}
+use lib.ListN.{drop, set, length-drop, length-set}
 use lib.Seq.{take-all}
-use Rattle.text.specs.Decimal.{decimal}
-use Rattle.text.proofs.DecimalLaws.{decimal-low, fewer, last-digit, first-digit}
+use Rattle.text.proofs.DecimalLaws.{decimal-low, Found, found-none, place-left, last-digit, first-digit}
+use Rattle.text.proofs.DecimalLaws.{places-left, last-digits}
 use Rattle.text.proofs.Text.number.Statement.{statement}
 use Rattle.text.proofs.Text.number.Tie as tie
 
 abbrev Inv-loop : tie.InvT-loop
-Inv-loop self buf n digits₀ i₀ left₀ digits i left =
-    (i ≤ 19) × (length digits ≡ 20) × (left < 10 ^ (i + 1)) × (decimal n ≡ decimal left ++ drop (i + 1) digits)
+Inv-loop self buf n digits₀ i₀ left₀ digits i left = Found n digits i left
 
 abbrev μ-loop : tie.MeasureT-loop
 μ-loop self buf n digits₀ i₀ left₀ digits i left = i
@@ -23,41 +22,58 @@ returns : tie.Need-returns Inv-loop μ-loop
 returns c = rw (decimal-low _ (c .before .before .before .before .if1 .taken)) (c .before .before .byte .ensures)
 
 loop-holds : tie.Need-loop-holds Inv-loop μ-loop
-loop-holds c = (omega arith, refl, omega arith, sym (append-nil _))
+loop-holds c = found-none _ _ refl (omega arith)
 
--- in a turn a place is left before the one that is written
-room : (c : tie.In-loop Inv-loop μ-loop) → (1 ≤ c .before .loop .i)
-    × (c .before .loop .left / 10 < 10 ^ (c .before .loop .i - 1 + 1))
-room c = fewer _ _ (c .loop-test .taken) (c .before .loop .inv .2)
+sub-digits : tie.Need-sub-digits Inv-loop μ-loop
+sub-digits c = omega (arith, places-left (c .before .loop .inv) (c .loop-test .taken))
 
 sub-i : tie.Need-sub-i Inv-loop μ-loop
-sub-i c = omega (arith, room c .0)
+sub-i c = omega (arith, places-left (c .before .loop .inv) (c .loop-test .taken))
 
 loop-less : tie.Need-loop-less Inv-loop μ-loop
-loop-less c = omega (arith, room c .0)
+loop-less c = omega (arith, places-left (c .before .loop .inv) (c .loop-test .taken))
 
 loop-again : tie.Need-loop-again Inv-loop μ-loop
-loop-again c =
-    let l = c .before .loop in (
-      omega arith,
-      simp length-set (l .inv .1),
-      room c .1,
-      last-digit _ _ _ _ (omega arith) (room c .0) (c .loop-test .taken)
-          (l .inv .3),
-    )
+loop-again c = last-digits (c .before .loop .inv) (c .loop-test .taken)
+
+sub-i-2 : tie.Need-sub-i-2 Inv-loop μ-loop
+sub-i-2 c = omega (arith, place-left (c .before .before .loop .inv) (c .if2 .taken))
+
+-- where the arms meet, one digit is left to write
+one-left : (c : tie.Joined2 Inv-loop μ-loop)
+    → Found (c .before .before .before .before .before .args .n) (c .if2 .digits) (c .if2 .i) (c .if2 .left)
+    × (c .if2 .left < 10)
+one-left c = ⊎-elim
+    (λ w. rw (w .1, w .2, w .3) (last-digit (c .before .before .loop .inv) (w .0 .taken), omega arith))
+    (λ w. rw (w .1, w .2, w .3) (c .before .before .loop .inv, omega arith))
+    (c .if2 .came)
+
+cast-digits-4 : tie.Need-cast-digits-4 Inv-loop μ-loop
+cast-digits-4 c = omega (arith, one-left (c .before) .1)
+
+add-digits-4 : tie.Need-add-digits-4 Inv-loop μ-loop
+add-digits-4 c = omega (arith, one-left (c .before) .1)
+
+array-write-digits-4 : tie.Need-array-write-digits-4 Inv-loop μ-loop
+array-write-digits-4 c = omega (arith, one-left (c .before) .0)
+
+sub-bytes : tie.Need-sub-bytes Inv-loop μ-loop
+sub-bytes c = omega (arith, one-left (c .before .before .before) .0)
+
+part-bytes-start : tie.Need-part-bytes-start Inv-loop μ-loop
+part-bytes-start c = omega (arith, one-left (c .before .before .before .before) .0)
 
 part-bytes-end : tie.Need-part-bytes-end Inv-loop μ-loop
-part-bytes-end c = simp length-set (omega arith)
+part-bytes-end c = simp length-set (omega (arith, one-left (c .before .before .before .before) .0))
 
 returns-2 : tie.Need-returns-2 Inv-loop μ-loop
 returns-2 c =
     let w = c .before .before in
-    let e = w .before .before .before .before in
-    let l = e .before .loop in
-    let d = first-digit _ (l .left) (l .i) (l .digits) (omega arith) (e .loop-test .left) (l .inv .3) in
-    let whole = take-all (20 - l .i) (drop (l .i) (set (l .digits) (l .i) (48 + l .left)))
-    (simp (length-drop, length-set) (omega arith)) in
-    rw (d ∙ sym whole) (w .bytes .ensures)
+    let e = w .before .before .before .before .before .before in
+    let f = one-left e in
+    let whole = take-all (20 - e .if2 .i) (drop (e .if2 .i) (set (e .if2 .digits) (e .if2 .i) (48 + e .if2 .left)))
+    (simp (length-drop, length-set) (omega (arith, f .0))) in
+    rw (first-digit (f .0) (f .1) ∙ sym whole) (w .bytes .ensures)
 
 pub number-spec : {M : Type 1} → statement M
 number-spec =
@@ -74,14 +90,22 @@ number-spec =
     (λ c. search needs)
     (λ c. search needs)
     (λ c. search needs)
+    (λ c. search needs)
+    (λ c. search needs)
+    sub-digits
+    (λ c. search needs)
     sub-i
     loop-less
     loop-again
     (λ c. search needs)
     (λ c. search needs)
     (λ c. search needs)
-    (λ c. search needs)
-    (λ c. search needs)
+    sub-i-2
+    cast-digits-4
+    add-digits-4
+    array-write-digits-4
+    sub-bytes
+    part-bytes-start
     part-bytes-end
     (λ c κs. search needs)
     (λ c. search needs)
