@@ -10,6 +10,7 @@ use Rattle.text.specs.Bytes.{cond, both, either, unit}
 use Rattle.tree.specs.Tree.{Arm, slot, group}
 use Rattle.tree.specs.Read.{among, overlap, groupId}
 use Rattle.tree.specs.WellFormed.{distinct}
+use Rattle.tree.proofs.NodeLaws.{among-append}
 
 -- whether each number is new to those seen and to those in front of it
 unfoldable pub fresh : List ℕ → List ℕ → Bool
@@ -41,17 +42,6 @@ fresh-arm seen (group i) = go (among i seen)
     go : (t : Bool) → both (cond t false true) true ≡ cond (either t false) false true
     go true = refl
     go false = refl
-
-among-append : (i : ℕ) (a b : List ℕ) → among i (a ++ b) ≡ either (among i a) (among i b)
-unfolding among
-among-append i [] b = refl
-among-append i (x ∷ a) b = go (among-append i a b) (eqb x i)
-  where
-    go :
-        among i (a ++ b) ≡ either (among i a) (among i b) → (t : Bool)
-        → either t (among i (a ++ b)) ≡ either (either t (among i a)) (among i b)
-    go h true = refl
-    go h false = h
 
 eqb-sym : (i x : ℕ) → eqb i x ≡ eqb x i
 eqb-sym i x = go (eqb x i) refl

@@ -104,10 +104,6 @@ pub bool-at : (bs : List ℕ) (o : BitOffset) → o .0 / 8 < length bs
     → getD (sectionBits bs) (from (boolAt o)) false ≡ eqb (getD bs (o .0 / 8) 0 / 2 ^ (o .0 % 8) % 2) 1
 bool-at bs o h = bit-of-byte bs (o .0 / 8) (o .0 % 8) h (mod-lt (o .0) (zero-lt-suc 7))
 
--- a Bool's first and only bit is the one that its offset counts to
-pub bool-from : (o : BitOffset) → from (boolAt o) ≡ o .0
-bool-from o = div-add-mod' (o .0) 8
-
 -- ---- which bytes a number is
 
 of-append : (l m : List Bool) → ofBits (l ++ m) ≡ ofBits l + 2 ^ length l * ofBits m

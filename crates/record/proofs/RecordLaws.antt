@@ -93,48 +93,6 @@ pub get-other : (p : Place) (v m : ℕ) (r : Record) → Holds p r → (q : Plac
     → get q k (after p v m r) ≡ get q k r
 get-other p v m r h q k c = get-ext q k r (after p v m r) (after-length p v m r h) (λ b x. after-out p v m r h b (λ y. c b y x))
 
--- ---- two sets
-
--- two records with the same bits and pointers are the same
-pub by-bits : (r s : Record) → length (r .bits) ≡ length (s .bits) → r .pointers ≡ s .pointers
-    → ((b : ℕ) → getD (r .bits) b false ≡ getD (s .bits) b false) → r ≡ s
-by-bits r s e f g = both (ext-getD false (r .bits) (s .bits) e (λ b _. g b)) f
-  where
-    both : r .bits ≡ s .bits → r .pointers ≡ s .pointers → r ≡ s
-    both x y = λ i. record { bits = x i; pointers = y i }
-
--- sets of places with no bit in common commute
-module _ (p q : Place) (v m w k : ℕ) (r : Record) (c : Clear p q) (hp : Holds p r) (hq : Holds q r) where
-  hp′ : Holds p (after q w k r)
-  hp′ = rw (after-length q w k r hq) hp
-
-  hq′ : Holds q (after p v m r)
-  hq′ = rw (after-length p v m r hp) hq
-
-  pub after-comm : after q w k (after p v m r) ≡ after p v m (after q w k r)
-  after-comm =
-      by-bits (after q w k (after p v m r)) (after p v m (after q w k r))
-      (after-length q w k (after p v m r) hq′ ∙ after-length p v m r hp
-      ∙ sym (after-length p v m (after q w k r) hp′ ∙ after-length q w k r hq))
-      (unfold after in refl)
-      (λ b. go b (where? (from p) (size p) b) (where? (from q) (size q) b))
-    where
-      out : (t : Place) (b : ℕ) → (b < from t) ⊎ (from t + size t ≤ b) → Has t b → ⊥
-      out t b (inl x) y = omega arith
-      out t b (inr x) y = omega arith
-
-      go : (b : ℕ) → Has p b ⊎ ((b < from p) ⊎ (from p + size p ≤ b)) → Has q b ⊎ ((b < from q) ⊎ (from q + size q ≤ b))
-          → getD (after q w k (after p v m r) .bits) b false ≡ getD (after p v m (after q w k r) .bits) b false
-      go b (inl x) _ =
-          after-out q w k (after p v m r) hq′ b (λ y. c b x y) ∙ after-at p v m r hp b x
-          ∙ sym (after-at p v m (after q w k r) hp′ b x)
-      go b (inr x) (inl y) =
-          after-at q w k (after p v m r) hq′ b y ∙ sym (after-at q w k r hq b y)
-          ∙ sym (after-out p v m (after q w k r) hp′ b (out p b x))
-      go b (inr x) (inr y) =
-          after-out q w k (after p v m r) hq′ b (out q b y) ∙ after-out p v m r hp b (out p b x)
-          ∙ sym (after-out q w k r hq b (out q b y)) ∙ sym (after-out p v m (after q w k r) hp′ b (out p b x))
-
 -- ---- clears
 
 -- the record with pointer i null

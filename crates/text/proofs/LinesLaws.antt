@@ -35,12 +35,6 @@ pub stringify-none : (ft : FormattedText) → toLines ft 0 ≡ [] → stringify 
 unfolding stringify join
 stringify-none ft e = rw e
 
--- a branch: its first tree's lines, then those of the trees after it
-pub ended-branch : (ft : FormattedText) (fts : FormattedTexts) (n : ℕ)
-    → ended (flatMap (ft & fts) n) ≡ ended (toLines ft n) ++ ended (flatMap fts n)
-unfolding flatMap
-ended-branch ft fts n = ended-append (toLines ft n) (flatMap fts n)
-
 -- an indent is a step, and what is left of it
 pub spaces-step : (n : ℕ) → 0 < n → spaces (n * 4) ≡ spaces 4 ++ spaces ((n - 1) * 4)
 spaces-step n h =

@@ -69,20 +69,6 @@ not-field (Value a b) y z h = refl
 not-field (Word a) y z h = refl
 not-field Bad y z h = refl
 
-pub not-group : {A : Type 0} (l : Line) (y : (ℕ → ℕ → A)) (z : A) → OneOf (0 ∷ 1 ∷ 2 ∷ 3 ∷ 5 ∷ 6 ∷ 7 ∷ 8 ∷ 9 ∷ 10 ∷ [])
-    (tagOf the-type l) → asGroup l y z ≡ z
-not-group Root y z h = refl
-not-group (Node a b c d e f g) y z h = refl
-not-group Parameter y z h = refl
-not-group (Field a b c d) y z h = refl
-not-group (Group a b) y z h = absurd (miss (0 ∷ 1 ∷ 2 ∷ 3 ∷ 5 ∷ 6 ∷ 7 ∷ 8 ∷ 9 ∷ 10 ∷ []) 4 tt h)
-not-group (Typ a b c d) y z h = refl
-not-group (Scope a b c) y z h = refl
-not-group Unbound y z h = refl
-not-group (Value a b) y z h = refl
-not-group (Word a) y z h = refl
-not-group Bad y z h = refl
-
 pub not-type : {A : Type 0} (l : Line) (y : (ℕ → ℕ → ℕ → ℕ → A)) (z : A) → OneOf (0 ∷ 1 ∷ 2 ∷ 3 ∷ 4 ∷ 6 ∷ 7 ∷ 8 ∷ 9 ∷ 10 ∷ [])
     (tagOf the-type l) → asType l y z ≡ z
 not-type Root y z h = refl

@@ -100,26 +100,6 @@ module _ {A : Type 0} (rs : Rows) (other : Reader A) (o : Left rs other) where
   after : (f : Reader A) → ((ts : Rows) → Left ts f) → Leaves rs (f (restOf rs))
   after f h = leaves-on (tail-rest rs) (h (restOf rs))
 
-  on-field : (f : ℕ → ℕ → ℕ → ℕ → Str → Reader A) → ((o d e q : ℕ) (name : Str) (ts : Rows) → Left ts (f o d e q name))
-      → Left rs (onField f other)
-  on-field f h =
-      leaves-cases rs
-      other (λ _ _ _ _ _ _ _. other) other (λ o d e q rs. f o d e q (textAt rs) (restOf rs)) (λ _ _. other) (λ _ _ _ _. other)
-      (λ _ _ _. other) other (λ _ _. other) (λ _. other) other
-      o (λ _ _ _ _ _ _ _. o) o (λ o d e q. after (f o d e q (textAt rs)) (h o d e q (textAt rs))) (λ _ _. o) (λ _ _ _ _. o)
-      (λ _ _ _. o) o (λ _ _. o) (λ _. o) o
-      (lineAt rs)
-
-  on-group : (f : ℕ → ℕ → Str → Reader A) → ((i d : ℕ) (name : Str) (ts : Rows) → Left ts (f i d name)) → Left rs
-      (onGroup f other)
-  on-group f h =
-      leaves-cases rs
-      other (λ _ _ _ _ _ _ _. other) other (λ _ _ _ _. other) (λ i d rs. f i d (textAt rs) (restOf rs)) (λ _ _ _ _. other)
-      (λ _ _ _. other) other (λ _ _. other) (λ _. other) other
-      o (λ _ _ _ _ _ _ _. o) o (λ _ _ _ _. o) (λ i d. after (f i d (textAt rs)) (h i d (textAt rs))) (λ _ _ _ _. o)
-      (λ _ _ _. o) o (λ _ _. o) (λ _. o) o
-      (lineAt rs)
-
   on-type : (f : ℕ → ℕ → ℕ → ℕ → Reader A) → ((k a b c : ℕ) (ts : Rows) → Left ts (f k a b c)) → Left rs (onType f other)
   on-type f h =
       leaves-cases rs

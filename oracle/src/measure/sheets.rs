@@ -66,7 +66,7 @@ fn groups(count: usize) -> Vec<Node> {
     vec![(0..count as u64).fold(node(1, 0, "bed", &[]), |node, id| node.group(group("g", 1_000_000 + id)))]
 }
 
-/// Groups whose ids all fall on one of the 8,192 marks by which `sheet::known` tells new ids.
+/// Groups whose ids all fall on one of the 2,048 marks by which `sheet::known` tells new ids.
 fn groups_one_mark(count: usize) -> Vec<Node> {
     vec![(1..=count as u64).fold(node(1, 0, "bed", &[]), |node, id| node.group(group("g", id * 8_192)))]
 }
