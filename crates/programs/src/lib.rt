@@ -1,9 +1,10 @@
 // What the programs share: the lines and sheets of their input, and how much of a buffer a text state has filled.
 use text::Text;
 ghost use mathlib.Core.Path.{_≡_};
-ghost use Prim.Native.Nat.{_≤_, _<_, min};
+ghost use Prim.Native.Nat.{_+_, _≤_, min, max};
 ghost use lib.ListN.{length};
 ghost use Rattle.io.specs.Counts.{Counts};
+ghost use Rattle.programs.specs.Input.{lineEnd, digitOf, numberOf, sheetAfter};
 
 // Where a sheet starts and ends among others.
 pub struct Sheet {
@@ -11,10 +12,10 @@ pub struct Sheet {
     pub end: usize,
 }
 
-// The first byte 10 from a place on, or the end.
+// The first byte 10 from a place on, or the end; a place past the end as it is.
 pub fn line_end(s: &[u8], from: usize) -> usize
-    requires { ⌜ from ≤ length (now s) ⌝ }
-    ensures { λ r. ⌜ (from ≤ r) × (r ≤ length (now (s .entry))) ⌝ }
+    ensures end { λ r. ⌜ r ≡ lineEnd (now (s .entry)) from ⌝ }
+    ensures within { λ r. ⌜ (from ≤ r) × (r ≤ max from (length (now (s .entry)))) ⌝ }
 {
     let mut at = from;
     while at < s.len() {
@@ -28,7 +29,7 @@ pub fn line_end(s: &[u8], from: usize) -> usize
 
 // What a decimal digit counts; 0 for any other byte.
 fn digit(b: u8) -> usize
-    ensures { λ r. ⌜ r ≤ 9 ⌝ }
+    ensures { λ r. ⌜ r ≡ digitOf b ⌝ }
 {
     match b {
         b'0'..=b'9' => (b - b'0') as usize,
@@ -36,9 +37,9 @@ fn digit(b: u8) -> usize
     }
 }
 
-// The number of the last digits, below ten million.
+// The number of the last seven digits; a byte that is no digit counts as 0.
 fn number(digits: &[u8]) -> usize
-    ensures { λ r. ⌜ r ≤ 9999999 ⌝ }
+    ensures { λ r. ⌜ r ≡ numberOf (now (digits .entry)) ⌝ }
 {
     let mut n: usize = 0;
     let mut i = 0;
@@ -50,18 +51,20 @@ fn number(digits: &[u8]) -> usize
 }
 
 // The sheet after the line at a place, which has the sheet's length in decimal; all that is left where that is less.
+// From a place inside the input it ends past that place, and not past the input.
 pub fn next_sheet(s: &[u8], from: usize) -> Sheet
-    requires { ⌜ from < length (now s) ⌝ }
-    ensures { λ r. ⌜ (from < r .end) × (r .start ≤ r .end) × (r .end ≤ length (now (s .entry))) ⌝ }
+    ensures sheet { λ r. ⌜ r ≡ sheetAfter (now (s .entry)) from ⌝ }
+    ensures within { λ r. ⌜ (min (from + 1) (length (now (s .entry))) ≤ r .end) × (r .start ≤ r .end)
+        × (r .end ≤ max from (length (now (s .entry)))) ⌝ }
 {
     let line = line_end(s, from);
-    let size = number(&s[from..line]);
     if s.len() <= line {
         return Sheet {
             start: line,
             end: line,
         };
     }
+    let size = number(&s[from..line]);
     let start = line + 1;
     if size < s.len() - start {
         return Sheet {

@@ -23,6 +23,7 @@ use record::Set;
 use record::Test;
 use record::Width;
 ghost use mathlib.Core.Path.{_≡_};
+ghost use lib.ListN.{set};
 ghost use Rattle.record.specs.Bits.{bit, sectionBits, flags};
 ghost use Rattle.record.specs.Record.{tagIs, nullFlag, clearFlag};
 ghost use Rattle.record_exports.specs.Boundary.{getBool, putBool, elements, pointerAt, widthOf, getOf};
@@ -208,8 +209,9 @@ pub extern "C" fn kitlubas_is_pointer_null(pointers: &[u8], offset: u32) -> u8
 
 #[no_mangle]
 pub extern "C" fn kitlubas_clear(pointers: &mut [u8], offset: u32) -> bool
-    ensures { λ r. ⌜ Left (clearFlag (pointerAt offset) (flags (now (pointers .entry))))
+    ensures answer { λ r. ⌜ Left (clearFlag (pointerAt offset) (flags (now (pointers .entry))))
         (flags (now (pointers .entry))) (flags (now (pointers .exit))) r ⌝ }
+    ensures bytes { λ r. ⌜ now (pointers .exit) ≡ set (now (pointers .entry)) offset 0 ⌝ }
 {
     done(record::clear(pointers, PointerOffset(offset)))
 }
