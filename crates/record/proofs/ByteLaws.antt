@@ -79,7 +79,7 @@ write-section k new bs h =
     (sym (section-append (take k bs) (new ++ drop (k + length new) bs)
     ∙ ap (λ (l : List Bool). sectionBits (take k bs) ++ l) (section-append new (drop (k + length new) bs))))
 
--- a section's bits determine its bytes
+-- a section's bits determine its bytes, so that a contract that says the bits of lent bytes says the bytes
 pub section-injective : (a b : List ℕ) → Bytes a → Bytes b → sectionBits a ≡ sectionBits b → a ≡ b
 section-injective [] [] ha hb e = refl
 section-injective [] (y ∷ b) ha hb e = let z : _≡_ {A = ℕ} 0 1 = cc in absurd (omega arith)
