@@ -187,7 +187,7 @@ fn own_refusal(
     Refusal::Number(8)
 }
 
-// The first refusal of so many bindings.
+// The first refusal of so many bindings. The last of them need not be passed over.
 fn binds_refusal(
     s: &[u8],
     ids: &[u64],
@@ -205,6 +205,9 @@ fn binds_refusal(
         let Refusal::None = first else {
             return first;
         };
+        if n == 1 {
+            return Refusal::None;
+        }
         at = find::past(s, at, 1);
         n -= 1;
     }

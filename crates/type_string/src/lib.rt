@@ -192,7 +192,7 @@ fn write_own(
     write_binds(root, s, ids, ats, g.next, count, left, p, buf)
 }
 
-// So many bindings.
+// So many bindings. The last of them need not be passed over.
 fn write_binds(
     root: &[u8],
     s: &[u8],
@@ -215,6 +215,9 @@ fn write_binds(
         let t = t.byte(buf, p.sep);
         let t = write_binding(root, s, ids, ats, at, left, t, buf);
         p = Arguments { text: t, sep: b',' };
+        if n == 1 {
+            return p;
+        }
         at = find::past(s, at, 1);
         n -= 1;
     }

@@ -271,16 +271,24 @@ binds-refusal-returns t c =
     (law.binds-stop (sheetOf root ns) _ _ _ _ (c3 .loop-test .taken) refl _ ((c2 .binding-refusal .ensures) root ns x) _
     (c .enum-told2 .given .1))
 
-binds-refusal-loop-again : (t : ℕ) → binds-refusal-lts.Need-loop-again (binds-refusal-calls t) (binds-refusal-at t)
-    binds-refusal.Post binds-refusal-Inv-loop binds-refusal-μ-loop
-binds-refusal-loop-again t c =
-    let c1 = c .before in let c3 = c1 .before .before in let c4 = c3 .before in let c5 = c4 .before in
-    λ root ns x r h. (c5 .loop .inv) root ns x r (law.binds-on (sheetOf root ns) _ _ _ _ (c4 .loop-test .taken)
-    (c .past .ensures) _ ((c3 .binding-refusal .ensures) root ns x) r (c1 .enum-told .given .1) h)
-
 binds-refusal-returns-2 : (t : ℕ) → binds-refusal-lts.Need-returns-2 (binds-refusal-calls t) (binds-refusal-at t)
     binds-refusal.Post binds-refusal-Inv-loop binds-refusal-μ-loop
 binds-refusal-returns-2 t c =
+    let c1 = c .before in let c3 = c1 .before .before in let c4 = c3 .before in let c5 = c4 .before in
+    λ root ns x. (c5 .loop .inv) root ns x None (law.binds-on (sheetOf root ns) _ _ _ _ (c4 .loop-test .taken) refl _
+    ((c3 .binding-refusal .ensures) root ns x) None (c1 .enum-told .given .1)
+    (law.binds-none (sheetOf root ns) _ (c5 .loop .n - 1) _ (omega (arith, (c .if1 .taken)))))
+
+binds-refusal-loop-again : (t : ℕ) → binds-refusal-lts.Need-loop-again (binds-refusal-calls t) (binds-refusal-at t)
+    binds-refusal.Post binds-refusal-Inv-loop binds-refusal-μ-loop
+binds-refusal-loop-again t c =
+    let c2 = c .before .before in let c4 = c2 .before .before in let c5 = c4 .before in let c6 = c5 .before in
+    λ root ns x r h. (c6 .loop .inv) root ns x r (law.binds-on (sheetOf root ns) _ _ _ _ (c5 .loop-test .taken)
+    (c .past .ensures) _ ((c4 .binding-refusal .ensures) root ns x) r (c2 .enum-told .given .1) h)
+
+binds-refusal-returns-3 : (t : ℕ) → binds-refusal-lts.Need-returns-3 (binds-refusal-calls t) (binds-refusal-at t)
+    binds-refusal.Post binds-refusal-Inv-loop binds-refusal-μ-loop
+binds-refusal-returns-3 t c =
     λ root ns x. (c .before .loop .inv) root ns x None (law.binds-none (sheetOf root ns) _ _ _ (c .loop-test .left))
 
 abbrev brand-refusal-Inv-loop : brand-refusal-lts.InvT-loop
@@ -534,11 +542,12 @@ pub +binding-refusal+binds-refusal+brand-refusal+list-refusal+own-refusal+refusa
     (λ c. search needs)
     (λ c. search needs)
     (binds-refusal-returns t)
+    (binds-refusal-returns-2 t)
     (λ c κs. search needs)
     (λ c. search needs)
     (λ c. search needs)
     (binds-refusal-loop-again t)
-    (binds-refusal-returns-2 t))
+    (binds-refusal-returns-3 t))
     (λ t. brand-refusal-lts.spec (brand-refusal-calls t)
     (brand-refusal-at t)
     brand-refusal.Post

@@ -338,21 +338,31 @@ write-binds-write-binding-requires t c κs =
     let c13 = c .before .before .before .before .before .before .before .before .before .before .before .before .before in
     (omega (arith, (c13 .pre .0)), tt)
 
-write-binds-loop-again : (t : ℕ) → write-binds-lts.Need-loop-again (write-binds-calls t) (write-binds-at t) write-binds.Post
-    write-binds-Inv-loop write-binds-μ-loop
-write-binds-loop-again t c =
-    let c3 = c .before .before .before in let c7 = c3 .before .before .before .before in
-    let c10 = c7 .before .before .before in let c11 = c10 .before in
-    let c17 = c11 .before .before .before .before .before .before in (
-      omega arith,
-      λ ns x l′ p′ h. (c11 .loop .inv .1) ns x l′ p′
-          (law.binds-on (sheetOf ((c17 .args .root) .now) ns) (c17 .args .left) (c11 .loop .n) _ _ (c10 .loop-test .taken)
-          (c .past .ensures) _ _ _ _ _ _ l′ p′ (c7 .byte .ensures) ((c3 .write-binding .ensures) ns x) h),
-    )
-
 write-binds-returns : (t : ℕ) → write-binds-lts.Need-returns (write-binds-calls t) (write-binds-at t) write-binds.Post
     write-binds-Inv-loop write-binds-μ-loop
 write-binds-returns t c =
+    let c3 = c .before .before .before in let c7 = c3 .before .before .before .before in
+    let c10 = c7 .before .before .before in let c11 = c10 .before in
+    let c17 = c11 .before .before .before .before .before .before in
+    λ ns x. (c11 .loop .inv .1) ns x _ _ (law.binds-on (sheetOf ((c17 .args .root) .now) ns) (c17 .args .left) (c11 .loop .n)
+    _ _ (c10 .loop-test .taken) refl _ _ _ _ _ _ _ _ (c7 .byte .ensures) ((c3 .write-binding .ensures) ns x)
+    (law.binds-none (sheetOf ((c17 .args .root) .now) ns) _ (c11 .loop .n - 1) _ _ _ (omega (arith, (c .if1 .taken)))))
+
+write-binds-loop-again : (t : ℕ) → write-binds-lts.Need-loop-again (write-binds-calls t) (write-binds-at t) write-binds.Post
+    write-binds-Inv-loop write-binds-μ-loop
+write-binds-loop-again t c =
+    let c4 = c .before .before .before .before in let c8 = c4 .before .before .before .before in
+    let c11 = c8 .before .before .before in let c12 = c11 .before in
+    let c18 = c12 .before .before .before .before .before .before in (
+      omega arith,
+      λ ns x l′ p′ h. (c12 .loop .inv .1) ns x l′ p′
+          (law.binds-on (sheetOf ((c18 .args .root) .now) ns) (c18 .args .left) (c12 .loop .n) _ _ (c11 .loop-test .taken)
+          (c .past .ensures) _ _ _ _ _ _ l′ p′ (c8 .byte .ensures) ((c4 .write-binding .ensures) ns x) h),
+    )
+
+write-binds-returns-2 : (t : ℕ) → write-binds-lts.Need-returns-2 (write-binds-calls t) (write-binds-at t) write-binds.Post
+    write-binds-Inv-loop write-binds-μ-loop
+write-binds-returns-2 t c =
     let c1 = c .before in let c7 = c1 .before .before .before .before .before .before in
     λ ns x. (c1 .loop .inv .1) ns x _ _ (law.binds-none (sheetOf ((c7 .args .root) .now) ns) _ _ _ _ _ (c .loop-test .left))
 
@@ -596,12 +606,14 @@ pub +do-branding+write-binding+write-binds+write-chain+write-list+write-own+writ
     (write-binds-loop-holds t)
     (λ c κs. search needs)
     (write-binds-write-binding-requires t)
+    (λ c. search needs)
+    (write-binds-returns t)
     (λ c κs. search needs)
     (λ c. search needs)
     (λ c. search needs)
     (write-binds-loop-again t)
     (λ c. search needs)
-    (write-binds-returns t))
+    (write-binds-returns-2 t))
     (λ t. write-chain-lts.spec (write-chain-calls t)
     (write-chain-at t)
     write-chain.Post
