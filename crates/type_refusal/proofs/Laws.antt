@@ -209,8 +209,8 @@ module _ (s : Str) (ns : List Node) (ids ats : List ℕ) (root : Str) (G : Readi
       (λ ss. Number 5 ≡ refusalOf (accumulate sheet (scopesOf ss sheet) 16 id)) G
       (λ ss v. chain-5 sheet (scopesOf ss sheet) id current k seen h w v) c
 
-  module _ (node : ℕ) (here : f ≡ At node) (r : Refusal)
-      (own : (x : Node) → nodeOf ns current ≡ ok x → NodeHere (rows (drop node s)) x
+  module _ (node : ℕ) (here : f ≡ At node) (ps : Rows) (params : ps ≡ restOf (rows (drop node s))) (r : Refusal)
+      (own : (x : Node) → nodeOf ns current ≡ ok x → namesOf ps ≡ x .params
       → On G (λ ss. Sound (sheetOf root ns) (scopesOf ss (sheetOf root ns)) (take k seen)
       → r ≡ refusalOf (ownOf (sheetOf root ns) (scopesOf ss (sheetOf root ns)) current))) where
     by-node : (Q : Scopes → Type 0)
@@ -223,7 +223,7 @@ module _ (s : Str) (ns : List Node) (ids ats : List ℕ) (root : Str) (G : Readi
         go : (o : Out Node) → nodeOf ns current ≡ o → NodeIs s (At node) o → On G Q
         go (ok x) y w = on-two (λ ss. Chained sheet (scopesOf ss sheet) id current k seen)
             (λ ss. Sound sheet (scopesOf ss sheet) (take k seen) → r ≡ refusalOf (ownOf sheet (scopesOf ss sheet) current)) Q G
-            (law x y w) c (own x y w)
+            (law x y w) c (own x y (rw params (w .params)))
         go (refused j) y w = absurd w
 
     pub brand-own : (j : ℕ) → r ≡ Number j → On G (λ ss. r ≡ refusalOf

@@ -31,7 +31,7 @@ use Rattle.codegen_types.specs.TypeString.{accumulate, outermostFirst, angled, 
 use Rattle.codegen_types.proofs.Laws.{accumulate-none, accumulate-more}
 use Rattle.codegen_types.specs.declared.Leaf.{Leaf}
 use Rattle.tree.specs.Index.{On, Has, Indexed}
-use Rattle.find.specs.Find.{kindAt, pastRows, ScopeIs, lastScope, namesOf, parentAt, NodeHere, lookup}
+use Rattle.find.specs.Find.{kindAt, pastRows, ScopeIs, lastScope, namesOf, parentAt, lookup}
 use Rattle.find.specs.declared.Found.{Found}
 use Rattle.find.specs.declared.Found.the-variants.{At, Nothing}
 use Rattle.find.proofs.Laws.{on-one, on-two, on-all, scope-counts}
@@ -96,13 +96,15 @@ module _ (s : Str) (sheet : Sheet) (ids ats : List ℕ) (G : Reading Scopes) (no
       on-all {P = λ ss. Lists (outward (accumulate sheet (scopesOf ss sheet) nodes id)) l p l′ p′}
       (λ ss. rw (accumulate-more sheet (scopesOf ss sheet) nodes id z, node-missing s sheet ids ats id f e i h) tt) G
 
-  module _ (node : ℕ) (here : f ≡ At node) (parent : ℕ) (up : parent ≡ parentAt (rows (drop node s))) where
-    by-node : (Q : Scopes → Type 0) → ((x : Node) → nodeOf (sheet .nodes) id ≡ ok x → NodeHere (rows (drop node s)) x
+  module _ (node : ℕ) (here : f ≡ At node) (parent : ℕ) (up : parent ≡ parentAt (rows (drop node s))) (ps : Rows)
+      (params : ps ≡ restOf (rows (drop node s))) where
+    by-node : (Q : Scopes → Type 0) → ((x : Node) → nodeOf (sheet .nodes) id ≡ ok x → namesOf ps ≡ x .params
         → parent ≡ x .parent → On G Q) → On G Q
-    by-node Q law = node-there s sheet ids ats id f e i node here (λ o. On G Q) (λ x y w. law x y w (up ∙ rw (w .line) refl))
+    by-node Q law = node-there s sheet ids ats id f e i node here (λ o. On G Q)
+        (λ x y w. law x y (rw params (w .params)) (up ∙ rw (w .line) refl))
 
     pub chain-top : (l : List ℕ) (p : Arguments) (l′ : List ℕ) (p′ : Arguments) → parent ≡ 0
-        → ((x : Node) → NodeHere (rows (drop node s)) x → On G
+        → ((x : Node) → namesOf ps ≡ x .params → On G
         (λ ss. Lists (argumentsOf (sheet .root) (x .params) (scopeOf id (scopesOf ss sheet))) l p l′ p′))
         → On G (λ ss. Lists (outward (accumulate sheet (scopesOf ss sheet) nodes id)) l p l′ p′)
     unfolding outermostFirst
@@ -119,7 +121,7 @@ module _ (s : Str) (sheet : Sheet) (ids ats : List ℕ) (G : Reading Scopes) (no
 
     pub chain-next : (l : List ℕ) (p : Arguments) (l₁ : List ℕ) (q : Arguments) (l₂ : List ℕ) (r : Arguments) → (parent ≡ 0 → ⊥)
         → On G (λ ss. Lists (outward (accumulate sheet (scopesOf ss sheet) (nodes - 1) parent)) l p l₁ q)
-        → ((x : Node) → NodeHere (rows (drop node s)) x → On G
+        → ((x : Node) → namesOf ps ≡ x .params → On G
         (λ ss. Lists (argumentsOf (sheet .root) (x .params) (scopeOf id (scopesOf ss sheet))) l₁ q l₂ r))
         → On G (λ ss. Lists (outward (accumulate sheet (scopesOf ss sheet) nodes id)) l p l₂ r)
     unfolding outermostFirst

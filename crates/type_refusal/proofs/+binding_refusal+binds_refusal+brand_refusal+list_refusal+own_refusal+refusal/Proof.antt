@@ -171,10 +171,10 @@ abbrev brand-refusal-calls : ℕ → brand-refusal-lts.Claims
 brand-refusal-calls t = (
   node-reads.Asked,
   node-reads.Learnt,
-  own-refusal-below t,
-  own-refusal.Post,
   node-row-reads.Asked,
   node-row-reads.Learnt,
+  own-refusal-below t,
+  own-refusal.Post,
 )
 
 abbrev list-refusal-calls : ℕ → list-refusal-lts.Claims
@@ -196,8 +196,6 @@ own-refusal-calls t = (
   scope-reads.Learnt,
   next-reads.Asked,
   next-reads.Learnt,
-  node-row-reads.Asked,
-  node-row-reads.Learnt,
   count-is-reads.Asked,
   count-is-reads.Learnt,
   binds-refusal-below t,
@@ -324,41 +322,41 @@ brand-refusal-slice-aggregate-own-refusal :
     (t : ℕ) → brand-refusal-lts.Need-slice-aggregate-own-refusal (brand-refusal-calls t) (brand-refusal-at t) brand-refusal.Post
     brand-refusal-Inv-loop brand-refusal-μ-loop
 brand-refusal-slice-aggregate-own-refusal t c =
-    let c6 = c .before .before .before .before .before .before in
-    sym (length-take-le (c6 .loop .k) (c6 .loop .seen) (let h = (c6 .loop .inv .1) in omega arith))
+    let c7 = c .before .before .before .before .before .before .before in
+    sym (length-take-le (c7 .loop .k) (c7 .loop .seen) (let h = (c7 .loop .inv .1) in omega arith))
 
 brand-refusal-own-refusal-requires : (t : ℕ) → brand-refusal-lts.Need-own-refusal-requires (brand-refusal-calls t)
     (brand-refusal-at t) brand-refusal.Post brand-refusal-Inv-loop brand-refusal-μ-loop
 brand-refusal-own-refusal-requires t c κs =
-    (omega (arith, (c .before .before .before .before .before .before .before .before .before .before .pre .0)), tt)
+    (omega (arith, (c .before .before .before .before .before .before .before .before .before .before .before .pre .0)), tt)
 
 brand-refusal-returns-2 : (t : ℕ) → brand-refusal-lts.Need-returns-2 (brand-refusal-calls t) (brand-refusal-at t)
     brand-refusal.Post brand-refusal-Inv-loop brand-refusal-μ-loop
 brand-refusal-returns-2 t c =
-    let c2 = c .before .before in let c5 = c2 .before .before .before in let c7 = c5 .before .before in let c8 = c7 .before in
-    let c9 = c8 .before in let c13 = c9 .before .before .before .before in
-    λ root ns x. law.brand-own ((c13 .args .s) .now) ns ((c13 .args .ids) .now) ((c13 .args .ats) .now) root
-    (times (read.scopeOf (typeOf (c13 .args .left))) end (c13 .args .n) (rows (drop (c13 .args .at) ((c13 .args .s) .now))))
-    (c13 .args .id) (c9 .loop .current) (c9 .loop .k) (c9 .loop .seen) (c8 .loop-test .taken) _ (c7 .node .ensures) x
-    ((c9 .loop .inv .2) root ns x) (c5 .node2 .given .0 .0) (c5 .node2 .given .1) _ ((c2 .own-refusal .ensures) root ns x) _
-    (c .enum-told3 .given .1)
+    let c2 = c .before .before in let c4 = c2 .before .before in let c6 = c4 .before .before in let c8 = c6 .before .before in
+    let c9 = c8 .before in let c10 = c9 .before in let c14 = c10 .before .before .before .before in
+    λ root ns x. law.brand-own ((c14 .args .s) .now) ns ((c14 .args .ids) .now) ((c14 .args .ats) .now) root
+    (times (read.scopeOf (typeOf (c14 .args .left))) end (c14 .args .n) (rows (drop (c14 .args .at) ((c14 .args .s) .now))))
+    (c14 .args .id) (c10 .loop .current) (c10 .loop .k) (c10 .loop .seen) (c9 .loop-test .taken) _ (c8 .node .ensures) x
+    ((c10 .loop .inv .2) root ns x) (c6 .node2 .given .0 .0) (c6 .node2 .given .1) _ (c4 .node-row .ensures .1) _
+    ((c2 .own-refusal .ensures) root ns x) _ (c .enum-told3 .given .1)
 
 brand-refusal-returns-3 : (t : ℕ) → brand-refusal-lts.Need-returns-3 (brand-refusal-calls t) (brand-refusal-at t)
     brand-refusal.Post brand-refusal-Inv-loop brand-refusal-μ-loop
 brand-refusal-returns-3 t c =
-    let c2 = c .before .before in let c3 = c2 .before in let c5 = c3 .before .before in let c8 = c5 .before .before .before in
+    let c2 = c .before .before in let c4 = c2 .before .before in let c6 = c4 .before .before in let c8 = c6 .before .before in
     let c10 = c8 .before .before in let c11 = c10 .before in let c12 = c11 .before in
     let c16 = c12 .before .before .before .before in
     λ root ns x. law.brand-top ((c16 .args .s) .now) ns ((c16 .args .ids) .now) ((c16 .args .ats) .now) root
     (times (read.scopeOf (typeOf (c16 .args .left))) end (c16 .args .n) (rows (drop (c16 .args .at) ((c16 .args .s) .now))))
     (c16 .args .id) (c12 .loop .current) (c12 .loop .k) (c12 .loop .seen) (c11 .loop-test .taken) _ (c10 .node .ensures) x
-    ((c12 .loop .inv .2) root ns x) (c8 .node2 .given .0 .0) (c8 .node2 .given .1) _ ((c5 .own-refusal .ensures) root ns x)
-    _ (c2 .node-row .ensures .0) (c3 .enum-told2 .given .1) (c .if1 .taken)
+    ((c12 .loop .inv .2) root ns x) (c8 .node2 .given .0 .0) (c8 .node2 .given .1) _ (c6 .node-row .ensures .1) _
+    ((c4 .own-refusal .ensures) root ns x) _ (c6 .node-row .ensures .0) (c2 .enum-told2 .given .1) (c .if1 .taken)
 
 brand-refusal-loop-again : (t : ℕ) → brand-refusal-lts.Need-loop-again (brand-refusal-calls t) (brand-refusal-at t)
     brand-refusal.Post brand-refusal-Inv-loop brand-refusal-μ-loop
 brand-refusal-loop-again t c =
-    let c2 = c .before .before in let c3 = c2 .before in let c5 = c3 .before .before in let c8 = c5 .before .before .before in
+    let c2 = c .before .before in let c4 = c2 .before .before in let c6 = c4 .before .before in let c8 = c6 .before .before in
     let c10 = c8 .before .before in let c11 = c10 .before in let c12 = c11 .before in
     let c16 = c12 .before .before .before .before in (
       omega arith,
@@ -367,8 +365,9 @@ brand-refusal-loop-again t c =
           law.brand-next ((c16 .args .s) .now) ns ((c16 .args .ids) .now) ((c16 .args .ats) .now) root
           (times (read.scopeOf (typeOf (c16 .args .left))) end (c16 .args .n) (rows (drop (c16 .args .at) ((c16 .args .s) .now))))
           (c16 .args .id) (c12 .loop .current) (c12 .loop .k) (c12 .loop .seen) (c11 .loop-test .taken) _ (c10 .node .ensures) x
-          ((c12 .loop .inv .2) root ns x) (c8 .node2 .given .0 .0) (c8 .node2 .given .1) _ ((c5 .own-refusal .ensures) root ns x)
-          _ (c2 .node-row .ensures .0) (c3 .enum-told2 .given .1) (c12 .loop .inv .1) (c .if1 .left),
+          ((c12 .loop .inv .2) root ns x) (c8 .node2 .given .0 .0) (c8 .node2 .given .1) _ (c6 .node-row .ensures .1) _
+          ((c4 .own-refusal .ensures) root ns x) _ (c6 .node-row .ensures .0) (c2 .enum-told2 .given .1) (c12 .loop .inv .1)
+          (c .if1 .left),
     )
 
 brand-refusal-returns-4 : (t : ℕ) → brand-refusal-lts.Need-returns-4 (brand-refusal-calls t) (brand-refusal-at t)
@@ -433,26 +432,25 @@ own-refusal-returns-4 t c =
 own-refusal-binds-refusal-requires : (t : ℕ) → own-refusal-lts.Need-binds-refusal-requires (own-refusal-calls t)
     (own-refusal-at t) own-refusal.Post
 own-refusal-binds-refusal-requires t c κs =
-    let c18 = c .before .before .before .before .before .before .before .before .before .before .before .before .before .before
-    .before .before .before .before in
-    (omega (arith, (c18 .pre .0)), tt)
+    let c17 = c .before .before .before .before .before .before .before .before .before .before .before .before .before .before
+    .before .before .before in
+    (omega (arith, (c17 .pre .0)), tt)
 
 own-refusal-returns-5 : (t : ℕ) → own-refusal-lts.Need-returns-5 (own-refusal-calls t) (own-refusal-at t) own-refusal.Post
 own-refusal-returns-5 t c =
-    let c1 = c .before in let c2 = c1 .before in let c3 = c2 .before in let c4 = c3 .before in let c6 = c4 .before .before in
-    let c8 = c6 .before .before in let c10 = c8 .before .before in let c12 = c10 .before .before in
-    λ root ns x y e w. law.own-binds _ (sheetOf root ns) _ _ _ _ y e _ (c12 .scope .ensures) _ (rw (c10 .scope2 .given .1) refl)
-    _ (c8 .next .ensures .0) _ _ _ (c6 .line .given .1) (c4 .if2 .left) _ (c8 .next .ensures .1) _
-    (rw (c3 .node-row .ensures .1) (w .params)) _ (c2 .count-is .ensures) _ (c1 .if3 .taken)
-    ((c .binds-refusal .ensures) root ns x)
+    let c1 = c .before in let c2 = c1 .before in let c3 = c2 .before in let c5 = c3 .before .before in
+    let c7 = c5 .before .before in let c9 = c7 .before .before in let c11 = c9 .before .before in
+    λ root ns x y e w. law.own-binds _ (sheetOf root ns) _ _ _ _ y e _ (c11 .scope .ensures) _ (rw (c9 .scope2 .given .1) refl)
+    _ (c7 .next .ensures .0) _ _ _ (c5 .line .given .1) (c3 .if2 .left) _ (c7 .next .ensures .1) _ w _ (c2 .count-is .ensures)
+    _ (c1 .if3 .taken) ((c .binds-refusal .ensures) root ns x)
 
 own-refusal-returns-6 : (t : ℕ) → own-refusal-lts.Need-returns-6 (own-refusal-calls t) (own-refusal-at t) own-refusal.Post
 own-refusal-returns-6 t c =
-    let c1 = c .before in let c2 = c1 .before in let c3 = c2 .before in let c5 = c3 .before .before in
-    let c7 = c5 .before .before in let c9 = c7 .before .before in let c11 = c9 .before .before in
-    λ root ns x y e w. law.own-8 _ (sheetOf root ns) _ _ _ _ y e _ (c11 .scope .ensures) _ (rw (c9 .scope2 .given .1) refl) _
-    (c7 .next .ensures .0) _ _ _ (c5 .line .given .1) (c3 .if2 .left) _ (c7 .next .ensures .1) _
-    (rw (c2 .node-row .ensures .1) (w .params)) _ (c1 .count-is .ensures) (c .if3 .left)
+    let c1 = c .before in let c2 = c1 .before in let c4 = c2 .before .before in let c6 = c4 .before .before in
+    let c8 = c6 .before .before in let c10 = c8 .before .before in
+    λ root ns x y e w. law.own-8 _ (sheetOf root ns) _ _ _ _ y e _ (c10 .scope .ensures) _ (rw (c8 .scope2 .given .1) refl) _
+    (c6 .next .ensures .0) _ _ _ (c4 .line .given .1) (c2 .if2 .left) _ (c6 .next .ensures .1) _ w _ (c1 .count-is .ensures)
+    (c .if3 .left)
 
 refusal-returns : (t : ℕ) → refusal-lts.Need-returns (refusal-calls t) (refusal-at t) refusal.Post
 refusal-returns t c =
@@ -558,13 +556,13 @@ pub +binding-refusal+binds-refusal+brand-refusal+list-refusal+own-refusal+refusa
     (λ c. search needs)
     (λ c. search needs)
     (brand-refusal-returns t)
+    (λ c κs. search needs)
     (λ c. search needs)
     (brand-refusal-slice-aggregate-own-refusal t)
     (brand-refusal-own-refusal-requires t)
     (λ c. search needs)
     (λ c. search needs)
     (brand-refusal-returns-2 t)
-    (λ c κs. search needs)
     (brand-refusal-returns-3 t)
     (λ c. search needs)
     (λ c. search needs)
@@ -595,7 +593,6 @@ pub +binding-refusal+binds-refusal+brand-refusal+list-refusal+own-refusal+refusa
     (λ c. search needs)
     (own-refusal-returns-3 t)
     (own-refusal-returns-4 t)
-    (λ c κs. search needs)
     (λ c κs. search needs)
     (own-refusal-binds-refusal-requires t)
     (own-refusal-returns-5 t)

@@ -235,8 +235,6 @@ write-list-calls t = (
 
 abbrev write-own-calls : ℕ → write-own-lts.Claims
 write-own-calls t = (
-  node-row-reads.Asked,
-  node-row-reads.Learnt,
   scope-reads.Asked,
   scope-reads.Learnt,
   unbound-reads.Asked,
@@ -394,8 +392,8 @@ write-chain-returns-3 t c =
     λ ns x. law.chain-top ((c16 .args .s) .now) (sheetOf ((c16 .args .root) .now) ns) ((c16 .args .ids) .now)
     ((c16 .args .ats) .now) (times (read.scopeOf (typeOf (c16 .args .left))) end (c16 .args .n)
     (rows (drop (c16 .args .at) ((c16 .args .s) .now)))) _ _ (c10 .if1 .left) _ (c9 .node .ensures) x
-    (c7 .node2 .given .0 .0) (c7 .node2 .given .1) _ (c5 .node-row .ensures .0) _ _ _ _ (c4 .if2 .taken)
-    ((c2 .write-own .ensures) ns x)
+    (c7 .node2 .given .0 .0) (c7 .node2 .given .1) _ (c5 .node-row .ensures .0) _ (c5 .node-row .ensures .1) _ _ _ _
+    (c4 .if2 .taken) ((c2 .write-own .ensures) ns x)
 
 write-chain-write-chain-requires : (t : ℕ) → write-chain-lts.Need-write-chain-requires (write-chain-calls t) (write-chain-at t)
     write-chain.Post
@@ -419,8 +417,8 @@ write-chain-returns-4 t c =
     λ ns x. law.chain-next ((c20 .args .s) .now) (sheetOf ((c20 .args .root) .now) ns) ((c20 .args .ids) .now)
     ((c20 .args .ats) .now) (times (read.scopeOf (typeOf (c20 .args .left))) end (c20 .args .n)
     (rows (drop (c20 .args .at) ((c20 .args .s) .now)))) _ _ (c14 .if1 .left) _ (c13 .node .ensures) x
-    (c11 .node2 .given .0 .0) (c11 .node2 .given .1) _ (c9 .node-row .ensures .0) _ _ _ (c6 .write-chain .result) _ _
-    (c8 .if2 .left) ((c6 .write-chain .ensures) ns x) ((c2 .write-own2 .ensures) ns x)
+    (c11 .node2 .given .0 .0) (c11 .node2 .given .1) _ (c9 .node-row .ensures .0) _ (c9 .node-row .ensures .1) _ _ _
+    (c6 .write-chain .result) _ _ (c8 .if2 .left) ((c6 .write-chain .ensures) ns x) ((c2 .write-own2 .ensures) ns x)
 
 write-list-returns : (t : ℕ) → write-list-lts.Need-returns (write-list-calls t) (write-list-at t) write-list.Post
 write-list-returns t c =
@@ -455,41 +453,40 @@ write-list-returns-3 t c =
 
 write-own-returns : (t : ℕ) → write-own-lts.Need-returns (write-own-calls t) (write-own-at t) write-own.Post
 write-own-returns t c =
-    let c2 = c .before .before in let c4 = c2 .before .before in let c6 = c4 .before .before in let c7 = c6 .before in
-    let c13 = c7 .before .before .before .before .before .before in
-    λ ns x y w. law.own-none (c13 .args .left) (sheetOf ((c13 .args .root) .now) ns) (c13 .args .id) (c13 .args .n) _ _
-    (c6 .scope .ensures) y _ _ _ _ _ (rw (c7 .node-row .ensures .1) (w .params)) (rw (c4 .enum-told .given .1) refl)
-    (c2 .unbound .ensures)
+    let c2 = c .before .before in let c4 = c2 .before .before in let c6 = c4 .before .before in
+    let c12 = c6 .before .before .before .before .before .before in
+    λ ns x y w. law.own-none (c12 .args .left) (sheetOf ((c12 .args .root) .now) ns) (c12 .args .id) (c12 .args .n) _ _
+    (c6 .scope .ensures) y _ _ _ _ _ w (rw (c4 .enum-told .given .1) refl) (c2 .unbound .ensures)
 
 write-own-returns-2 : (t : ℕ) → write-own-lts.Need-returns-2 (write-own-calls t) (write-own-at t) write-own.Post
 write-own-returns-2 t c =
     let c1 = c .before in let c3 = c1 .before .before in let c5 = c3 .before .before in
-    let c12 = c5 .before .before .before .before .before .before .before in
-    λ ns x y w. law.own-other (c12 .args .left) (sheetOf ((c12 .args .root) .now) ns) (c12 .args .id) (c12 .args .n) _ _
+    let c11 = c5 .before .before .before .before .before .before in
+    λ ns x y w. law.own-other (c11 .args .left) (sheetOf ((c11 .args .root) .now) ns) (c11 .args .id) (c11 .args .n) _ _
     (c5 .scope .ensures) y _ _ _ _ _ (rw (c3 .scope2 .given .1) refl) _ (c1 .next .ensures .0) (c .match2 .keys2)
 
 write-own-returns-3 : (t : ℕ) → write-own-lts.Need-returns-3 (write-own-calls t) (write-own-at t) write-own.Post
 write-own-returns-3 t c =
     let c2 = c .before .before in let c4 = c2 .before .before in let c6 = c4 .before .before in let c8 = c6 .before .before in
-    let c10 = c8 .before .before in let c12 = c10 .before .before in let c13 = c12 .before in
-    let c19 = c13 .before .before .before .before .before .before in
-    λ ns x y w. law.own-inherit (c19 .args .left) (sheetOf ((c19 .args .root) .now) ns) (c19 .args .id) (c19 .args .n) _ _
+    let c10 = c8 .before .before in let c12 = c10 .before .before in
+    let c18 = c12 .before .before .before .before .before .before in
+    λ ns x y w. law.own-inherit (c18 .args .left) (sheetOf ((c18 .args .root) .now) ns) (c18 .args .id) (c18 .args .n) _ _
     (c12 .scope .ensures) y _ _ _ _ _ (rw (c10 .scope2 .given .1) refl) _ (c8 .next .ensures .0) _ _ _ (c6 .line .given .1)
-    _ (rw (c13 .node-row .ensures .1) (w .params)) (c4 .if1 .taken) (c2 .inherited .ensures)
+    _ w (c4 .if1 .taken) (c2 .inherited .ensures)
 
 write-own-write-binds-requires : (t : ℕ) → write-own-lts.Need-write-binds-requires (write-own-calls t) (write-own-at t)
     write-own.Post
 write-own-write-binds-requires t c κs =
-    let c16 = c .before .before .before .before .before .before .before .before .before .before .before .before .before .before
-    .before .before in
-    (omega (arith, (c16 .pre .0)), tt)
+    let c15 = c .before .before .before .before .before .before .before .before .before .before .before .before .before .before
+    .before in
+    (omega (arith, (c15 .pre .0)), tt)
 
 write-own-returns-4 : (t : ℕ) → write-own-lts.Need-returns-4 (write-own-calls t) (write-own-at t) write-own.Post
 write-own-returns-4 t c =
     let c2 = c .before .before in let c4 = c2 .before .before in let c6 = c4 .before .before in let c8 = c6 .before .before in
     let c10 = c8 .before .before in let c12 = c10 .before .before in
-    let c19 = c12 .before .before .before .before .before .before .before in
-    λ ns x y w. law.own-binds (c19 .args .left) (sheetOf ((c19 .args .root) .now) ns) (c19 .args .id) (c19 .args .n) _ _
+    let c18 = c12 .before .before .before .before .before .before in
+    λ ns x y w. law.own-binds (c18 .args .left) (sheetOf ((c18 .args .root) .now) ns) (c18 .args .id) (c18 .args .n) _ _
     (c12 .scope .ensures) y _ _ _ _ _ (rw (c10 .scope2 .given .1) refl) _ (c8 .next .ensures .0) _ _ _ (c6 .line .given .1)
     _ (c8 .next .ensures .1) (c4 .if1 .left) ((c2 .write-binds .ensures) ns x)
 
@@ -652,7 +649,6 @@ pub +do-branding+write-binding+write-binds+write-chain+write-list+write-own+writ
     (λ t. write-own-lts.spec (write-own-calls t)
     (write-own-at t)
     write-own.Post
-    (λ c κs. search needs)
     (λ c κs. search needs)
     (λ c. search needs)
     (λ c. search needs)
