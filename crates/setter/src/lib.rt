@@ -17,7 +17,8 @@ ghost use Rattle.text.specs.Bytes.{either};
 ghost use Rattle.row.specs.Rows.{restOf, rows};
 ghost use Rattle.find.specs.Find.{kindAt, On, sheetOf};
 ghost use Rattle.type_parts.specs.Parts.{ForAll, Writes};
-ghost use Rattle.codegen_types.specs.declared.Leaf.the-variants.{Owned};
+ghost use Rattle.codegen_types.specs.declared.Leaf.the-variants.{Builder, Owned};
+ghost use Rattle.codegen_types.specs.declared.Lifetime.the-variants as lifetime;
 ghost use Rattle.calls.specs.Mask.{maskText};
 ghost use Rattle.getter.specs.Result.{Here};
 ghost use Rattle.slot.specs.Slot.{SlotIs, slotFieldOf, SlotOn};
@@ -26,6 +27,7 @@ ghost use Rattle.tree.specs.Read.{typeOf};
 ghost use Rattle.names.specs.Names.{nameOf};
 ghost use Rattle.codegen_types.specs.Out.{refusalOf};
 ghost use Rattle.type_refusal.specs.Told as refusal;
+ghost use Rattle.type_string.specs.Told.{TypeTold};
 ghost use Rattle.codegen.specs.Setter.{setterInput, initPointer, newPointer, setterRequest};
 ghost use Rattle.setter.specs.Arms.{needsType, typeLeaf, defaultRefusal};
 ghost use Rattle.setter.specs.Typed.{Types, setEnd, initEnd, listReader, textOf, explicitMask};
@@ -129,6 +131,22 @@ fn set_end(t: Text, buf: &mut [u8], root: &[u8], tag: u64, discriminant: u64, of
     let t = t.bytes(buf, b"    ");
     let t = codegen_setter::set_pointer(t, buf, root, offset);
     t.bytes(buf, b"\n}\n")
+}
+
+// What an initializer returns: the type at a position as a Builder.
+fn init_type(
+    root: &[u8],
+    s: &[u8],
+    ids: &[u64],
+    ats: &[usize],
+    at: usize,
+    t: Text,
+    buf: &mut [u8],
+) -> Text
+    ensures { λ r. ⌜ TypeTold (now (root .entry)) (now (s .entry)) (now (ids .entry)) (now (ats .entry)) at 16
+        (Builder lifetime.A) (now (buf .entry)) t (now (buf .exit)) r ⌝ }
+{
+    type_string::type_string(root, s, ids, ats, at, Leaf::Builder(Lifetime::A), t, buf)
 }
 
 // An initializer of a list or a struct, after its result's type.
@@ -241,16 +259,7 @@ fn list_setter(
     let t = list_reader(root, s, ids, ats, slot.typ, several, t, buf);
     let t = set_end(t, buf, root, tag, slot.discriminant, slot.offset);
     let t = codegen_setter::init_open(t, buf, name, true);
-    let t = type_string::type_string(
-        root,
-        s,
-        ids,
-        ats,
-        slot.typ,
-        Leaf::Builder(Lifetime::A),
-        t,
-        buf,
-    );
+    let t = init_type(root, s, ids, ats, slot.typ, t, buf);
     init_end(t, buf, root, tag, slot.discriminant, slot.offset, b"size")
 }
 
@@ -319,16 +328,7 @@ fn struct_setter(
     );
     let t = set_end(t, buf, root, tag, slot.discriminant, slot.offset);
     let t = codegen_setter::init_open(t, buf, name, false);
-    let t = type_string::type_string(
-        root,
-        s,
-        ids,
-        ats,
-        slot.typ,
-        Leaf::Builder(Lifetime::A),
-        t,
-        buf,
-    );
+    let t = init_type(root, s, ids, ats, slot.typ, t, buf);
     init_end(t, buf, root, tag, slot.discriminant, slot.offset, b"0")
 }
 
@@ -374,16 +374,7 @@ fn parameter_setter(
         Writes (textOf sheet tag (nameOf name) (slot .discriminant) sl) (now (buf .entry)) t (now (buf .exit)) r) ⌝ }
 {
     let t = codegen_setter::initn_open(t, buf, name);
-    let t = type_string::type_string(
-        root,
-        s,
-        ids,
-        ats,
-        slot.typ,
-        Leaf::Builder(Lifetime::A),
-        t,
-        buf,
-    );
+    let t = init_type(root, s, ids, ats, slot.typ, t, buf);
     let t = new_end(
         t,
         buf,
@@ -397,16 +388,7 @@ fn parameter_setter(
     let t = setter_input(root, s, ids, ats, slot.typ, t, buf);
     let t = set_end(t, buf, root, tag, slot.discriminant, slot.offset);
     let t = codegen_setter::init_open(t, buf, name, false);
-    let t = type_string::type_string(
-        root,
-        s,
-        ids,
-        ats,
-        slot.typ,
-        Leaf::Builder(Lifetime::A),
-        t,
-        buf,
-    );
+    let t = init_type(root, s, ids, ats, slot.typ, t, buf);
     new_end(
         t,
         buf,

@@ -16,7 +16,6 @@ use Rattle.row.specs.Rows.{restOf}
 use Rattle.row.specs.Line.{lineAt, textAt, asParameter}
 use Rattle.row.specs.declared.Line.{Line}
 use Rattle.tree.specs.Reader.{Rows}
-use Rattle.codegen_types.specs.Out.{refused}
 use Rattle.codegen_types.specs.TypeString.{parameterString, joined, angled}
 use Rattle.codegen_types.specs.Leaf.{bareName, maybeColons, leafArguments}
 use Rattle.codegen_types.specs.declared.Leaf.{Leaf}

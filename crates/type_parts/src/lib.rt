@@ -3,6 +3,7 @@ use codegen_types::Leaf;
 use codegen_types::Lifetime;
 use find::Found;
 use text::Text;
+ghost use mathlib.Core.Path.{_≡_};
 ghost use mathlib.Core.List.{[], _++_, map};
 ghost use Prim.Native.Nat.{_<_};
 ghost use lib.ListN.{drop, getD};
@@ -226,55 +227,33 @@ pub fn unbound(root: &[u8], s: &[u8], from: usize, first: Arguments, buf: &mut [
     }
 }
 
+// A brand's text up to its arguments, and the byte that stands before the next of them.
+fn brand_head(text: &[u8], sep: u8, t: Text, buf: &mut [u8]) -> Arguments
+    ensures { λ r. ⌜ (Wrote (now (buf .entry)) t (now (text .entry)) (now (buf .exit)) (r .text)) × (r .sep ≡ sep) ⌝ }
+{
+    let t = t.bytes(buf, text);
+    Arguments { text: t, sep }
+}
+
 // A brand's text between its module and its arguments, with the leaf's own argument.
 pub fn opening(leaf: Leaf, t: Text, buf: &mut [u8]) -> Arguments
     ensures { λ r. ⌜ Opened (now (buf .entry)) t leaf (now (buf .exit)) r ⌝ }
 {
     match leaf {
         Leaf::Reader(lifetime) => match lifetime {
-            Lifetime::A => Arguments {
-                text: t.bytes(buf, b"::Reader<'a"),
-                sep: b',',
-            },
-            Lifetime::Anonymous => Arguments {
-                text: t.bytes(buf, b"::Reader<'_"),
-                sep: b',',
-            },
+            Lifetime::A => brand_head(b"::Reader<'a", b',', t, buf),
+            Lifetime::Anonymous => brand_head(b"::Reader<'_", b',', t, buf),
         },
         Leaf::Builder(lifetime) => match lifetime {
-            Lifetime::A => Arguments {
-                text: t.bytes(buf, b"::Builder<'a"),
-                sep: b',',
-            },
-            Lifetime::Anonymous => Arguments {
-                text: t.bytes(buf, b"::Builder<'_"),
-                sep: b',',
-            },
+            Lifetime::A => brand_head(b"::Builder<'a", b',', t, buf),
+            Lifetime::Anonymous => brand_head(b"::Builder<'_", b',', t, buf),
         },
-        Leaf::Owned => Arguments {
-            text: t.bytes(buf, b"::Owned"),
-            sep: b'<',
-        },
-        Leaf::Client => Arguments {
-            text: t.bytes(buf, b"::Client"),
-            sep: b'<',
-        },
-        Leaf::Server => Arguments {
-            text: t.bytes(buf, b"::Server"),
-            sep: b'<',
-        },
-        Leaf::ServerDispatch => Arguments {
-            text: t.bytes(buf, b"::ServerDispatch::<_T"),
-            sep: b',',
-        },
-        Leaf::Pipeline => Arguments {
-            text: t.bytes(buf, b"::Pipeline"),
-            sep: b'<',
-        },
-        Leaf::GetType => Arguments {
-            text: t.bytes(buf, b"::get_type::"),
-            sep: b'<',
-        },
+        Leaf::Owned => brand_head(b"::Owned", b'<', t, buf),
+        Leaf::Client => brand_head(b"::Client", b'<', t, buf),
+        Leaf::Server => brand_head(b"::Server", b'<', t, buf),
+        Leaf::ServerDispatch => brand_head(b"::ServerDispatch::<_T", b',', t, buf),
+        Leaf::Pipeline => brand_head(b"::Pipeline", b'<', t, buf),
+        Leaf::GetType => brand_head(b"::get_type::", b'<', t, buf),
     }
 }
 

@@ -18,8 +18,8 @@ use Rattle.text.specs.Bytes.{Str, cond, either}
 use Rattle.row.specs.Rows.{rows, restOf}
 use Rattle.row.specs.Line.{lineAt}
 use Rattle.row.specs.declared.Line.{Line}
-use Rattle.row.specs.declared.Line.the-variants.{Scope}
-use Rattle.tree.specs.Tree.{Ty, list, struct, Scopes, end, Binds, stop, bound, Node, Sheet}
+use Rattle.row.specs.declared.Line.the-variants.{Scope, Unbound}
+use Rattle.tree.specs.Tree.{list, struct, Scopes, end, Binds, stop, bound, Node, Sheet}
 use Rattle.tree.specs.Reader.{Rows, Reading, got, no, times}
 use Rattle.tree.specs.Read as read
 use Rattle.tree.specs.Read.{typeOf, bindingOf, among, pointer}
@@ -38,6 +38,7 @@ use Rattle.find.specs.declared.Found.{Found}
 use Rattle.find.specs.declared.Found.the-variants.{At, Nothing}
 use Rattle.find.proofs.IndexLaws.{NodeIs, node-found}
 use Rattle.find.proofs.Laws.{on-one, on-two, on-all, scope-counts}
+use Rattle.find.proofs.TypeLaws as read-law
 use Rattle.find.proofs.TypeLaws.{of-kind, times-none, binds-more, binds-length, scope-inherit, scope-binds, scope-not}
 use Rattle.type_refusal.specs.Told.{ownOf, Sound}
 
@@ -209,8 +210,8 @@ module _ (s : Str) (ns : List Node) (ids ats : List ℕ) (root : Str) (G : Readi
       (λ ss. Number 5 ≡ refusalOf (accumulate sheet (scopesOf ss sheet) 16 id)) G
       (λ ss v. chain-5 sheet (scopesOf ss sheet) id current k seen h w v) c
 
-  module _ (node : ℕ) (here : f ≡ At node) (r : Refusal)
-      (own : (x : Node) → nodeOf ns current ≡ ok x → NodeHere (rows (drop node s)) x
+  module _ (node : ℕ) (here : f ≡ At node) (ps : Rows) (params : ps ≡ restOf (rows (drop node s))) (r : Refusal)
+      (own : (x : Node) → nodeOf ns current ≡ ok x → namesOf ps ≡ x .params
       → On G (λ ss. Sound (sheetOf root ns) (scopesOf ss (sheetOf root ns)) (take k seen)
       → r ≡ refusalOf (ownOf (sheetOf root ns) (scopesOf ss (sheetOf root ns)) current))) where
     by-node : (Q : Scopes → Type 0)
@@ -223,7 +224,7 @@ module _ (s : Str) (ns : List Node) (ids ats : List ℕ) (root : Str) (G : Readi
         go : (o : Out Node) → nodeOf ns current ≡ o → NodeIs s (At node) o → On G Q
         go (ok x) y w = on-two (λ ss. Chained sheet (scopesOf ss sheet) id current k seen)
             (λ ss. Sound sheet (scopesOf ss sheet) (take k seen) → r ≡ refusalOf (ownOf sheet (scopesOf ss sheet) current)) Q G
-            (law x y w) c (own x y w)
+            (law x y w) c (own x y (rw params (w .params)))
         go (refused j) y w = absurd w
 
     pub brand-own : (j : ℕ) → r ≡ Number j → On G (λ ss. r ≡ refusalOf
@@ -370,8 +371,19 @@ module _ (sheet : Sheet) (left n : ℕ) (rs rest : Rows) (more : 0 < n) (past : 
       go (ok a) bs w = let y : _≡_ {A = Refusal} None (Number k) = sym w ∙ z in never (cc)
       go (refused j) bs w = w
 
--- one binding's refusal
-pub bind-one : (sheet : Sheet) (t : Ty) (r : Refusal) → r ≡ refusalOf (typeString t sheet leaf.Owned)
-    → r ≡ refusalOf (allOf (bindingsOf (bound t stop) sheet))
-unfolding allOf bindingsOf
-bind-one sheet t r h = h ∙ sym (refusal-then (typeString t sheet leaf.Owned) _)
+-- one binding: a U row, or a type
+module _ (sheet : Sheet) (left : ℕ) (rs : Rows) (l : Line) (at : l ≡ lineAt rs) where
+  pub bind-unbound : l ≡ Unbound → On (bindingOf (typeOf left) rs)
+      (λ f. None ≡ refusalOf (allOf (bindingsOf (f stop) sheet)))
+  unfolding allOf bindingsOf
+  bind-unbound is = read-law.bind-unbound left rs (λ f. None ≡ refusalOf (allOf (bindingsOf (f stop) sheet))) l at is refl
+
+  pub bind-typed : OneOf (0 ∷ 1 ∷ 2 ∷ 3 ∷ 4 ∷ 5 ∷ 6 ∷ 8 ∷ 9 ∷ 10 ∷ []) (tagOf the-type l) → (r : Refusal)
+      → On (typeOf left rs) (λ ty. r ≡ refusalOf (typeString ty sheet leaf.Owned))
+      → On (bindingOf (typeOf left) rs) (λ f. r ≡ refusalOf (allOf (bindingsOf (f stop) sheet)))
+  unfolding allOf bindingsOf
+  bind-typed other r h =
+      read-law.bind-typed left rs (λ f. r ≡ refusalOf (allOf (bindingsOf (f stop) sheet))) l at other
+      (on-one (λ ty. r ≡ refusalOf (typeString ty sheet leaf.Owned))
+      (λ ty. r ≡ refusalOf (allOf (bindingsOf (bound ty stop) sheet))) (typeOf left rs)
+      (λ ty e. e ∙ sym (refusal-then (typeString ty sheet leaf.Owned) _)) h)

@@ -1,6 +1,5 @@
 -- What the walk that looks for a type's refusal tells: the refusal that `type_string` gives for whatever type is read at a
--- position, in
--- every sheet whose nodes the index has. Assumes nothing.
+-- position, in every sheet whose nodes the index has. Assumes nothing.
 use mathlib.Core.Path.{_≡_}
 use mathlib.Core.List.{List, [], _∷_}
 use Prim.Native.Nat.{ℕ}
@@ -18,7 +17,7 @@ use Rattle.codegen_types.specs.declared.Leaf.{Leaf}
 use Rattle.codegen_types.specs.declared.Refusal.{Refusal}
 use Rattle.codegen_types.specs.declared.Refusal.the-variants.{None}
 use Rattle.tree.specs.Index.{On, Indexed}
-use Rattle.find.specs.Find.{NodeHere, sheetOf}
+use Rattle.find.specs.Find.{namesOf, sheetOf}
 
 -- the arguments of the node with an id
 unfoldable pub ownOf : Sheet → List (ℕ × Scope) → ℕ → Out (List Str)
@@ -47,10 +46,10 @@ module _ (s ids ats : List ℕ) where
       ForAll (λ sheet. On (times (read.scopeOf (typeOf left)) end n (rows (drop at s)))
       (λ ss. r ≡ refusalOf (accumulate sheet (scopesOf ss sheet) 16 id)))
 
-  -- of a node at `node` on a chain on which the nodes `seen` have no refusal
+  -- of a node whose P rows begin at `params`, on a chain on which the nodes `seen` have no refusal
   abbrev pub OwnTold : List ℕ → ℕ → ℕ → ℕ → ℕ → ℕ → Refusal → Type 0
-  OwnTold seen node id at n left r =
-      ForAll (λ sheet. (x : Node) → nodeOf (sheet .nodes) id ≡ ok x → NodeHere (rows (drop node s)) x
+  OwnTold seen params id at n left r =
+      ForAll (λ sheet. (x : Node) → nodeOf (sheet .nodes) id ≡ ok x → namesOf (rows (drop params s)) ≡ x .params
       → On (times (read.scopeOf (typeOf left)) end n (rows (drop at s)))
       (λ ss. Sound sheet (scopesOf ss sheet) seen → r ≡ refusalOf (ownOf sheet (scopesOf ss sheet) id)))
 

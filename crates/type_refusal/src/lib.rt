@@ -116,8 +116,7 @@ fn list_refusal(s: &[u8], ids: &[u64], ats: &[usize], at: usize, left: usize, le
 }
 
 // The refusal of do_branding for n scopes from a position on: the first along the chain of parents, innermost node first. A
-// node that was seen on
-// the chain is not evaluated again: parents may form a cycle.
+// node that was seen on the chain is not evaluated again: parents may form a cycle.
 fn brand_refusal(
     s: &[u8],
     ids: &[u64],
@@ -136,11 +135,11 @@ fn brand_refusal(
         let Found::At(node) = find::node(ids, ats, current) else {
             return Refusal::Number(5);
         };
-        let own = own_refusal(s, ids, ats, &seen[..k], node, current, at, n, left);
+        let row = find::node_row(s, node);
+        let own = own_refusal(s, ids, ats, &seen[..k], row.params, current, at, n, left);
         let Refusal::None = own else {
             return own;
         };
-        let row = find::node_row(s, node);
         if row.parent == 0 {
             return Refusal::None;
         }
@@ -151,19 +150,21 @@ fn brand_refusal(
     Refusal::Number(4)
 }
 
-// The refusal of one node's own arguments: bindings that are not as many as its parameters, or the first of theirs.
+// The refusal of one node's own arguments: bindings that are not as many as its parameters, or the first of theirs. Its P
+// rows begin at `params`.
 fn own_refusal(
     s: &[u8],
     ids: &[u64],
     ats: &[usize],
     seen: &[u64],
-    node: usize,
+    params: usize,
     id: u64,
     at: usize,
     n: u64,
     left: usize,
 ) -> Refusal
-    ensures { λ r. ⌜ OwnTold (now (s .entry)) (now (ids .entry)) (now (ats .entry)) (now (seen .entry)) node id at n left r ⌝ }
+    ensures { λ r. ⌜ OwnTold (now (s .entry)) (now (ids .entry)) (now (ats .entry)) (now (seen .entry)) params id at n left
+        r ⌝ }
 {
     if find::among(seen, id) {
         return Refusal::None;
@@ -179,15 +180,13 @@ fn own_refusal(
     if bind == 0 {
         return Refusal::None;
     }
-    let row = find::node_row(s, node);
-    let params = row.params;
     if find::count_is(s, params, count) {
         return binds_refusal(s, ids, ats, g.next, count, left);
     }
     Refusal::Number(8)
 }
 
-// The first refusal of so many bindings.
+// The first refusal of so many bindings. The last of them need not be passed over.
 fn binds_refusal(
     s: &[u8],
     ids: &[u64],
@@ -205,6 +204,9 @@ fn binds_refusal(
         let Refusal::None = first else {
             return first;
         };
+        if n == 1 {
+            return Refusal::None;
+        }
         at = find::past(s, at, 1);
         n -= 1;
     }

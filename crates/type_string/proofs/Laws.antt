@@ -4,7 +4,7 @@ use mathlib.Core.Path.{_≡_, refl, sym, _∙_}
 use mathlib.Core.Bool.{Bool, true, false}
 use mathlib.Core.List.{List, [], _∷_, _++_, map}
 use mathlib.Core.Option.{Option, none, some}
-use Prim.Native.Nat.{ℕ, _+_, _-_, _<_, _≤_}
+use Prim.Native.Nat.{ℕ, _-_, _<_, _≤_}
 use borrow.Author.Tests.{eq-eqb, ne-eqb}
 use lib.Dec.{eqb}
 use lib.ListN.{length, drop}
@@ -18,11 +18,11 @@ use Rattle.text.proofs.Laws.{_⨾_}
 use Rattle.row.specs.Rows.{rows, restOf}
 use Rattle.row.specs.Line.{lineAt, textAt}
 use Rattle.row.specs.declared.Line.{Line}
-use Rattle.row.specs.declared.Line.the-variants.{Scope}
+use Rattle.row.specs.declared.Line.the-variants.{Scope, Unbound}
 use Rattle.tree.specs.Tree.{list, struct, Scopes, end, Binds, stop, Node, Sheet}
 use Rattle.tree.specs.Reader.{Rows, Reading, got, no, times}
 use Rattle.tree.specs.Read as read
-use Rattle.tree.specs.Read.{typeOf, bindingOf, branded}
+use Rattle.tree.specs.Read.{typeOf, bindingOf}
 use Rattle.codegen_types.specs.Out.{Out, ok, refused, _then_}
 use Rattle.codegen_types.specs.Leaf.{bareName, display, lifetimeComma, maybeColons, leafArguments}
 use Rattle.codegen_types.specs.TypeString as typeString
@@ -30,11 +30,13 @@ use Rattle.codegen_types.specs.TypeString.{typeString, doBranding, nodeOf, scop
 use Rattle.codegen_types.specs.TypeString.{accumulate, outermostFirst, angled, anyOwned, listString, listModule, elementLeaf}
 use Rattle.codegen_types.proofs.Laws.{accumulate-none, accumulate-more}
 use Rattle.codegen_types.specs.declared.Leaf.{Leaf}
+use Rattle.codegen_types.specs.declared.Leaf.the-variants.{Owned}
 use Rattle.tree.specs.Index.{On, Has, Indexed}
-use Rattle.find.specs.Find.{kindAt, pastRows, ScopeIs, lastScope, namesOf, parentAt, NodeHere, lookup}
+use Rattle.find.specs.Find.{kindAt, pastRows, ScopeIs, lastScope, namesOf, parentAt, lookup}
 use Rattle.find.specs.declared.Found.{Found}
 use Rattle.find.specs.declared.Found.the-variants.{At, Nothing}
 use Rattle.find.proofs.Laws.{on-one, on-two, on-all, scope-counts}
+use Rattle.find.proofs.TypeLaws as read-law
 use Rattle.find.proofs.TypeLaws.{of-kind, times-none, binds-more, scope-inherit, scope-binds, scope-not}
 use Rattle.find.proofs.NodeLaws.{node-missing, node-there}
 use Rattle.type_parts.specs.Parts.{Writes, Lists, Listed, Opened, closer}
@@ -96,13 +98,15 @@ module _ (s : Str) (sheet : Sheet) (ids ats : List ℕ) (G : Reading Scopes) (no
       on-all {P = λ ss. Lists (outward (accumulate sheet (scopesOf ss sheet) nodes id)) l p l′ p′}
       (λ ss. rw (accumulate-more sheet (scopesOf ss sheet) nodes id z, node-missing s sheet ids ats id f e i h) tt) G
 
-  module _ (node : ℕ) (here : f ≡ At node) (parent : ℕ) (up : parent ≡ parentAt (rows (drop node s))) where
-    by-node : (Q : Scopes → Type 0) → ((x : Node) → nodeOf (sheet .nodes) id ≡ ok x → NodeHere (rows (drop node s)) x
+  module _ (node : ℕ) (here : f ≡ At node) (parent : ℕ) (up : parent ≡ parentAt (rows (drop node s))) (ps : Rows)
+      (params : ps ≡ restOf (rows (drop node s))) where
+    by-node : (Q : Scopes → Type 0) → ((x : Node) → nodeOf (sheet .nodes) id ≡ ok x → namesOf ps ≡ x .params
         → parent ≡ x .parent → On G Q) → On G Q
-    by-node Q law = node-there s sheet ids ats id f e i node here (λ o. On G Q) (λ x y w. law x y w (up ∙ rw (w .line) refl))
+    by-node Q law = node-there s sheet ids ats id f e i node here (λ o. On G Q)
+        (λ x y w. law x y (rw params (w .params)) (up ∙ rw (w .line) refl))
 
     pub chain-top : (l : List ℕ) (p : Arguments) (l′ : List ℕ) (p′ : Arguments) → parent ≡ 0
-        → ((x : Node) → NodeHere (rows (drop node s)) x → On G
+        → ((x : Node) → namesOf ps ≡ x .params → On G
         (λ ss. Lists (argumentsOf (sheet .root) (x .params) (scopeOf id (scopesOf ss sheet))) l p l′ p′))
         → On G (λ ss. Lists (outward (accumulate sheet (scopesOf ss sheet) nodes id)) l p l′ p′)
     unfolding outermostFirst
@@ -119,7 +123,7 @@ module _ (s : Str) (sheet : Sheet) (ids ats : List ℕ) (G : Reading Scopes) (no
 
     pub chain-next : (l : List ℕ) (p : Arguments) (l₁ : List ℕ) (q : Arguments) (l₂ : List ℕ) (r : Arguments) → (parent ≡ 0 → ⊥)
         → On G (λ ss. Lists (outward (accumulate sheet (scopesOf ss sheet) (nodes - 1) parent)) l p l₁ q)
-        → ((x : Node) → NodeHere (rows (drop node s)) x → On G
+        → ((x : Node) → namesOf ps ≡ x .params → On G
         (λ ss. Lists (argumentsOf (sheet .root) (x .params) (scopeOf id (scopesOf ss sheet))) l₁ q l₂ r))
         → On G (λ ss. Lists (outward (accumulate sheet (scopesOf ss sheet) nodes id)) l p l₂ r)
     unfolding outermostFirst
@@ -251,3 +255,17 @@ binds-on sheet left n rs rest more past l p l₁ t₁ l₂ t₂ l′ p′ a one 
     go (ok w) (ok ws) g v = listed-cons (a ⨾ g) v
     go (ok w) (refused k) g v = tt
     go (refused k) os g v = tt
+
+-- one binding: a U row, or a type
+module _ (sheet : Sheet) (left : ℕ) (rs : Rows) (line : Line) (at : line ≡ lineAt rs) (l : List ℕ) (t : Text) (l′ : List ℕ)
+    (t′ : Text) where
+  pub bind-unbound : line ≡ Unbound → Wrote l t (anyOwned (sheet .root)) l′ t′
+      → On (bindingOf (typeOf left) rs) (λ f. Writes (onlyOf (bindingsOf (f stop) sheet)) l t l′ t′)
+  unfolding bindingsOf
+  bind-unbound is w = read-law.bind-unbound left rs (λ f. Writes (onlyOf (bindingsOf (f stop) sheet)) l t l′ t′) line at is w
+
+  pub bind-typed : OneOf (0 ∷ 1 ∷ 2 ∷ 3 ∷ 4 ∷ 5 ∷ 6 ∷ 8 ∷ 9 ∷ 10 ∷ []) (tagOf the-type line)
+      → On (typeOf left rs) (λ ty. Writes (typeString ty sheet Owned) l t l′ t′)
+      → On (bindingOf (typeOf left) rs) (λ f. Writes (onlyOf (bindingsOf (f stop) sheet)) l t l′ t′)
+  unfolding bindingsOf
+  bind-typed other h = read-law.bind-typed left rs (λ f. Writes (onlyOf (bindingsOf (f stop) sheet)) l t l′ t′) line at other h

@@ -1,6 +1,7 @@
 -- What the writers of types and brands tell: the text that `type_string` gives for whatever type is read at a position, in
--- every sheet whose nodes the
--- index has. Where `type_string` refuses they tell nothing: the refusal is found before (crate type_refusal). Assumes nothing.
+-- every sheet whose nodes the index has. Where `type_string` refuses they tell nothing: the refusal is found before (crate
+-- type_refusal). Assumes nothing.
+use mathlib.Core.Path.{_≡_}
 use mathlib.Core.List.{List, [], _∷_}
 use Prim.Native.Nat.{ℕ}
 use lib.ListN.{drop}
@@ -16,7 +17,7 @@ use Rattle.codegen_types.specs.TypeString.{typeString, scopeOf, scopesOf, bindi
 use Rattle.codegen_types.specs.TypeString.{outermostFirst}
 use Rattle.codegen_types.specs.declared.Leaf.{Leaf}
 use Rattle.tree.specs.Index.{On}
-use Rattle.find.specs.Find.{NodeHere}
+use Rattle.find.specs.Find.{namesOf}
 use Rattle.type_parts.specs.Parts.{ForAll, Writes, Lists}
 use Rattle.type_parts.specs.declared.Arguments.{Arguments}
 
@@ -49,9 +50,10 @@ module _ (root s ids ats : List ℕ) where
       ForAll root s ids ats (λ sheet. On (times (read.scopeOf (typeOf left)) end n (rows (drop at s)))
       (λ ss. Lists (outward (accumulate sheet (scopesOf ss sheet) nodes id)) l p l′ p′))
 
+  -- of a node whose P rows begin at `params`
   abbrev pub OwnTold : ℕ → ℕ → ℕ → ℕ → ℕ → List ℕ → Arguments → List ℕ → Arguments → Type 0
-  OwnTold node id at n left l p l′ p′ =
-      ForAll root s ids ats (λ sheet. (x : Node) → NodeHere (rows (drop node s)) x
+  OwnTold params id at n left l p l′ p′ =
+      ForAll root s ids ats (λ sheet. (x : Node) → namesOf (rows (drop params s)) ≡ x .params
       → On (times (read.scopeOf (typeOf left)) end n (rows (drop at s)))
       (λ ss. Lists (argumentsOf root (x .params) (scopeOf id (scopesOf ss sheet))) l p l′ p′))
 

@@ -1,6 +1,5 @@
 // `type_string` and `do_branding` of codegen_types.rs: each calls the other, and the levels of a type that are left fall at
-// each call. The request
-// is known not to be refused (crate type_refusal). Over an empty buffer the same writers measure.
+// each call. The request is known not to be refused (crate type_refusal). Over an empty buffer the same writers measure.
 use codegen_types::Leaf;
 use find::Found;
 use row::Line;
@@ -152,20 +151,22 @@ fn write_chain(
     };
     let row = find::node_row(s, node);
     let parent = row.parent;
+    let params = row.params;
     if parent == 0 {
-        return write_own(root, s, ids, ats, node, id, at, n, left, p, buf);
+        return write_own(root, s, ids, ats, params, id, at, n, left, p, buf);
     }
     let q = write_chain(root, s, ids, ats, parent, nodes - 1, at, n, left, p, buf);
-    write_own(root, s, ids, ats, node, id, at, n, left, q, buf)
+    write_own(root, s, ids, ats, params, id, at, n, left, q, buf)
 }
 
-// The arguments of one node: those that its scope binds, its own parameters' names, or for each parameter one that is not bound.
+// The arguments of one node, whose P rows begin at `params`: those that its scope binds, its own parameters' names, or for each
+// parameter one that is not bound.
 fn write_own(
     root: &[u8],
     s: &[u8],
     ids: &[u64],
     ats: &[usize],
-    node: usize,
+    params: usize,
     id: u64,
     at: usize,
     n: u64,
@@ -173,11 +174,9 @@ fn write_own(
     p: Arguments,
     buf: &mut [u8],
 ) -> Arguments
-    ensures { λ r. ⌜ OwnTold (now (root .entry)) (now (s .entry)) (now (ids .entry)) (now (ats .entry)) node id at n left
+    ensures { λ r. ⌜ OwnTold (now (root .entry)) (now (s .entry)) (now (ids .entry)) (now (ats .entry)) params id at n left
         (now (buf .entry)) p (now (buf .exit)) r ⌝ }
 {
-    let row = find::node_row(s, node);
-    let params = row.params;
     let Found::At(scope) = find::scope(s, at, n, id) else {
         return type_parts::unbound(root, s, params, p, buf);
     };
@@ -192,7 +191,7 @@ fn write_own(
     write_binds(root, s, ids, ats, g.next, count, left, p, buf)
 }
 
-// So many bindings.
+// So many bindings. The last of them need not be passed over.
 fn write_binds(
     root: &[u8],
     s: &[u8],
@@ -215,6 +214,9 @@ fn write_binds(
         let t = t.byte(buf, p.sep);
         let t = write_binding(root, s, ids, ats, at, left, t, buf);
         p = Arguments { text: t, sep: b',' };
+        if n == 1 {
+            return p;
+        }
         at = find::past(s, at, 1);
         n -= 1;
     }

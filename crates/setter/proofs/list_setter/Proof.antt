@@ -20,7 +20,7 @@ same-length c =
     let c3 = c4 .before .before .before .before in
     let c2 = c3 .before .before .before .before in
     let c1 = c2 .before .before .before .before in
-    kept (c6 .init-end .ensures) ∙ (c5 .type-string .kept .1 .1 .1 .1 .1 .1 .1 .0) ∙ kept
+    kept (c6 .init-end .ensures) ∙ (c5 .init-type .kept .1 .1 .1 .1 .1 .1 .0) ∙ kept
     ((c3 .set-end .ensures)
     ⨾ (c4 .init-open .ensures)) ∙ (c2 .list-reader .kept .1 .1 .1 .1 .1 .1 .1 .0) ∙ kept (c1 .set-open .ensures)
 
@@ -40,7 +40,7 @@ returns c =
     (typeOf 16 (rows (drop ((c1 .args .slot) .typ) ((c1 .args .s) .now)))) (h .typ) k _
     (rw (← (c2 .element-kind .ensures)) at (element-at 16 (rows (drop ((c1 .args .slot) .typ) ((c1 .args .s) .now))))) _
     (c3 .several-inputs .ensures) (c4 .set-open .ensures)
-    ((c5 .list-reader .ensures) ns ix) (c6 .set-end .ensures) (c7 .init-open .ensures) ((c8 .type-string .ensures) ns ix)
+    ((c5 .list-reader .ensures) ns ix) (c6 .set-end .ensures) (c7 .init-open .ensures) ((c8 .init-type .ensures) ns ix)
     (c9 .init-end .ensures) .writes
 
 pub list-setter-spec : {M : Type 1} → statement M

@@ -22,10 +22,10 @@ same-length c =
     let c3 = c4 .before .before .before .before in
     let c2 = c3 .before .before .before .before .before in
     let c1 = c2 .before .before .before .before in
-    kept (c9 .new-end2 .ensures) ∙ (c8 .type-string2 .kept .1 .1 .1 .1 .1 .1 .1 .0) ∙ kept
+    kept (c9 .new-end2 .ensures) ∙ (c8 .init-type2 .kept .1 .1 .1 .1 .1 .1 .0) ∙ kept
     ((c6 .set-end .ensures) ⨾ (c7 .init-open .ensures)) ∙ (c5 .setter-input .kept .1 .1 .1 .1 .1 .1 .0)
     ∙ kept ((c3 .new-end .ensures)
-    ⨾ (c4 .set-open .ensures)) ∙ (c2 .type-string .kept .1 .1 .1 .1 .1 .1 .1 .0) ∙ kept (c1 .initn-open .ensures)
+    ⨾ (c4 .set-open .ensures)) ∙ (c2 .init-type .kept .1 .1 .1 .1 .1 .1 .0) ∙ kept (c1 .initn-open .ensures)
 
 returns : tie.Need-returns
 returns c =
@@ -42,9 +42,9 @@ returns c =
     λ ns ix sl h k n. parameter-here (sheetOf ((c1 .args .root) .now) ns) sl (c1 .args .slot) (h .slot) (c1 .args .tag)
     (nameOf (c1 .args .name)) ((c1 .args .slot) .discriminant)
     (typeOf 16 (rows (drop ((c1 .args .slot) .typ) ((c1 .args .s) .now)))) (h .typ) k n (c2 .initn-open .ensures)
-    ((c3 .type-string .ensures) ns ix)
+    ((c3 .init-type .ensures) ns ix)
     (c4 .new-end .ensures) (c5 .set-open .ensures) ((c6 .setter-input .ensures) ns ix) (c7 .set-end .ensures)
-    (c8 .init-open .ensures) ((c9 .type-string2 .ensures) ns ix)
+    (c8 .init-open .ensures) ((c9 .init-type2 .ensures) ns ix)
     (c10 .new-end2 .ensures) .writes
 
 pub parameter-setter-spec : {M : Type 1} → statement M

@@ -19,7 +19,7 @@ same-length c =
     let c3 = c4 .before .before .before .before in
     let c2 = c3 .before .before .before .before in
     let c1 = c2 .before .before .before .before in
-    kept (c6 .init-end .ensures) ∙ (c5 .type-string2 .kept .1 .1 .1 .1 .1 .1 .1 .0) ∙ kept
+    kept (c6 .init-end .ensures) ∙ (c5 .init-type .kept .1 .1 .1 .1 .1 .1 .0) ∙ kept
     ((c3 .set-end .ensures)
     ⨾ (c4 .init-open .ensures)) ∙ (c2 .type-string .kept .1 .1 .1 .1 .1 .1 .1 .0) ∙ kept (c1 .set-open .ensures)
 
@@ -36,7 +36,7 @@ returns c =
     (nameOf (c1 .args .name)) ((c1 .args .slot) .discriminant)
     (typeOf 16 (rows (drop ((c1 .args .slot) .typ) ((c1 .args .s) .now)))) (h .typ) k (c2 .set-open .ensures)
     ((c3 .type-string .ensures) ns ix)
-    (c4 .set-end .ensures) (c5 .init-open .ensures) ((c6 .type-string2 .ensures) ns ix) (c7 .init-end .ensures) .writes
+    (c4 .set-end .ensures) (c5 .init-open .ensures) ((c6 .init-type .ensures) ns ix) (c7 .init-end .ensures) .writes
 
 pub struct-setter-spec : {M : Type 1} → statement M
 struct-setter-spec =

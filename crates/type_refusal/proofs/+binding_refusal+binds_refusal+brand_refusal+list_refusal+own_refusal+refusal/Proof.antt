@@ -1,17 +1,14 @@
 -- The walk that looks for a refusal, six functions that call each other, meets its contracts: each return is one law of
--- Laws.antt. It ends, since
--- the type levels left fall at each way round. The loop over bindings: what is met from here on is met by the whole. The loop
--- over a node's
--- parents: so it is, and no node that was seen has a refusal of its own. Assumes nothing.
+-- Laws.antt. The loop over bindings: what is met from here on is met by the whole. The loop over a node's parents: so it is,
+-- and no node that was seen has a refusal of its own. Assumes nothing.
+use Rattle.type_refusal.proofs as here
 use lib.Seq.{length-take-le}
 use lib.ListN.{length, length-set, drop}
-use Rattle.type_refusal.proofs.Laws.{Chained}
-use Rattle.type_refusal.proofs.Laws as law
+use here.Laws.{Chained}
+use here.Laws as law
 use Rattle.find.specs.Find.{sheetOf}
 use Rattle.find.proofs.TypeLaws as read-law
-use Rattle.find.proofs.Laws.{on-one}
 use Rattle.tree.specs.Index.{On, Indexed}
-use Rattle.codegen_types.specs.declared.Leaf.the-variants.{Owned}
 use Rattle.codegen_types.specs.declared.Refusal.the-variants.{None}
 use Rattle.codegen_types.specs.declared.Refusal.{Refusal}
 use Rattle.codegen_types.specs.TypeString.{typeString, scopesOf, bindingsOf, allOf}
@@ -19,63 +16,43 @@ use Rattle.codegen_types.specs.Out.{Out, refusalOf}
 use Rattle.tree.specs.Read.{typeOf, bindingOf}
 use Rattle.tree.specs.Read as read
 use Rattle.tree.specs.Reader.{times}
-use Rattle.tree.specs.Tree.{Node, end, stop, bound}
+use Rattle.tree.specs.Tree.{Node, end, stop}
 use Rattle.row.specs.Rows.{rows}
 use Rattle.text.specs.Bytes.{Str}
-use Prim.Native.Nat.{_+_, _-_, _*_, _≤_}
+use Prim.Native.Nat.{ℕ, _+_, _-_, _*_, _<_, _≤_}
 use mathlib.Core.Path.{_≡_, refl, sym, _∙_}
 use mathlib.Core.List.{List}
 use native.Mathlib.Omega.{arith}
 use borrow.Author.Needs.{needs}
-use Prim.Native.Nat.{ℕ, _<_}
 use borrow.Fn.Kinds.{In}
 use borrow.Fn.PlainCycle.{Measures, is, falls, and}
-use Rattle.type_refusal.proofs.binding_refusal.Reads as binding-refusal
-use Rattle.type_refusal.proofs.binding_refusal.Kinds as binding-refusal-kinds
-use
-    Rattle.type_refusal.proofs.+binding_refusal+binds_refusal+brand_refusal+list_refusal+own_refusal+refusal.Lts-binding_refusal
-    as binding-refusal-lts
-use Rattle.type_refusal.proofs.binds_refusal.Reads as binds-refusal
-use Rattle.type_refusal.proofs.binds_refusal.Kinds as binds-refusal-kinds
-use
-    Rattle.type_refusal.proofs.+binding_refusal+binds_refusal+brand_refusal+list_refusal+own_refusal+refusal.Lts-binds_refusal
-    as binds-refusal-lts
-use Rattle.type_refusal.proofs.brand_refusal.Reads as brand-refusal
-use Rattle.type_refusal.proofs.brand_refusal.Kinds as brand-refusal-kinds
-use
-    Rattle.type_refusal.proofs.+binding_refusal+binds_refusal+brand_refusal+list_refusal+own_refusal+refusal.Lts-brand_refusal
-    as brand-refusal-lts
-use Rattle.type_refusal.proofs.list_refusal.Reads as list-refusal
-use Rattle.type_refusal.proofs.list_refusal.Kinds as list-refusal-kinds
-use
-    Rattle.type_refusal.proofs.+binding_refusal+binds_refusal+brand_refusal+list_refusal+own_refusal+refusal.Lts-list_refusal
-    as list-refusal-lts
-use Rattle.type_refusal.proofs.own_refusal.Reads as own-refusal
-use Rattle.type_refusal.proofs.own_refusal.Kinds as own-refusal-kinds
-use
-    Rattle.type_refusal.proofs.+binding_refusal+binds_refusal+brand_refusal+list_refusal+own_refusal+refusal.Lts-own_refusal
-    as own-refusal-lts
-use Rattle.type_refusal.proofs.refusal.Reads as refusal
-use Rattle.type_refusal.proofs.refusal.Kinds as refusal-kinds
-use Rattle.type_refusal.proofs.+binding_refusal+binds_refusal+brand_refusal+list_refusal+own_refusal+refusal.Lts-refusal
-    as refusal-lts
-use Rattle.codegen_types.proofs.element_leaf.Reads as element-leaf-reads
-use Rattle.find.proofs.among.Reads as among-reads
-use Rattle.find.proofs.count_is.Reads as count-is-reads
-use Rattle.find.proofs.kind.Reads as kind-reads
-use Rattle.find.proofs.node.Reads as node-reads
-use Rattle.find.proofs.node_row.Reads as node-row-reads
-use Rattle.find.proofs.past.Reads as past-reads
-use Rattle.find.proofs.scope.Reads as scope-reads
-use Rattle.row.proofs.next.Reads as next-reads
-use Rattle.type_refusal.proofs.module_refusal.Reads as module-refusal-reads
-use Rattle.type_refusal.proofs.pointer_refusal.Reads as pointer-refusal-reads
-use Rattle.type_refusal.proofs.+binding_refusal+binds_refusal+brand_refusal+list_refusal+own_refusal+refusal.{
-  statement,
-}
-use Rattle.type_refusal.proofs.+binding_refusal+binds_refusal+brand_refusal+list_refusal+own_refusal+refusal.Tie.{
-  close,
-}
+use here.+binding_refusal+binds_refusal+brand_refusal+list_refusal+own_refusal+refusal as cycle
+use cycle.{statement}
+use cycle.Tie.{close}
+use cycle.Lts-binding_refusal as binding-refusal-lts
+use cycle.Lts-binds_refusal as binds-refusal-lts
+use cycle.Lts-brand_refusal as brand-refusal-lts
+use cycle.Lts-list_refusal as list-refusal-lts
+use cycle.Lts-own_refusal as own-refusal-lts
+use cycle.Lts-refusal as refusal-lts
+use here.binding_refusal.Reads as binding-refusal
+use here.binding_refusal.Kinds as binding-refusal-kinds
+use here.binds_refusal.Reads as binds-refusal
+use here.binds_refusal.Kinds as binds-refusal-kinds
+use here.brand_refusal.Reads as brand-refusal
+use here.brand_refusal.Kinds as brand-refusal-kinds
+use here.list_refusal.Reads as list-refusal
+use here.list_refusal.Kinds as list-refusal-kinds
+use here.own_refusal.Reads as own-refusal
+use here.own_refusal.Kinds as own-refusal-kinds
+use here.refusal.Reads as refusal
+use here.refusal.Kinds as refusal-kinds
+use Rattle.codegen_types.proofs as codegen-types
+use Rattle.find.proofs as find
+use Rattle.row.proofs as row
+
+-- ---- the measures: the type levels left fall where a list, a brand or a binding has a type; at one level a brand looks at its
+-- nodes, a node at its bindings, a binding and a list at a type
 
 abbrev μ-binding-refusal : Measures 3 binding-refusal-kinds.ps ℕ
 μ-binding-refusal κs a = 8 * a .1 .1 .1 .1 .0 + 2
@@ -95,65 +72,38 @@ abbrev μ-own-refusal : Measures 4 own-refusal-kinds.ps ℕ
 abbrev μ-refusal : Measures 3 refusal-kinds.ps ℕ
 μ-refusal κs a = 8 * a .1 .1 .1 .1 .0
 
+-- ---- what is known of each function where its measure is t, and what it takes of those that it calls
+
 abbrev binding-refusal-at : ℕ → In 3 binding-refusal-kinds.ps
-binding-refusal-at t =
-    and
-    3
-    binding-refusal-kinds.ps
-    (is 3 binding-refusal-kinds.ps μ-binding-refusal t)
-    binding-refusal.Pre
+binding-refusal-at t = and 3 binding-refusal-kinds.ps (is 3 binding-refusal-kinds.ps μ-binding-refusal t) binding-refusal.Pre
 
 abbrev binding-refusal-below : ℕ → In 3 binding-refusal-kinds.ps
 binding-refusal-below t =
-    and
-    3
-    binding-refusal-kinds.ps
-    (falls 3 binding-refusal-kinds.ps _<_ μ-binding-refusal t)
-    binding-refusal.Pre
+    and 3 binding-refusal-kinds.ps (falls 3 binding-refusal-kinds.ps _<_ μ-binding-refusal t) binding-refusal.Pre
 
 abbrev binds-refusal-at : ℕ → In 3 binds-refusal-kinds.ps
-binds-refusal-at t =
-    and 3 binds-refusal-kinds.ps (is 3 binds-refusal-kinds.ps μ-binds-refusal t) binds-refusal.Pre
+binds-refusal-at t = and 3 binds-refusal-kinds.ps (is 3 binds-refusal-kinds.ps μ-binds-refusal t) binds-refusal.Pre
 
 abbrev binds-refusal-below : ℕ → In 3 binds-refusal-kinds.ps
-binds-refusal-below t =
-    and
-    3
-    binds-refusal-kinds.ps
-    (falls 3 binds-refusal-kinds.ps _<_ μ-binds-refusal t)
-    binds-refusal.Pre
+binds-refusal-below t = and 3 binds-refusal-kinds.ps (falls 3 binds-refusal-kinds.ps _<_ μ-binds-refusal t) binds-refusal.Pre
 
 abbrev brand-refusal-at : ℕ → In 3 brand-refusal-kinds.ps
-brand-refusal-at t =
-    and 3 brand-refusal-kinds.ps (is 3 brand-refusal-kinds.ps μ-brand-refusal t) brand-refusal.Pre
+brand-refusal-at t = and 3 brand-refusal-kinds.ps (is 3 brand-refusal-kinds.ps μ-brand-refusal t) brand-refusal.Pre
 
 abbrev brand-refusal-below : ℕ → In 3 brand-refusal-kinds.ps
-brand-refusal-below t =
-    and
-    3
-    brand-refusal-kinds.ps
-    (falls 3 brand-refusal-kinds.ps _<_ μ-brand-refusal t)
-    brand-refusal.Pre
+brand-refusal-below t = and 3 brand-refusal-kinds.ps (falls 3 brand-refusal-kinds.ps _<_ μ-brand-refusal t) brand-refusal.Pre
 
 abbrev list-refusal-at : ℕ → In 3 list-refusal-kinds.ps
-list-refusal-at t =
-    and 3 list-refusal-kinds.ps (is 3 list-refusal-kinds.ps μ-list-refusal t) list-refusal.Pre
+list-refusal-at t = and 3 list-refusal-kinds.ps (is 3 list-refusal-kinds.ps μ-list-refusal t) list-refusal.Pre
 
 abbrev list-refusal-below : ℕ → In 3 list-refusal-kinds.ps
-list-refusal-below t =
-    and
-    3
-    list-refusal-kinds.ps
-    (falls 3 list-refusal-kinds.ps _<_ μ-list-refusal t)
-    list-refusal.Pre
+list-refusal-below t = and 3 list-refusal-kinds.ps (falls 3 list-refusal-kinds.ps _<_ μ-list-refusal t) list-refusal.Pre
 
 abbrev own-refusal-at : ℕ → In 4 own-refusal-kinds.ps
-own-refusal-at t =
-    and 4 own-refusal-kinds.ps (is 4 own-refusal-kinds.ps μ-own-refusal t) own-refusal.Pre
+own-refusal-at t = and 4 own-refusal-kinds.ps (is 4 own-refusal-kinds.ps μ-own-refusal t) own-refusal.Pre
 
 abbrev own-refusal-below : ℕ → In 4 own-refusal-kinds.ps
-own-refusal-below t =
-    and 4 own-refusal-kinds.ps (falls 4 own-refusal-kinds.ps _<_ μ-own-refusal t) own-refusal.Pre
+own-refusal-below t = and 4 own-refusal-kinds.ps (falls 4 own-refusal-kinds.ps _<_ μ-own-refusal t) own-refusal.Pre
 
 abbrev refusal-at : ℕ → In 3 refusal-kinds.ps
 refusal-at t = and 3 refusal-kinds.ps (is 3 refusal-kinds.ps μ-refusal t) refusal.Pre
@@ -162,85 +112,75 @@ abbrev refusal-below : ℕ → In 3 refusal-kinds.ps
 refusal-below t = and 3 refusal-kinds.ps (falls 3 refusal-kinds.ps _<_ μ-refusal t) refusal.Pre
 
 abbrev binding-refusal-calls : ℕ → binding-refusal-lts.Claims
-binding-refusal-calls t = (next-reads.Asked, next-reads.Learnt, refusal-below t, refusal.Post)
+binding-refusal-calls t = (row.next.Reads.Asked, row.next.Reads.Learnt, refusal-below t, refusal.Post)
 
 abbrev binds-refusal-calls : ℕ → binds-refusal-lts.Claims
-binds-refusal-calls t = (binding-refusal-below t, binding-refusal.Post, past-reads.Asked, past-reads.Learnt)
+binds-refusal-calls t = (binding-refusal-below t, binding-refusal.Post, find.past.Reads.Asked, find.past.Reads.Learnt)
 
 abbrev brand-refusal-calls : ℕ → brand-refusal-lts.Claims
 brand-refusal-calls t = (
-  node-reads.Asked,
-  node-reads.Learnt,
+  find.node.Reads.Asked,
+  find.node.Reads.Learnt,
+  find.node_row.Reads.Asked,
+  find.node_row.Reads.Learnt,
   own-refusal-below t,
   own-refusal.Post,
-  node-row-reads.Asked,
-  node-row-reads.Learnt,
 )
 
 abbrev list-refusal-calls : ℕ → list-refusal-lts.Claims
 list-refusal-calls t = (
-  kind-reads.Asked,
-  kind-reads.Learnt,
-  element-leaf-reads.Asked,
-  element-leaf-reads.Learnt,
-  refusal-below
-      t,
+  find.kind.Reads.Asked,
+  find.kind.Reads.Learnt,
+  codegen-types.element_leaf.Reads.Asked,
+  codegen-types.element_leaf.Reads.Learnt,
+  refusal-below t,
   refusal.Post,
 )
 
 abbrev own-refusal-calls : ℕ → own-refusal-lts.Claims
 own-refusal-calls t = (
-  among-reads.Asked,
-  among-reads.Learnt,
-  scope-reads.Asked,
-  scope-reads.Learnt,
-  next-reads.Asked,
-  next-reads.Learnt,
-  node-row-reads.Asked,
-  node-row-reads.Learnt,
-  count-is-reads.Asked,
-  count-is-reads.Learnt,
+  find.among.Reads.Asked,
+  find.among.Reads.Learnt,
+  find.scope.Reads.Asked,
+  find.scope.Reads.Learnt,
+  row.next.Reads.Asked,
+  row.next.Reads.Learnt,
+  find.count_is.Reads.Asked,
+  find.count_is.Reads.Learnt,
   binds-refusal-below t,
   binds-refusal.Post,
 )
 
 abbrev refusal-calls : ℕ → refusal-lts.Claims
 refusal-calls t = (
-  next-reads.Asked,
-  next-reads.Learnt,
+  row.next.Reads.Asked,
+  row.next.Reads.Learnt,
   list-refusal-below t,
   list-refusal.Post,
-  module-refusal-reads.Asked,
-  module-refusal-reads.Learnt,
+  here.module_refusal.Reads.Asked,
+  here.module_refusal.Reads.Learnt,
   brand-refusal-below t,
   brand-refusal.Post,
-  pointer-refusal-reads.Asked,
-  pointer-refusal-reads.Learnt,
+  here.pointer_refusal.Reads.Asked,
+  here.pointer_refusal.Reads.Learnt,
 )
 
-binding-refusal-refusal-requires : (t : ℕ) → binding-refusal-lts.Need-refusal-requires (binding-refusal-calls t)
-    (binding-refusal-at t) binding-refusal.Post
-binding-refusal-refusal-requires t c κs =
-    (omega (arith, (c .before .before .before .before .before .pre .0)), tt)
+-- ---- binding_refusal
 
 binding-refusal-returns : (t : ℕ) → binding-refusal-lts.Need-returns (binding-refusal-calls t) (binding-refusal-at t)
     binding-refusal.Post
-unfolding allOf bindingsOf
 binding-refusal-returns t c =
     let c2 = c .before .before in
-    λ root ns x. read-law.bind-unbound _ _ (λ f. None ≡ refusalOf (allOf (bindingsOf (f stop) (sheetOf root ns)))) _
-    (c2 .next .ensures .0) (c .enum-told .given .1) refl
+    λ root ns x. law.bind-unbound (sheetOf root ns) _ _ _ (c2 .next .ensures .0) (c .enum-told .given .1)
 
 binding-refusal-returns-2 : (t : ℕ) → binding-refusal-lts.Need-returns-2 (binding-refusal-calls t) (binding-refusal-at t)
     binding-refusal.Post
 binding-refusal-returns-2 t c =
-    let c1 = c .before in let c2 = c1 .before in let c6 = c2 .before .before .before .before in
-    λ root ns x. read-law.bind-typed _ _ (λ f. (c .refusal .result) ≡ refusalOf (allOf (bindingsOf (f stop) (sheetOf root ns))))
-    _ (c2 .next .ensures .0) (c1 .match .keys2) (on-one (λ ty. (c .refusal .result) ≡ refusalOf
-    (typeString ty (sheetOf root ns) Owned)) (λ t. (c .refusal .result) ≡ refusalOf
-    (allOf (bindingsOf (bound t stop) (sheetOf root ns))))
-    (typeOf (c6 .args .left) (rows (drop (c6 .args .at) ((c6 .args .s) .now))))
-    (λ t e. law.bind-one (sheetOf root ns) t (c .refusal .result) e) ((c .refusal .ensures) root ns x))
+    let c1 = c .before in let c2 = c1 .before in
+    λ root ns x. law.bind-typed (sheetOf root ns) _ _ _ (c2 .next .ensures .0) (c1 .match .keys2) _
+    ((c .refusal .ensures) root ns x)
+
+-- ---- binds_refusal
 
 abbrev binds-refusal-Inv-loop : binds-refusal-lts.InvT-loop
 binds-refusal-Inv-loop s ids ats from count left at₀ n₀ at n = (root : Str) (ns : List Node) → Indexed s ns ids ats
@@ -258,11 +198,6 @@ binds-refusal-loop-holds : (t : ℕ) → binds-refusal-lts.Need-loop-holds (bind
 binds-refusal-loop-holds t c =
     λ root ns x r h. h
 
-binds-refusal-binding-refusal-requires : (t : ℕ) → binds-refusal-lts.Need-binding-refusal-requires (binds-refusal-calls t)
-    (binds-refusal-at t) binds-refusal.Post binds-refusal-Inv-loop binds-refusal-μ-loop
-binds-refusal-binding-refusal-requires t c κs =
-    (omega (arith, (c .before .before .before .before .before .pre .0)), tt)
-
 binds-refusal-returns : (t : ℕ) → binds-refusal-lts.Need-returns (binds-refusal-calls t) (binds-refusal-at t) binds-refusal.Post
     binds-refusal-Inv-loop binds-refusal-μ-loop
 binds-refusal-returns t c =
@@ -271,17 +206,27 @@ binds-refusal-returns t c =
     (law.binds-stop (sheetOf root ns) _ _ _ _ (c3 .loop-test .taken) refl _ ((c2 .binding-refusal .ensures) root ns x) _
     (c .enum-told2 .given .1))
 
-binds-refusal-loop-again : (t : ℕ) → binds-refusal-lts.Need-loop-again (binds-refusal-calls t) (binds-refusal-at t)
-    binds-refusal.Post binds-refusal-Inv-loop binds-refusal-μ-loop
-binds-refusal-loop-again t c =
-    let c1 = c .before in let c3 = c1 .before .before in let c4 = c3 .before in let c5 = c4 .before in
-    λ root ns x r h. (c5 .loop .inv) root ns x r (law.binds-on (sheetOf root ns) _ _ _ _ (c4 .loop-test .taken)
-    (c .past .ensures) _ ((c3 .binding-refusal .ensures) root ns x) r (c1 .enum-told .given .1) h)
-
 binds-refusal-returns-2 : (t : ℕ) → binds-refusal-lts.Need-returns-2 (binds-refusal-calls t) (binds-refusal-at t)
     binds-refusal.Post binds-refusal-Inv-loop binds-refusal-μ-loop
 binds-refusal-returns-2 t c =
+    let c1 = c .before in let c3 = c1 .before .before in let c4 = c3 .before in let c5 = c4 .before in
+    λ root ns x. (c5 .loop .inv) root ns x None (law.binds-on (sheetOf root ns) _ _ _ _ (c4 .loop-test .taken) refl _
+    ((c3 .binding-refusal .ensures) root ns x) None (c1 .enum-told .given .1)
+    (law.binds-none (sheetOf root ns) _ (c5 .loop .n - 1) _ (omega (arith, (c .if1 .taken)))))
+
+binds-refusal-loop-again : (t : ℕ) → binds-refusal-lts.Need-loop-again (binds-refusal-calls t) (binds-refusal-at t)
+    binds-refusal.Post binds-refusal-Inv-loop binds-refusal-μ-loop
+binds-refusal-loop-again t c =
+    let c2 = c .before .before in let c4 = c2 .before .before in let c5 = c4 .before in let c6 = c5 .before in
+    λ root ns x r h. (c6 .loop .inv) root ns x r (law.binds-on (sheetOf root ns) _ _ _ _ (c5 .loop-test .taken)
+    (c .past .ensures) _ ((c4 .binding-refusal .ensures) root ns x) r (c2 .enum-told .given .1) h)
+
+binds-refusal-returns-3 : (t : ℕ) → binds-refusal-lts.Need-returns-3 (binds-refusal-calls t) (binds-refusal-at t)
+    binds-refusal.Post binds-refusal-Inv-loop binds-refusal-μ-loop
+binds-refusal-returns-3 t c =
     λ root ns x. (c .before .loop .inv) root ns x None (law.binds-none (sheetOf root ns) _ _ _ (c .loop-test .left))
+
+-- ---- brand_refusal
 
 abbrev brand-refusal-Inv-loop : brand-refusal-lts.InvT-loop
 brand-refusal-Inv-loop s ids ats id at n left seen₀ k₀ current₀ seen k current = (k ≤ 16) × (length seen ≡ 16) ×
@@ -295,115 +240,106 @@ brand-refusal-μ-loop s ids ats id at n left seen₀ k₀ current₀ seen k curr
 brand-refusal-loop-holds : (t : ℕ) → brand-refusal-lts.Need-loop-holds (brand-refusal-calls t) (brand-refusal-at t)
     brand-refusal.Post brand-refusal-Inv-loop brand-refusal-μ-loop
 brand-refusal-loop-holds t c =
-    let c3 = c .before .before .before in (
+    let a = c .before .before .before .args in (
       omega arith,
       refl,
-      λ root ns x. law.brand-start (sheetOf root ns)
-          (times (read.scopeOf (typeOf (c3 .args .left))) end (c3 .args .n) (rows (drop (c3 .args .at) ((c3 .args .s) .now))))
-          (c3 .args .id) _,
+      λ root ns x. law.brand-start (sheetOf root ns) (times (read.scopeOf (typeOf (a .left))) end (a .n)
+          (rows (drop (a .at) (a .s .now)))) (a .id) _,
     )
 
 brand-refusal-returns : (t : ℕ) → brand-refusal-lts.Need-returns (brand-refusal-calls t) (brand-refusal-at t) brand-refusal.Post
     brand-refusal-Inv-loop brand-refusal-μ-loop
 brand-refusal-returns t c =
-    let c2 = c .before .before in let c3 = c2 .before in let c4 = c3 .before in let c8 = c4 .before .before .before .before in
-    λ root ns x. law.brand-5 ((c8 .args .s) .now) ns ((c8 .args .ids) .now) ((c8 .args .ats) .now) root
-    (times (read.scopeOf (typeOf (c8 .args .left))) end (c8 .args .n) (rows (drop (c8 .args .at) ((c8 .args .s) .now))))
-    (c8 .args .id) (c4 .loop .current) (c4 .loop .k) (c4 .loop .seen) (c3 .loop-test .taken) _ (c2 .node .ensures) x
-    ((c4 .loop .inv .2) root ns x) (c .enum-told .given .1)
+    let c2 = c .before .before in let c3 = c2 .before in let c4 = c3 .before in
+    let a = c4 .before .before .before .before .args in
+    λ root ns x. law.brand-5 (a .s .now) ns (a .ids .now) (a .ats .now) root (times (read.scopeOf (typeOf (a .left))) end (a .n)
+    (rows (drop (a .at) (a .s .now)))) (a .id) (c4 .loop .current) (c4 .loop .k) (c4 .loop .seen) (c3 .loop-test .taken) _
+    (c2 .node .ensures) x ((c4 .loop .inv .2) root ns x) (c .enum-told .given .1)
 
 brand-refusal-slice-aggregate-own-refusal :
     (t : ℕ) → brand-refusal-lts.Need-slice-aggregate-own-refusal (brand-refusal-calls t) (brand-refusal-at t) brand-refusal.Post
     brand-refusal-Inv-loop brand-refusal-μ-loop
 brand-refusal-slice-aggregate-own-refusal t c =
-    let c6 = c .before .before .before .before .before .before in
-    sym (length-take-le (c6 .loop .k) (c6 .loop .seen) (let h = (c6 .loop .inv .1) in omega arith))
-
-brand-refusal-own-refusal-requires : (t : ℕ) → brand-refusal-lts.Need-own-refusal-requires (brand-refusal-calls t)
-    (brand-refusal-at t) brand-refusal.Post brand-refusal-Inv-loop brand-refusal-μ-loop
-brand-refusal-own-refusal-requires t c κs =
-    (omega (arith, (c .before .before .before .before .before .before .before .before .before .before .pre .0)), tt)
+    let c7 = c .before .before .before .before .before .before .before in
+    sym (length-take-le (c7 .loop .k) (c7 .loop .seen) (let h = (c7 .loop .inv .1) in omega arith))
 
 brand-refusal-returns-2 : (t : ℕ) → brand-refusal-lts.Need-returns-2 (brand-refusal-calls t) (brand-refusal-at t)
     brand-refusal.Post brand-refusal-Inv-loop brand-refusal-μ-loop
 brand-refusal-returns-2 t c =
-    let c2 = c .before .before in let c5 = c2 .before .before .before in let c7 = c5 .before .before in let c8 = c7 .before in
-    let c9 = c8 .before in let c13 = c9 .before .before .before .before in
-    λ root ns x. law.brand-own ((c13 .args .s) .now) ns ((c13 .args .ids) .now) ((c13 .args .ats) .now) root
-    (times (read.scopeOf (typeOf (c13 .args .left))) end (c13 .args .n) (rows (drop (c13 .args .at) ((c13 .args .s) .now))))
-    (c13 .args .id) (c9 .loop .current) (c9 .loop .k) (c9 .loop .seen) (c8 .loop-test .taken) _ (c7 .node .ensures) x
-    ((c9 .loop .inv .2) root ns x) (c5 .node2 .given .0 .0) (c5 .node2 .given .1) _ ((c2 .own-refusal .ensures) root ns x) _
-    (c .enum-told3 .given .1)
+    let c2 = c .before .before in let c4 = c2 .before .before in let c6 = c4 .before .before in let c8 = c6 .before .before in
+    let c9 = c8 .before in let c10 = c9 .before in let a = c10 .before .before .before .before .args in
+    λ root ns x. law.brand-own (a .s .now) ns (a .ids .now) (a .ats .now) root (times (read.scopeOf (typeOf (a .left))) end
+    (a .n) (rows (drop (a .at) (a .s .now)))) (a .id) (c10 .loop .current) (c10 .loop .k) (c10 .loop .seen)
+    (c9 .loop-test .taken) _ (c8 .node .ensures) x ((c10 .loop .inv .2) root ns x) (c6 .node2 .given .0 .0)
+    (c6 .node2 .given .1) _ (c4 .node-row .ensures .1) _ ((c2 .own-refusal .ensures) root ns x) _ (c .enum-told3 .given .1)
 
 brand-refusal-returns-3 : (t : ℕ) → brand-refusal-lts.Need-returns-3 (brand-refusal-calls t) (brand-refusal-at t)
     brand-refusal.Post brand-refusal-Inv-loop brand-refusal-μ-loop
 brand-refusal-returns-3 t c =
-    let c2 = c .before .before in let c3 = c2 .before in let c5 = c3 .before .before in let c8 = c5 .before .before .before in
+    let c2 = c .before .before in let c4 = c2 .before .before in let c6 = c4 .before .before in let c8 = c6 .before .before in
     let c10 = c8 .before .before in let c11 = c10 .before in let c12 = c11 .before in
-    let c16 = c12 .before .before .before .before in
-    λ root ns x. law.brand-top ((c16 .args .s) .now) ns ((c16 .args .ids) .now) ((c16 .args .ats) .now) root
-    (times (read.scopeOf (typeOf (c16 .args .left))) end (c16 .args .n) (rows (drop (c16 .args .at) ((c16 .args .s) .now))))
-    (c16 .args .id) (c12 .loop .current) (c12 .loop .k) (c12 .loop .seen) (c11 .loop-test .taken) _ (c10 .node .ensures) x
-    ((c12 .loop .inv .2) root ns x) (c8 .node2 .given .0 .0) (c8 .node2 .given .1) _ ((c5 .own-refusal .ensures) root ns x)
-    _ (c2 .node-row .ensures .0) (c3 .enum-told2 .given .1) (c .if1 .taken)
+    let a = c12 .before .before .before .before .args in
+    λ root ns x. law.brand-top (a .s .now) ns (a .ids .now) (a .ats .now) root (times (read.scopeOf (typeOf (a .left))) end
+    (a .n) (rows (drop (a .at) (a .s .now)))) (a .id) (c12 .loop .current) (c12 .loop .k) (c12 .loop .seen)
+    (c11 .loop-test .taken) _ (c10 .node .ensures) x ((c12 .loop .inv .2) root ns x) (c8 .node2 .given .0 .0)
+    (c8 .node2 .given .1) _ (c6 .node-row .ensures .1) _ ((c4 .own-refusal .ensures) root ns x) _ (c6 .node-row .ensures .0)
+    (c2 .enum-told2 .given .1) (c .if1 .taken)
 
 brand-refusal-loop-again : (t : ℕ) → brand-refusal-lts.Need-loop-again (brand-refusal-calls t) (brand-refusal-at t)
     brand-refusal.Post brand-refusal-Inv-loop brand-refusal-μ-loop
 brand-refusal-loop-again t c =
-    let c2 = c .before .before in let c3 = c2 .before in let c5 = c3 .before .before in let c8 = c5 .before .before .before in
+    let c2 = c .before .before in let c4 = c2 .before .before in let c6 = c4 .before .before in let c8 = c6 .before .before in
     let c10 = c8 .before .before in let c11 = c10 .before in let c12 = c11 .before in
-    let c16 = c12 .before .before .before .before in (
+    let a = c12 .before .before .before .before .args in (
       omega arith,
       length-set (c12 .loop .seen) (c12 .loop .k) (c12 .loop .current) ∙ (c12 .loop .inv .1),
-      λ root ns x.
-          law.brand-next ((c16 .args .s) .now) ns ((c16 .args .ids) .now) ((c16 .args .ats) .now) root
-          (times (read.scopeOf (typeOf (c16 .args .left))) end (c16 .args .n) (rows (drop (c16 .args .at) ((c16 .args .s) .now))))
-          (c16 .args .id) (c12 .loop .current) (c12 .loop .k) (c12 .loop .seen) (c11 .loop-test .taken) _ (c10 .node .ensures) x
-          ((c12 .loop .inv .2) root ns x) (c8 .node2 .given .0 .0) (c8 .node2 .given .1) _ ((c5 .own-refusal .ensures) root ns x)
-          _ (c2 .node-row .ensures .0) (c3 .enum-told2 .given .1) (c12 .loop .inv .1) (c .if1 .left),
+      λ root ns x. law.brand-next (a .s .now) ns (a .ids .now) (a .ats .now) root
+          (times (read.scopeOf (typeOf (a .left))) end (a .n) (rows (drop (a .at) (a .s .now)))) (a .id) (c12 .loop .current)
+          (c12 .loop .k) (c12 .loop .seen) (c11 .loop-test .taken) _ (c10 .node .ensures) x ((c12 .loop .inv .2) root ns x)
+          (c8 .node2 .given .0 .0) (c8 .node2 .given .1) _ (c6 .node-row .ensures .1) _ ((c4 .own-refusal .ensures) root ns x) _
+          (c6 .node-row .ensures .0) (c2 .enum-told2 .given .1) (c12 .loop .inv .1) (c .if1 .left),
     )
 
 brand-refusal-returns-4 : (t : ℕ) → brand-refusal-lts.Need-returns-4 (brand-refusal-calls t) (brand-refusal-at t)
     brand-refusal.Post brand-refusal-Inv-loop brand-refusal-μ-loop
 brand-refusal-returns-4 t c =
-    let c1 = c .before in let c5 = c1 .before .before .before .before in
-    λ root ns x. law.brand-4 (sheetOf root ns) (times (read.scopeOf (typeOf (c5 .args .left))) end (c5 .args .n)
-    (rows (drop (c5 .args .at) ((c5 .args .s) .now)))) (c5 .args .id) (c1 .loop .current) (c1 .loop .k) (c1 .loop .seen)
-    (c .loop-test .left) ((c1 .loop .inv .2) root ns x)
+    let c1 = c .before in let a = c1 .before .before .before .before .args in
+    λ root ns x. law.brand-4 (sheetOf root ns) (times (read.scopeOf (typeOf (a .left))) end (a .n)
+    (rows (drop (a .at) (a .s .now)))) (a .id) (c1 .loop .current) (c1 .loop .k) (c1 .loop .seen) (c .loop-test .left)
+    ((c1 .loop .inv .2) root ns x)
+
+-- ---- list_refusal
 
 list-refusal-returns : (t : ℕ) → list-refusal-lts.Need-returns (list-refusal-calls t) (list-refusal-at t) list-refusal.Post
 list-refusal-returns t c =
-    let c1 = c .before in let c5 = c1 .before .before .before .before in
-    λ root ns x. law.list-text (sheetOf root ns) (c5 .args .leaf) _ _ _ (c1 .kind .ensures) (c .if1 .taken)
+    let c1 = c .before in let a = c1 .before .before .before .before .args in
+    λ root ns x. law.list-text (sheetOf root ns) (a .leaf) _ _ _ (c1 .kind .ensures) (c .if1 .taken)
 
 list-refusal-returns-2 : (t : ℕ) → list-refusal-lts.Need-returns-2 (list-refusal-calls t) (list-refusal-at t) list-refusal.Post
 list-refusal-returns-2 t c =
-    let c1 = c .before in let c2 = c1 .before in let c6 = c2 .before .before .before .before in
-    λ root ns x. law.list-data (sheetOf root ns) (c6 .args .leaf) _ _ _ (c2 .kind .ensures) (c1 .if1 .left) (c .if2 .taken)
+    let c1 = c .before in let c2 = c1 .before in let a = c2 .before .before .before .before .args in
+    λ root ns x. law.list-data (sheetOf root ns) (a .leaf) _ _ _ (c2 .kind .ensures) (c1 .if1 .left) (c .if2 .taken)
 
 list-refusal-returns-3 : (t : ℕ) → list-refusal-lts.Need-returns-3 (list-refusal-calls t) (list-refusal-at t) list-refusal.Post
 list-refusal-returns-3 t c =
-    let c1 = c .before in let c2 = c1 .before in let c3 = c2 .before in let c7 = c3 .before .before .before .before in
-    λ root ns x. law.list-any (sheetOf root ns) (c7 .args .leaf) _ _ _ (c3 .kind .ensures) (c2 .if1 .left) (c1 .if2 .left)
+    let c1 = c .before in let c2 = c1 .before in let c3 = c2 .before in let a = c3 .before .before .before .before .args in
+    λ root ns x. law.list-any (sheetOf root ns) (a .leaf) _ _ _ (c3 .kind .ensures) (c2 .if1 .left) (c1 .if2 .left)
     (c .if3 .taken)
-
-list-refusal-refusal-requires : (t : ℕ) → list-refusal-lts.Need-refusal-requires (list-refusal-calls t) (list-refusal-at t)
-    list-refusal.Post
-list-refusal-refusal-requires t c κs =
-    (omega (arith, (c .before .before .before .before .before .before .before .before .pre .0)), tt)
 
 list-refusal-returns-4 : (t : ℕ) → list-refusal-lts.Need-returns-4 (list-refusal-calls t) (list-refusal-at t) list-refusal.Post
 list-refusal-returns-4 t c =
     let c1 = c .before in let c2 = c1 .before in let c3 = c2 .before in let c4 = c3 .before in let c5 = c4 .before in
-    let c9 = c5 .before .before .before .before in
-    λ root ns x. law.list-inner (sheetOf root ns) (c9 .args .leaf) _ _ _ (c5 .kind .ensures) _ _ (c4 .if1 .left) (c3 .if2 .left)
+    let a = c5 .before .before .before .before .args in
+    λ root ns x. law.list-inner (sheetOf root ns) (a .leaf) _ _ _ (c5 .kind .ensures) _ _ (c4 .if1 .left) (c3 .if2 .left)
     (c2 .if3 .left) (c1 .element-leaf .ensures) ((c .refusal .ensures) root ns x)
+
+-- ---- own_refusal
 
 own-refusal-returns : (t : ℕ) → own-refusal-lts.Need-returns (own-refusal-calls t) (own-refusal-at t) own-refusal.Post
 own-refusal-returns t c =
-    let c1 = c .before in let c6 = c1 .before .before .before .before .before in
-    λ root ns x y e w. law.own-seen (sheetOf root ns) (times (read.scopeOf (typeOf (c6 .args .left))) end (c6 .args .n)
-    (rows (drop (c6 .args .at) (c6 .args .s .now)))) _ _ _ (c1 .among .ensures) (c .if1 .taken)
+    let c1 = c .before in let a = c1 .before .before .before .before .before .args in
+    λ root ns x y e w. law.own-seen (sheetOf root ns) (times (read.scopeOf (typeOf (a .left))) end (a .n)
+    (rows (drop (a .at) (a .s .now)))) _ _ _ (c1 .among .ensures) (c .if1 .taken)
 
 own-refusal-returns-2 : (t : ℕ) → own-refusal-lts.Need-returns-2 (own-refusal-calls t) (own-refusal-at t) own-refusal.Post
 own-refusal-returns-2 t c =
@@ -422,29 +358,23 @@ own-refusal-returns-4 t c =
     λ root ns x y e w. law.own-inherit _ (sheetOf root ns) _ _ _ _ y e _ (c8 .scope .ensures) _ (rw (c6 .scope2 .given .1) refl)
     _ (c4 .next .ensures .0) _ _ _ (c2 .line .given .1) (c .if2 .taken)
 
-own-refusal-binds-refusal-requires : (t : ℕ) → own-refusal-lts.Need-binds-refusal-requires (own-refusal-calls t)
-    (own-refusal-at t) own-refusal.Post
-own-refusal-binds-refusal-requires t c κs =
-    let c18 = c .before .before .before .before .before .before .before .before .before .before .before .before .before .before
-    .before .before .before .before in
-    (omega (arith, (c18 .pre .0)), tt)
-
 own-refusal-returns-5 : (t : ℕ) → own-refusal-lts.Need-returns-5 (own-refusal-calls t) (own-refusal-at t) own-refusal.Post
 own-refusal-returns-5 t c =
-    let c1 = c .before in let c2 = c1 .before in let c3 = c2 .before in let c4 = c3 .before in let c6 = c4 .before .before in
-    let c8 = c6 .before .before in let c10 = c8 .before .before in let c12 = c10 .before .before in
-    λ root ns x y e w. law.own-binds _ (sheetOf root ns) _ _ _ _ y e _ (c12 .scope .ensures) _ (rw (c10 .scope2 .given .1) refl)
-    _ (c8 .next .ensures .0) _ _ _ (c6 .line .given .1) (c4 .if2 .left) _ (c8 .next .ensures .1) _
-    (rw (c3 .node-row .ensures .1) (w .params)) _ (c2 .count-is .ensures) _ (c1 .if3 .taken)
-    ((c .binds-refusal .ensures) root ns x)
+    let c1 = c .before in let c2 = c1 .before in let c3 = c2 .before in let c5 = c3 .before .before in
+    let c7 = c5 .before .before in let c9 = c7 .before .before in let c11 = c9 .before .before in
+    λ root ns x y e w. law.own-binds _ (sheetOf root ns) _ _ _ _ y e _ (c11 .scope .ensures) _ (rw (c9 .scope2 .given .1) refl)
+    _ (c7 .next .ensures .0) _ _ _ (c5 .line .given .1) (c3 .if2 .left) _ (c7 .next .ensures .1) _ w _ (c2 .count-is .ensures)
+    _ (c1 .if3 .taken) ((c .binds-refusal .ensures) root ns x)
 
 own-refusal-returns-6 : (t : ℕ) → own-refusal-lts.Need-returns-6 (own-refusal-calls t) (own-refusal-at t) own-refusal.Post
 own-refusal-returns-6 t c =
-    let c1 = c .before in let c2 = c1 .before in let c3 = c2 .before in let c5 = c3 .before .before in
-    let c7 = c5 .before .before in let c9 = c7 .before .before in let c11 = c9 .before .before in
-    λ root ns x y e w. law.own-8 _ (sheetOf root ns) _ _ _ _ y e _ (c11 .scope .ensures) _ (rw (c9 .scope2 .given .1) refl) _
-    (c7 .next .ensures .0) _ _ _ (c5 .line .given .1) (c3 .if2 .left) _ (c7 .next .ensures .1) _
-    (rw (c2 .node-row .ensures .1) (w .params)) _ (c1 .count-is .ensures) (c .if3 .left)
+    let c1 = c .before in let c2 = c1 .before in let c4 = c2 .before .before in let c6 = c4 .before .before in
+    let c8 = c6 .before .before in let c10 = c8 .before .before in
+    λ root ns x y e w. law.own-8 _ (sheetOf root ns) _ _ _ _ y e _ (c10 .scope .ensures) _ (rw (c8 .scope2 .given .1) refl) _
+    (c6 .next .ensures .0) _ _ _ (c4 .line .given .1) (c2 .if2 .left) _ (c6 .next .ensures .1) _ w _ (c1 .count-is .ensures)
+    (c .if3 .left)
+
+-- ---- refusal
 
 refusal-returns : (t : ℕ) → refusal-lts.Need-returns (refusal-calls t) (refusal-at t) refusal.Post
 refusal-returns t c =
@@ -458,53 +388,45 @@ refusal-returns-3 : (t : ℕ) → refusal-lts.Need-returns-3 (refusal-calls t) (
 unfolding typeString
 refusal-returns-3 t c =
     let c2 = c .before .before in let c4 = c2 .before .before in let c5 = c4 .before in
-    let c9 = c5 .before .before .before .before in
+    let a = c5 .before .before .before .before .args in
     λ root ns x. read-law.type-plain _ _ _ _ _ _ _ _ (c5 .if1 .left) (c4 .next .ensures .0) (c2 .line .given .1)
-    (c4 .next .ensures .1) (λ ty. None ≡ refusalOf (typeString ty (sheetOf root ns) (c9 .args .leaf))) (c .if2 .taken) refl
-
-refusal-list-refusal-requires : (t : ℕ) → refusal-lts.Need-list-refusal-requires (refusal-calls t) (refusal-at t) refusal.Post
-refusal-list-refusal-requires t c κs =
-    (omega (arith, (c .before .before .before .before .before .before .before .before .before .before .pre .0)), tt)
+    (c4 .next .ensures .1) (λ ty. None ≡ refusalOf (typeString ty (sheetOf root ns) (a .leaf))) (c .if2 .taken) refl
 
 refusal-returns-4 : (t : ℕ) → refusal-lts.Need-returns-4 (refusal-calls t) (refusal-at t) refusal.Post
 refusal-returns-4 t c =
     let c1 = c .before in let c4 = c1 .before .before .before in let c6 = c4 .before .before in let c7 = c6 .before in
-    let c11 = c7 .before .before .before .before in
+    let a = c7 .before .before .before .before .args in
     λ root ns x. read-law.type-list _ _ _ _ _ _ _ _ (c7 .if1 .left) (c6 .next .ensures .0) (c4 .line .given .1)
-    (c6 .next .ensures .1) (λ ty. (c .list-refusal .result) ≡ refusalOf (typeString ty (sheetOf root ns) (c11 .args .leaf)))
+    (c6 .next .ensures .1) (λ ty. (c .list-refusal .result) ≡ refusalOf (typeString ty (sheetOf root ns) (a .leaf)))
     (c1 .if3 .taken) ((c .list-refusal .ensures) root ns x)
 
 refusal-returns-5 : (t : ℕ) → refusal-lts.Need-returns-5 (refusal-calls t) (refusal-at t) refusal.Post
 refusal-returns-5 t c =
     let c1 = c .before in let c5 = c1 .before .before .before .before in let c7 = c5 .before .before in let c8 = c7 .before in
-    let c12 = c8 .before .before .before .before in
-    λ root ns x. read-law.type-enum (sheetOf root ns) (c12 .args .leaf) _ _ _ _ _ _ _ _ (c8 .if1 .left) (c7 .next .ensures .0)
-    (c5 .line .given .1) (c7 .next .ensures .1) (λ (o : Out Str). (c .module-refusal .result) ≡ refusalOf o)
-    (c1 .if4 .taken) ((c .module-refusal .ensures) root ns x)
-
-refusal-brand-refusal-requires : (t : ℕ) → refusal-lts.Need-brand-refusal-requires (refusal-calls t) (refusal-at t) refusal.Post
-refusal-brand-refusal-requires t c κs =
-    let c12 = c .before .before .before .before .before .before .before .before .before .before .before .before in
-    (omega (arith, (c12 .pre .0)), tt)
+    let a = c8 .before .before .before .before .args in
+    λ root ns x. read-law.type-enum (sheetOf root ns) (a .leaf) _ _ _ _ _ _ _ _ (c8 .if1 .left) (c7 .next .ensures .0)
+    (c5 .line .given .1) (c7 .next .ensures .1) (λ (o : Out Str). (c .module-refusal .result) ≡ refusalOf o) (c1 .if4 .taken)
+    ((c .module-refusal .ensures) root ns x)
 
 refusal-returns-6 : (t : ℕ) → refusal-lts.Need-returns-6 (refusal-calls t) (refusal-at t) refusal.Post
 refusal-returns-6 t c =
     let c1 = c .before in let c2 = c1 .before in let c3 = c2 .before in let c4 = c3 .before in let c6 = c4 .before .before in
-    let c8 = c6 .before .before in let c9 = c8 .before in let c13 = c9 .before .before .before .before in
-    λ root ns x. read-law.type-branded (sheetOf root ns) (c13 .args .leaf) _ _ _ _ _ _ _ _ (c9 .if1 .left)
-    (c8 .next .ensures .0) (c6 .line .given .1) (c8 .next .ensures .1)
-    (λ (o : Out Str). (c .brand-refusal .result) ≡ refusalOf o) (c4 .if2 .left) (c3 .if3 .left) (c2 .if4 .left)
-    (c1 .if5 .taken) (law.brand-told (sheetOf root ns) (c13 .args .leaf)
-    (times (read.scopeOf (typeOf (c13 .args .left - 1))) end (c6 .line .given .0 .1 .1 .0)
-    (rows (drop (c8 .next .result .next) (c13 .args .s .now)))) _ _ ((c .brand-refusal .ensures) root ns x))
+    let c8 = c6 .before .before in let c9 = c8 .before in let a = c9 .before .before .before .before .args in
+    λ root ns x. read-law.type-branded (sheetOf root ns) (a .leaf) _ _ _ _ _ _ _ _ (c9 .if1 .left) (c8 .next .ensures .0)
+    (c6 .line .given .1) (c8 .next .ensures .1) (λ (o : Out Str). (c .brand-refusal .result) ≡ refusalOf o) (c4 .if2 .left)
+    (c3 .if3 .left) (c2 .if4 .left) (c1 .if5 .taken) (law.brand-told (sheetOf root ns) (a .leaf)
+    (times (read.scopeOf (typeOf (a .left - 1))) end (c6 .line .given .0 .1 .1 .0)
+    (rows (drop (c8 .next .result .next) (a .s .now)))) _ _ ((c .brand-refusal .ensures) root ns x))
 
 refusal-returns-7 : (t : ℕ) → refusal-lts.Need-returns-7 (refusal-calls t) (refusal-at t) refusal.Post
 refusal-returns-7 t c =
     let c1 = c .before in let c6 = c1 .before .before .before .before .before in let c8 = c6 .before .before in
-    let c9 = c8 .before in let c13 = c9 .before .before .before .before in
+    let c9 = c8 .before in let a = c9 .before .before .before .before .args in
     λ root ns x. read-law.type-pointer _ _ _ _ _ _ _ _ (c9 .if1 .left) (c8 .next .ensures .0) (c6 .line .given .1)
-    (c8 .next .ensures .1) (λ ty. (c .pointer-refusal .result) ≡ refusalOf
-    (typeString ty (sheetOf root ns) (c13 .args .leaf))) (c1 .if5 .left) ((c .pointer-refusal .ensures) root ns x)
+    (c8 .next .ensures .1) (λ ty. (c .pointer-refusal .result) ≡ refusalOf (typeString ty (sheetOf root ns) (a .leaf)))
+    (c1 .if5 .left) ((c .pointer-refusal .ensures) root ns x)
+
+-- ---- the cycle
 
 pub +binding-refusal+binds-refusal+brand-refusal+list-refusal+own-refusal+refusal-spec :
     {M : Type 1} → statement M
@@ -521,7 +443,7 @@ pub +binding-refusal+binds-refusal+brand-refusal+list-refusal+own-refusal+refusa
     binding-refusal.Post
     (λ c κs. search needs)
     (λ c. search needs)
-    (binding-refusal-refusal-requires t)
+    (λ c κs. search needs)
     (binding-refusal-returns t)
     (binding-refusal-returns-2 t))
     (λ t. binds-refusal-lts.spec (binds-refusal-calls t)
@@ -530,15 +452,16 @@ pub +binding-refusal+binds-refusal+brand-refusal+list-refusal+own-refusal+refusa
     binds-refusal-Inv-loop
     binds-refusal-μ-loop
     (binds-refusal-loop-holds t)
-    (binds-refusal-binding-refusal-requires t)
+    (λ c κs. search needs)
     (λ c. search needs)
     (λ c. search needs)
     (binds-refusal-returns t)
+    (binds-refusal-returns-2 t)
     (λ c κs. search needs)
     (λ c. search needs)
     (λ c. search needs)
     (binds-refusal-loop-again t)
-    (binds-refusal-returns-2 t))
+    (binds-refusal-returns-3 t))
     (λ t. brand-refusal-lts.spec (brand-refusal-calls t)
     (brand-refusal-at t)
     brand-refusal.Post
@@ -549,13 +472,13 @@ pub +binding-refusal+binds-refusal+brand-refusal+list-refusal+own-refusal+refusa
     (λ c. search needs)
     (λ c. search needs)
     (brand-refusal-returns t)
+    (λ c κs. search needs)
     (λ c. search needs)
     (brand-refusal-slice-aggregate-own-refusal t)
-    (brand-refusal-own-refusal-requires t)
+    (λ c κs. search needs)
     (λ c. search needs)
     (λ c. search needs)
     (brand-refusal-returns-2 t)
-    (λ c κs. search needs)
     (brand-refusal-returns-3 t)
     (λ c. search needs)
     (λ c. search needs)
@@ -571,7 +494,7 @@ pub +binding-refusal+binds-refusal+brand-refusal+list-refusal+own-refusal+refusa
     (list-refusal-returns-2 t)
     (list-refusal-returns-3 t)
     (λ c κs. search needs)
-    (list-refusal-refusal-requires t)
+    (λ c κs. search needs)
     (list-refusal-returns-4 t))
     (λ t. own-refusal-lts.spec (own-refusal-calls t)
     (own-refusal-at t)
@@ -588,7 +511,6 @@ pub +binding-refusal+binds-refusal+brand-refusal+list-refusal+own-refusal+refusa
     (own-refusal-returns-4 t)
     (λ c κs. search needs)
     (λ c κs. search needs)
-    (own-refusal-binds-refusal-requires t)
     (own-refusal-returns-5 t)
     (own-refusal-returns-6 t))
     λ t. refusal-lts.spec (refusal-calls t)
@@ -600,12 +522,12 @@ pub +binding-refusal+binds-refusal+brand-refusal+list-refusal+own-refusal+refusa
     (refusal-returns-2 t)
     (refusal-returns-3 t)
     (λ c. search needs)
-    (refusal-list-refusal-requires t)
+    (λ c κs. search needs)
     (refusal-returns-4 t)
     (λ c κs. search needs)
     (refusal-returns-5 t)
     (λ c. search needs)
-    (refusal-brand-refusal-requires t)
+    (λ c κs. search needs)
     (refusal-returns-6 t)
     (λ c κs. search needs)
     (refusal-returns-7 t)

@@ -1,10 +1,8 @@
 -- `do_branding` and the writers of types, seven functions that call each other, meet their contracts: each return is one law of
--- Laws.antt. They
--- end, since the type levels left fall at each way round, and the nodes left along a chain. The loop over bindings: whatever
--- the bindings from here
--- on make of what is written, all of them make of the start. Assumes nothing.
-use Rattle.type_string.proofs.Laws as law
-use Rattle.type_string.specs.Told.{onlyOf}
+-- Laws.antt. The loop over bindings: whatever the bindings from here on make of what is written, all of them make of the start.
+-- Assumes nothing.
+use Rattle.type_string.proofs as here
+use here.Laws as law
 use Rattle.type_parts.specs.declared.Arguments.{Arguments}
 use Rattle.type_parts.specs.Parts.{Writes, Lists}
 use Rattle.find.proofs.TypeLaws as read-law
@@ -12,82 +10,52 @@ use Rattle.tree.specs.Index.{On, Indexed}
 use Rattle.find.specs.Find.{sheetOf}
 use Rattle.codegen_types.specs.TypeString.{typeString, bindingsOf, allOf}
 use Rattle.codegen_types.specs.Out.{Out}
-use Rattle.tree.specs.Read.{typeOf, bindingOf, pointer}
+use Rattle.tree.specs.Read.{typeOf, bindingOf}
 use Rattle.tree.specs.Read as read
 use Rattle.tree.specs.Reader.{times}
-use Rattle.tree.specs.Tree.{Node, end, stop, unbound}
+use Rattle.tree.specs.Tree.{Node, end, stop}
 use Rattle.row.specs.Rows.{rows}
 use Rattle.text.specs.Bytes.{Str}
-use Prim.Native.Nat.{_+_, _-_, _*_}
+use Prim.Native.Nat.{ℕ, _+_, _-_, _*_, _<_}
 use mathlib.Core.Path.{_≡_, refl}
 use mathlib.Core.List.{List}
 use native.Mathlib.Omega.{arith}
 use lib.ListN.{length, drop}
 use borrow.Author.Needs.{needs}
-use Prim.Native.Nat.{ℕ, _<_}
 use borrow.Fn.Kinds.{In}
 use borrow.Fn.PlainCycle.{Measures, is, falls, and}
-use Rattle.type_string.proofs.do_branding.Reads as do-branding
-use Rattle.type_string.proofs.do_branding.Kinds as do-branding-kinds
-use
-    Rattle.type_string.proofs.+do_branding+write_binding+write_binds+write_chain+write_list+write_own+write_type.Lts-do_branding
-    as do-branding-lts
-use Rattle.type_string.proofs.write_binding.Reads as write-binding
-use Rattle.type_string.proofs.write_binding.Kinds as write-binding-kinds
-use
-    Rattle.type_string.proofs.+do_branding+write_binding+write_binds+write_chain+write_list+write_own+write_type.Lts-write_binding
-    as write-binding-lts
-use Rattle.type_string.proofs.write_binds.Reads as write-binds
-use Rattle.type_string.proofs.write_binds.Kinds as write-binds-kinds
-use
-    Rattle.type_string.proofs.+do_branding+write_binding+write_binds+write_chain+write_list+write_own+write_type.Lts-write_binds
-    as write-binds-lts
-use Rattle.type_string.proofs.write_chain.Reads as write-chain
-use Rattle.type_string.proofs.write_chain.Kinds as write-chain-kinds
-use
-    Rattle.type_string.proofs.+do_branding+write_binding+write_binds+write_chain+write_list+write_own+write_type.Lts-write_chain
-    as write-chain-lts
-use Rattle.type_string.proofs.write_list.Reads as write-list
-use Rattle.type_string.proofs.write_list.Kinds as write-list-kinds
-use
-    Rattle.type_string.proofs.+do_branding+write_binding+write_binds+write_chain+write_list+write_own+write_type.Lts-write_list
-    as write-list-lts
-use Rattle.type_string.proofs.write_own.Reads as write-own
-use Rattle.type_string.proofs.write_own.Kinds as write-own-kinds
-use
-    Rattle.type_string.proofs.+do_branding+write_binding+write_binds+write_chain+write_list+write_own+write_type.Lts-write_own
-    as write-own-lts
-use Rattle.type_string.proofs.write_type.Reads as write-type
-use Rattle.type_string.proofs.write_type.Kinds as write-type-kinds
-use
-    Rattle.type_string.proofs.+do_branding+write_binding+write_binds+write_chain+write_list+write_own+write_type.Lts-write_type
-    as write-type-lts
-use Rattle.codegen_types.proofs.element_leaf.Reads as element-leaf-reads
-use Rattle.find.proofs.kind.Reads as kind-reads
-use Rattle.find.proofs.node.Reads as node-reads
-use Rattle.find.proofs.node_row.Reads as node-row-reads
-use Rattle.find.proofs.past.Reads as past-reads
-use Rattle.find.proofs.scope.Reads as scope-reads
-use Rattle.row.proofs.next.Reads as next-reads
-use Rattle.row.proofs.text.Reads as text-reads
-use Rattle.text.proofs.Text.byte.Reads as byte-reads
-use Rattle.text.proofs.Text.bytes.Reads as bytes-reads
-use Rattle.type_parts.proofs.any_owned.Reads as any-owned-reads
-use Rattle.type_parts.proofs.close.Reads as close-reads
-use Rattle.type_parts.proofs.displayed.Reads as displayed-reads
-use Rattle.type_parts.proofs.inherited.Reads as inherited-reads
-use Rattle.type_parts.proofs.list_head.Reads as list-head-reads
-use Rattle.type_parts.proofs.qualified_module.Reads as qualified-module-reads
-use Rattle.type_parts.proofs.opening.Reads as opening-reads
-use Rattle.type_parts.proofs.plain.Reads as plain-reads
-use Rattle.type_parts.proofs.pointer.Reads as pointer-reads
-use Rattle.type_parts.proofs.unbound.Reads as unbound-reads
-use Rattle.type_string.proofs.+do_branding+write_binding+write_binds+write_chain+write_list+write_own+write_type.{
-  statement,
-}
-use Rattle.type_string.proofs.+do_branding+write_binding+write_binds+write_chain+write_list+write_own+write_type.Tie.{
-  close,
-}
+use here.+do_branding+write_binding+write_binds+write_chain+write_list+write_own+write_type as cycle
+use cycle.{statement}
+use cycle.Tie.{close}
+use cycle.Lts-do_branding as do-branding-lts
+use cycle.Lts-write_binding as write-binding-lts
+use cycle.Lts-write_binds as write-binds-lts
+use cycle.Lts-write_chain as write-chain-lts
+use cycle.Lts-write_list as write-list-lts
+use cycle.Lts-write_own as write-own-lts
+use cycle.Lts-write_type as write-type-lts
+use here.do_branding.Reads as do-branding
+use here.do_branding.Kinds as do-branding-kinds
+use here.write_binding.Reads as write-binding
+use here.write_binding.Kinds as write-binding-kinds
+use here.write_binds.Reads as write-binds
+use here.write_binds.Kinds as write-binds-kinds
+use here.write_chain.Reads as write-chain
+use here.write_chain.Kinds as write-chain-kinds
+use here.write_list.Reads as write-list
+use here.write_list.Kinds as write-list-kinds
+use here.write_own.Reads as write-own
+use here.write_own.Kinds as write-own-kinds
+use here.write_type.Reads as write-type
+use here.write_type.Kinds as write-type-kinds
+use Rattle.codegen_types.proofs as codegen-types
+use Rattle.find.proofs as find
+use Rattle.row.proofs as row
+use Rattle.text.proofs.Text as text
+use Rattle.type_parts.proofs as type-parts
+
+-- ---- the measures: the type levels left fall where a list, a brand or a binding has a type; at one level a brand writes its
+-- chain, a chain its parents and its node, a node its bindings, a binding and a list a type
 
 abbrev μ-do-branding : Measures 5 do-branding-kinds.ps ℕ
 μ-do-branding κs a = 32 * a .1 .1 .1 .1 .1 .1 .1 .0 + 22
@@ -110,107 +78,92 @@ abbrev μ-write-own : Measures 5 write-own-kinds.ps ℕ
 abbrev μ-write-type : Measures 5 write-type-kinds.ps ℕ
 μ-write-type κs a = 32 * a .1 .1 .1 .1 .1 .0
 
+-- ---- what is known of each function where its measure is t, and what it takes of those that it calls
+
 abbrev do-branding-at : ℕ → In 5 do-branding-kinds.ps
-do-branding-at t =
-    and 5 do-branding-kinds.ps (is 5 do-branding-kinds.ps μ-do-branding t) do-branding.Pre
+do-branding-at t = and 5 do-branding-kinds.ps (is 5 do-branding-kinds.ps μ-do-branding t) do-branding.Pre
 
 abbrev do-branding-below : ℕ → In 5 do-branding-kinds.ps
-do-branding-below t =
-    and 5 do-branding-kinds.ps (falls 5 do-branding-kinds.ps _<_ μ-do-branding t) do-branding.Pre
+do-branding-below t = and 5 do-branding-kinds.ps (falls 5 do-branding-kinds.ps _<_ μ-do-branding t) do-branding.Pre
 
 abbrev write-binding-at : ℕ → In 5 write-binding-kinds.ps
-write-binding-at t =
-    and 5 write-binding-kinds.ps (is 5 write-binding-kinds.ps μ-write-binding t) write-binding.Pre
+write-binding-at t = and 5 write-binding-kinds.ps (is 5 write-binding-kinds.ps μ-write-binding t) write-binding.Pre
 
 abbrev write-binding-below : ℕ → In 5 write-binding-kinds.ps
-write-binding-below t =
-    and
-    5
-    write-binding-kinds.ps
-    (falls 5 write-binding-kinds.ps _<_ μ-write-binding t)
-    write-binding.Pre
+write-binding-below t = and 5 write-binding-kinds.ps (falls 5 write-binding-kinds.ps _<_ μ-write-binding t) write-binding.Pre
 
 abbrev write-binds-at : ℕ → In 5 write-binds-kinds.ps
-write-binds-at t =
-    and 5 write-binds-kinds.ps (is 5 write-binds-kinds.ps μ-write-binds t) write-binds.Pre
+write-binds-at t = and 5 write-binds-kinds.ps (is 5 write-binds-kinds.ps μ-write-binds t) write-binds.Pre
 
 abbrev write-binds-below : ℕ → In 5 write-binds-kinds.ps
-write-binds-below t =
-    and 5 write-binds-kinds.ps (falls 5 write-binds-kinds.ps _<_ μ-write-binds t) write-binds.Pre
+write-binds-below t = and 5 write-binds-kinds.ps (falls 5 write-binds-kinds.ps _<_ μ-write-binds t) write-binds.Pre
 
 abbrev write-chain-at : ℕ → In 5 write-chain-kinds.ps
-write-chain-at t =
-    and 5 write-chain-kinds.ps (is 5 write-chain-kinds.ps μ-write-chain t) write-chain.Pre
+write-chain-at t = and 5 write-chain-kinds.ps (is 5 write-chain-kinds.ps μ-write-chain t) write-chain.Pre
 
 abbrev write-chain-below : ℕ → In 5 write-chain-kinds.ps
-write-chain-below t =
-    and 5 write-chain-kinds.ps (falls 5 write-chain-kinds.ps _<_ μ-write-chain t) write-chain.Pre
+write-chain-below t = and 5 write-chain-kinds.ps (falls 5 write-chain-kinds.ps _<_ μ-write-chain t) write-chain.Pre
 
 abbrev write-list-at : ℕ → In 5 write-list-kinds.ps
-write-list-at t =
-    and 5 write-list-kinds.ps (is 5 write-list-kinds.ps μ-write-list t) write-list.Pre
+write-list-at t = and 5 write-list-kinds.ps (is 5 write-list-kinds.ps μ-write-list t) write-list.Pre
 
 abbrev write-list-below : ℕ → In 5 write-list-kinds.ps
-write-list-below t =
-    and 5 write-list-kinds.ps (falls 5 write-list-kinds.ps _<_ μ-write-list t) write-list.Pre
+write-list-below t = and 5 write-list-kinds.ps (falls 5 write-list-kinds.ps _<_ μ-write-list t) write-list.Pre
 
 abbrev write-own-at : ℕ → In 5 write-own-kinds.ps
 write-own-at t = and 5 write-own-kinds.ps (is 5 write-own-kinds.ps μ-write-own t) write-own.Pre
 
 abbrev write-own-below : ℕ → In 5 write-own-kinds.ps
-write-own-below t =
-    and 5 write-own-kinds.ps (falls 5 write-own-kinds.ps _<_ μ-write-own t) write-own.Pre
+write-own-below t = and 5 write-own-kinds.ps (falls 5 write-own-kinds.ps _<_ μ-write-own t) write-own.Pre
 
 abbrev write-type-at : ℕ → In 5 write-type-kinds.ps
-write-type-at t =
-    and 5 write-type-kinds.ps (is 5 write-type-kinds.ps μ-write-type t) write-type.Pre
+write-type-at t = and 5 write-type-kinds.ps (is 5 write-type-kinds.ps μ-write-type t) write-type.Pre
 
 abbrev write-type-below : ℕ → In 5 write-type-kinds.ps
-write-type-below t =
-    and 5 write-type-kinds.ps (falls 5 write-type-kinds.ps _<_ μ-write-type t) write-type.Pre
+write-type-below t = and 5 write-type-kinds.ps (falls 5 write-type-kinds.ps _<_ μ-write-type t) write-type.Pre
 
 abbrev do-branding-calls : ℕ → do-branding-lts.Claims
 do-branding-calls t = (
-  node-reads.Asked,
-  node-reads.Learnt,
-  text-reads.Asked,
-  text-reads.Learnt,
-  bytes-reads.Asked,
-  bytes-reads.Learnt,
-  opening-reads.Asked,
-  opening-reads.Learnt,
+  find.node.Reads.Asked,
+  find.node.Reads.Learnt,
+  row.text.Reads.Asked,
+  row.text.Reads.Learnt,
+  text.bytes.Reads.Asked,
+  text.bytes.Reads.Learnt,
+  type-parts.opening.Reads.Asked,
+  type-parts.opening.Reads.Learnt,
   write-chain-below t,
   write-chain.Post,
-  close-reads.Asked,
-  close-reads.Learnt,
+  type-parts.close.Reads.Asked,
+  type-parts.close.Reads.Learnt,
 )
 
 abbrev write-binding-calls : ℕ → write-binding-lts.Claims
 write-binding-calls t = (
-  next-reads.Asked,
-  next-reads.Learnt,
-  any-owned-reads.Asked,
-  any-owned-reads.Learnt,
+  row.next.Reads.Asked,
+  row.next.Reads.Learnt,
+  type-parts.any_owned.Reads.Asked,
+  type-parts.any_owned.Reads.Learnt,
   write-type-below t,
   write-type.Post,
 )
 
 abbrev write-binds-calls : ℕ → write-binds-lts.Claims
 write-binds-calls t = (
-  byte-reads.Asked,
-  byte-reads.Learnt,
+  text.byte.Reads.Asked,
+  text.byte.Reads.Learnt,
   write-binding-below t,
   write-binding.Post,
-  past-reads.Asked,
-  past-reads.Learnt,
+  find.past.Reads.Asked,
+  find.past.Reads.Learnt,
 )
 
 abbrev write-chain-calls : ℕ → write-chain-lts.Claims
 write-chain-calls t = (
-  node-reads.Asked,
-  node-reads.Learnt,
-  node-row-reads.Asked,
-  node-row-reads.Learnt,
+  find.node.Reads.Asked,
+  find.node.Reads.Learnt,
+  find.node_row.Reads.Asked,
+  find.node_row.Reads.Learnt,
   write-own-below t,
   write-own.Post,
   write-chain-below t,
@@ -219,102 +172,87 @@ write-chain-calls t = (
 
 abbrev write-list-calls : ℕ → write-list-lts.Claims
 write-list-calls t = (
-  kind-reads.Asked,
-  kind-reads.Learnt,
-  displayed-reads.Asked,
-  displayed-reads.Learnt,
-  list-head-reads.Asked,
-  list-head-reads.Learnt,
-  element-leaf-reads.Asked,
-  element-leaf-reads.Learnt,
+  find.kind.Reads.Asked,
+  find.kind.Reads.Learnt,
+  type-parts.displayed.Reads.Asked,
+  type-parts.displayed.Reads.Learnt,
+  type-parts.list_head.Reads.Asked,
+  type-parts.list_head.Reads.Learnt,
+  codegen-types.element_leaf.Reads.Asked,
+  codegen-types.element_leaf.Reads.Learnt,
   write-type-below t,
   write-type.Post,
-  byte-reads.Asked,
-  byte-reads.Learnt,
+  text.byte.Reads.Asked,
+  text.byte.Reads.Learnt,
 )
 
 abbrev write-own-calls : ℕ → write-own-lts.Claims
 write-own-calls t = (
-  node-row-reads.Asked,
-  node-row-reads.Learnt,
-  scope-reads.Asked,
-  scope-reads.Learnt,
-  unbound-reads.Asked,
-  unbound-reads.Learnt,
-  next-reads.Asked,
-  next-reads.Learnt,
-  inherited-reads.Asked,
-  inherited-reads.Learnt,
-  write-binds-below
-      t,
+  find.scope.Reads.Asked,
+  find.scope.Reads.Learnt,
+  type-parts.unbound.Reads.Asked,
+  type-parts.unbound.Reads.Learnt,
+  row.next.Reads.Asked,
+  row.next.Reads.Learnt,
+  type-parts.inherited.Reads.Asked,
+  type-parts.inherited.Reads.Learnt,
+  write-binds-below t,
   write-binds.Post,
 )
 
 abbrev write-type-calls : ℕ → write-type-lts.Claims
 write-type-calls t = (
-  next-reads.Asked,
-  next-reads.Learnt,
-  plain-reads.Asked,
-  plain-reads.Learnt,
+  row.next.Reads.Asked,
+  row.next.Reads.Learnt,
+  type-parts.plain.Reads.Asked,
+  type-parts.plain.Reads.Learnt,
   write-list-below t,
   write-list.Post,
-  qualified-module-reads.Asked,
-  qualified-module-reads.Learnt,
+  type-parts.qualified_module.Reads.Asked,
+  type-parts.qualified_module.Reads.Learnt,
   do-branding-below t,
   do-branding.Post,
-  pointer-reads.Asked,
-  pointer-reads.Learnt,
+  type-parts.pointer.Reads.Asked,
+  type-parts.pointer.Reads.Learnt,
 )
+
+-- ---- do_branding
 
 do-branding-returns : (t : ℕ) → do-branding-lts.Need-returns (do-branding-calls t) (do-branding-at t) do-branding.Post
 do-branding-returns t c =
-    let c2 = c .before .before in let c8 = c2 .before .before .before .before .before .before in
-    λ ns x. law.brand-none ((c8 .args .s) .now) (sheetOf ((c8 .args .root) .now) ns) (c8 .args .leaf) ((c8 .args .ids) .now)
-    ((c8 .args .ats) .now) (times (read.scopeOf (typeOf (c8 .args .left))) end (c8 .args .n)
-    (rows (drop (c8 .args .at) ((c8 .args .s) .now)))) _ _ (c2 .node .ensures) x _ _ _ _ (c .enum-told .given .1)
-
-do-branding-write-chain-requires : (t : ℕ) → do-branding-lts.Need-write-chain-requires (do-branding-calls t) (do-branding-at t)
-    do-branding.Post
-do-branding-write-chain-requires t c κs =
-    let c19 = c .before .before .before .before .before .before .before .before .before .before .before .before .before .before
-    .before .before .before .before .before in
-    (omega (arith, (c19 .pre .0)), tt)
+    let c2 = c .before .before in let a = c2 .before .before .before .before .before .before .args in
+    λ ns x. law.brand-none (a .s .now) (sheetOf (a .root .now) ns) (a .leaf) (a .ids .now) (a .ats .now)
+    (times (read.scopeOf (typeOf (a .left))) end (a .n) (rows (drop (a .at) (a .s .now)))) _ _ (c2 .node .ensures) x _ _ _ _
+    (c .enum-told .given .1)
 
 do-branding-returns-2 : (t : ℕ) → do-branding-lts.Need-returns-2 (do-branding-calls t) (do-branding-at t) do-branding.Post
 do-branding-returns-2 t c =
-    let c2 = c .before .before in let c6 = c2 .before .before .before .before in
-    let c10 = c6 .before .before .before .before in let c14 = c10 .before .before .before .before in
-    let c16 = c14 .before .before in let c18 = c16 .before .before in let c20 = c18 .before .before in
-    let c26 = c20 .before .before .before .before .before .before in
-    λ ns x. law.brand-on ((c26 .args .s) .now) (sheetOf ((c26 .args .root) .now) ns) (c26 .args .leaf) ((c26 .args .ids) .now)
-    ((c26 .args .ats) .now) (times (read.scopeOf (typeOf (c26 .args .left))) end (c26 .args .n)
-    (rows (drop (c26 .args .at) ((c26 .args .s) .now)))) _ _ (c20 .node .ensures) x (c18 .node2 .given .0 .0)
-    (c6 .write-chain .result) (c18 .node2 .given .1) (rw (c16 .text .ensures) at (c14 .bytes .ensures))
-    (c10 .opening .ensures) ((c6 .write-chain .ensures) ns x) (c2 .close .ensures)
+    let c2 = c .before .before in let c6 = c2 .before .before .before .before in let c10 = c6 .before .before .before .before in
+    let c14 = c10 .before .before .before .before in let c16 = c14 .before .before in let c18 = c16 .before .before in
+    let c20 = c18 .before .before in let a = c20 .before .before .before .before .before .before .args in
+    λ ns x. law.brand-on (a .s .now) (sheetOf (a .root .now) ns) (a .leaf) (a .ids .now) (a .ats .now)
+    (times (read.scopeOf (typeOf (a .left))) end (a .n) (rows (drop (a .at) (a .s .now)))) _ _ (c20 .node .ensures) x
+    (c18 .node2 .given .0 .0) (c6 .write-chain .result) (c18 .node2 .given .1) (rw (c16 .text .ensures) at
+    (c14 .bytes .ensures)) (c10 .opening .ensures) ((c6 .write-chain .ensures) ns x) (c2 .close .ensures)
 
-write-binding-write-type-requires : (t : ℕ) → write-binding-lts.Need-write-type-requires (write-binding-calls t)
-    (write-binding-at t) write-binding.Post
-write-binding-write-type-requires t c κs =
-    (omega (arith, (c .before .before .before .before .before .before .before .before .pre .0)), tt)
+-- ---- write_binding
 
 write-binding-returns : (t : ℕ) → write-binding-lts.Need-returns (write-binding-calls t) (write-binding-at t) write-binding.Post
-unfolding bindingsOf
 write-binding-returns t c =
     let c2 = c .before .before in let c4 = c2 .before .before in let c6 = c4 .before .before in
-    let c12 = c6 .before .before .before .before .before .before in
-    λ ns x. read-law.bind-unbound _ _ (λ f. Writes (onlyOf (bindingsOf (f stop) (sheetOf ((c12 .args .root) .now) ns)))
-    ((c12 .args .buf) .now) (c12 .args .t) (c2 .any-owned .last .1 .1 .0) (c2 .any-owned .result)) _ (c6 .next .ensures .0)
-    (c4 .enum-told .given .1) (c2 .any-owned .ensures)
+    let a = c6 .before .before .before .before .before .before .args in
+    λ ns x. law.bind-unbound (sheetOf (a .root .now) ns) _ _ _ (c6 .next .ensures .0) _ _ _ _ (c4 .enum-told .given .1)
+    (c2 .any-owned .ensures)
 
 write-binding-returns-2 : (t : ℕ) → write-binding-lts.Need-returns-2 (write-binding-calls t) (write-binding-at t)
     write-binding.Post
-unfolding bindingsOf
 write-binding-returns-2 t c =
     let c2 = c .before .before in let c4 = c2 .before .before in let c5 = c4 .before in
-    let c11 = c5 .before .before .before .before .before .before in
-    λ ns x. read-law.bind-typed _ _ (λ f. Writes (onlyOf (bindingsOf (f stop) (sheetOf ((c11 .args .root) .now) ns)))
-    ((c11 .args .buf) .now) (c11 .args .t) (c2 .write-type .last .1 .1 .1 .1 .1 .1 .1 .1 .0) (c2 .write-type .result)) _
-    (c5 .next .ensures .0) (c4 .match .keys2) ((c2 .write-type .ensures) ns x)
+    let a = c5 .before .before .before .before .before .before .args in
+    λ ns x. law.bind-typed (sheetOf (a .root .now) ns) _ _ _ (c5 .next .ensures .0) _ _ _ _ (c4 .match .keys2)
+    ((c2 .write-type .ensures) ns x)
+
+-- ---- write_binds
 
 abbrev write-binds-Inv-loop : write-binds-lts.InvT-loop
 write-binds-Inv-loop root s ids ats from count left buf₀ at₀ n₀ p₀ buf at n p = (length buf ≡ length buf₀) ×
@@ -332,156 +270,128 @@ write-binds-loop-holds : (t : ℕ) → write-binds-lts.Need-loop-holds (write-bi
 write-binds-loop-holds t c =
     (refl, λ ns x l′ p′ h. h)
 
-write-binds-write-binding-requires : (t : ℕ) → write-binds-lts.Need-write-binding-requires (write-binds-calls t)
-    (write-binds-at t) write-binds.Post write-binds-Inv-loop write-binds-μ-loop
-write-binds-write-binding-requires t c κs =
-    let c13 = c .before .before .before .before .before .before .before .before .before .before .before .before .before in
-    (omega (arith, (c13 .pre .0)), tt)
+write-binds-returns : (t : ℕ) → write-binds-lts.Need-returns (write-binds-calls t) (write-binds-at t) write-binds.Post
+    write-binds-Inv-loop write-binds-μ-loop
+write-binds-returns t c =
+    let c3 = c .before .before .before in let c7 = c3 .before .before .before .before in let c10 = c7 .before .before .before in
+    let c11 = c10 .before in let a = c11 .before .before .before .before .before .before .args in
+    λ ns x. (c11 .loop .inv .1) ns x _ _ (law.binds-on (sheetOf (a .root .now) ns) (a .left) (c11 .loop .n) _ _
+    (c10 .loop-test .taken) refl _ _ _ _ _ _ _ _ (c7 .byte .ensures) ((c3 .write-binding .ensures) ns x)
+    (law.binds-none (sheetOf (a .root .now) ns) _ (c11 .loop .n - 1) _ _ _ (omega (arith, (c .if1 .taken)))))
 
 write-binds-loop-again : (t : ℕ) → write-binds-lts.Need-loop-again (write-binds-calls t) (write-binds-at t) write-binds.Post
     write-binds-Inv-loop write-binds-μ-loop
 write-binds-loop-again t c =
-    let c3 = c .before .before .before in let c7 = c3 .before .before .before .before in
-    let c10 = c7 .before .before .before in let c11 = c10 .before in
-    let c17 = c11 .before .before .before .before .before .before in (
+    let c4 = c .before .before .before .before in let c8 = c4 .before .before .before .before in
+    let c11 = c8 .before .before .before in let c12 = c11 .before in
+    let a = c12 .before .before .before .before .before .before .args in (
       omega arith,
-      λ ns x l′ p′ h. (c11 .loop .inv .1) ns x l′ p′
-          (law.binds-on (sheetOf ((c17 .args .root) .now) ns) (c17 .args .left) (c11 .loop .n) _ _ (c10 .loop-test .taken)
-          (c .past .ensures) _ _ _ _ _ _ l′ p′ (c7 .byte .ensures) ((c3 .write-binding .ensures) ns x) h),
+      λ ns x l′ p′ h. (c12 .loop .inv .1) ns x l′ p′ (law.binds-on (sheetOf (a .root .now) ns) (a .left) (c12 .loop .n) _ _
+          (c11 .loop-test .taken) (c .past .ensures) _ _ _ _ _ _ l′ p′ (c8 .byte .ensures) ((c4 .write-binding .ensures) ns x)
+          h),
     )
 
-write-binds-returns : (t : ℕ) → write-binds-lts.Need-returns (write-binds-calls t) (write-binds-at t) write-binds.Post
+write-binds-returns-2 : (t : ℕ) → write-binds-lts.Need-returns-2 (write-binds-calls t) (write-binds-at t) write-binds.Post
     write-binds-Inv-loop write-binds-μ-loop
-write-binds-returns t c =
-    let c1 = c .before in let c7 = c1 .before .before .before .before .before .before in
-    λ ns x. (c1 .loop .inv .1) ns x _ _ (law.binds-none (sheetOf ((c7 .args .root) .now) ns) _ _ _ _ _ (c .loop-test .left))
+write-binds-returns-2 t c =
+    let c1 = c .before in let a = c1 .before .before .before .before .before .before .args in
+    λ ns x. (c1 .loop .inv .1) ns x _ _ (law.binds-none (sheetOf (a .root .now) ns) _ _ _ _ _ (c .loop-test .left))
+
+-- ---- write_chain
 
 write-chain-returns : (t : ℕ) → write-chain-lts.Need-returns (write-chain-calls t) (write-chain-at t) write-chain.Post
 write-chain-returns t c =
-    let c6 = c .before .before .before .before .before .before in
-    λ ns x. law.chain-zero (sheetOf ((c6 .args .root) .now) ns)
-    (times (read.scopeOf (typeOf (c6 .args .left))) end (c6 .args .n) (rows (drop (c6 .args .at) ((c6 .args .s) .now)))) _ _
-    _ _ _ _ (c .if1 .taken)
+    let a = c .before .before .before .before .before .before .args in
+    λ ns x. law.chain-zero (sheetOf (a .root .now) ns) (times (read.scopeOf (typeOf (a .left))) end (a .n)
+    (rows (drop (a .at) (a .s .now)))) _ _ _ _ _ _ (c .if1 .taken)
 
 write-chain-returns-2 : (t : ℕ) → write-chain-lts.Need-returns-2 (write-chain-calls t) (write-chain-at t) write-chain.Post
 write-chain-returns-2 t c =
-    let c2 = c .before .before in let c3 = c2 .before in let c9 = c3 .before .before .before .before .before .before in
-    λ ns x. law.chain-none ((c9 .args .s) .now) (sheetOf ((c9 .args .root) .now) ns) ((c9 .args .ids) .now)
-    ((c9 .args .ats) .now) (times (read.scopeOf (typeOf (c9 .args .left))) end (c9 .args .n)
-    (rows (drop (c9 .args .at) ((c9 .args .s) .now)))) _ _ (c3 .if1 .left) _ (c2 .node .ensures) x _ _ _ _
-    (c .enum-told .given .1)
-
-write-chain-write-own-requires : (t : ℕ) → write-chain-lts.Need-write-own-requires (write-chain-calls t) (write-chain-at t)
-    write-chain.Post
-write-chain-write-own-requires t c κs =
-    let c13 = c .before .before .before .before .before .before .before .before .before .before .before .before .before in
-    (omega (arith, (c13 .pre .0)), tt)
+    let c2 = c .before .before in let c3 = c2 .before in let a = c3 .before .before .before .before .before .before .args in
+    λ ns x. law.chain-none (a .s .now) (sheetOf (a .root .now) ns) (a .ids .now) (a .ats .now)
+    (times (read.scopeOf (typeOf (a .left))) end (a .n) (rows (drop (a .at) (a .s .now)))) _ _ (c3 .if1 .left) _
+    (c2 .node .ensures) x _ _ _ _ (c .enum-told .given .1)
 
 write-chain-returns-3 : (t : ℕ) → write-chain-lts.Need-returns-3 (write-chain-calls t) (write-chain-at t) write-chain.Post
 write-chain-returns-3 t c =
     let c2 = c .before .before in let c4 = c2 .before .before in let c5 = c4 .before in let c7 = c5 .before .before in
-    let c9 = c7 .before .before in let c10 = c9 .before in let c16 = c10 .before .before .before .before .before .before in
-    λ ns x. law.chain-top ((c16 .args .s) .now) (sheetOf ((c16 .args .root) .now) ns) ((c16 .args .ids) .now)
-    ((c16 .args .ats) .now) (times (read.scopeOf (typeOf (c16 .args .left))) end (c16 .args .n)
-    (rows (drop (c16 .args .at) ((c16 .args .s) .now)))) _ _ (c10 .if1 .left) _ (c9 .node .ensures) x
-    (c7 .node2 .given .0 .0) (c7 .node2 .given .1) _ (c5 .node-row .ensures .0) _ _ _ _ (c4 .if2 .taken)
-    ((c2 .write-own .ensures) ns x)
-
-write-chain-write-chain-requires : (t : ℕ) → write-chain-lts.Need-write-chain-requires (write-chain-calls t) (write-chain-at t)
-    write-chain.Post
-write-chain-write-chain-requires t c κs =
-    let c7 = c .before .before .before .before .before .before .before in
-    let c13 = c7 .before .before .before .before .before .before in
-    (omega (arith, (c13 .pre .0), (c7 .if1 .left)), tt)
-
-write-chain-write-own-requires-2 : (t : ℕ) → write-chain-lts.Need-write-own-requires-2 (write-chain-calls t) (write-chain-at t)
-    write-chain.Post
-write-chain-write-own-requires-2 t c κs =
-    let c17 = c .before .before .before .before .before .before .before .before .before .before .before .before .before .before
-    .before .before .before in
-    (omega (arith, (c17 .pre .0)), tt)
+    let c9 = c7 .before .before in let c10 = c9 .before in let a = c10 .before .before .before .before .before .before .args in
+    λ ns x. law.chain-top (a .s .now) (sheetOf (a .root .now) ns) (a .ids .now) (a .ats .now)
+    (times (read.scopeOf (typeOf (a .left))) end (a .n) (rows (drop (a .at) (a .s .now)))) _ _ (c10 .if1 .left) _
+    (c9 .node .ensures) x (c7 .node2 .given .0 .0) (c7 .node2 .given .1) _ (c5 .node-row .ensures .0) _
+    (c5 .node-row .ensures .1) _ _ _ _ (c4 .if2 .taken) ((c2 .write-own .ensures) ns x)
 
 write-chain-returns-4 : (t : ℕ) → write-chain-lts.Need-returns-4 (write-chain-calls t) (write-chain-at t) write-chain.Post
 write-chain-returns-4 t c =
     let c2 = c .before .before in let c6 = c2 .before .before .before .before in let c8 = c6 .before .before in
     let c9 = c8 .before in let c11 = c9 .before .before in let c13 = c11 .before .before in let c14 = c13 .before in
-    let c20 = c14 .before .before .before .before .before .before in
-    λ ns x. law.chain-next ((c20 .args .s) .now) (sheetOf ((c20 .args .root) .now) ns) ((c20 .args .ids) .now)
-    ((c20 .args .ats) .now) (times (read.scopeOf (typeOf (c20 .args .left))) end (c20 .args .n)
-    (rows (drop (c20 .args .at) ((c20 .args .s) .now)))) _ _ (c14 .if1 .left) _ (c13 .node .ensures) x
-    (c11 .node2 .given .0 .0) (c11 .node2 .given .1) _ (c9 .node-row .ensures .0) _ _ _ (c6 .write-chain .result) _ _
-    (c8 .if2 .left) ((c6 .write-chain .ensures) ns x) ((c2 .write-own2 .ensures) ns x)
+    let a = c14 .before .before .before .before .before .before .args in
+    λ ns x. law.chain-next (a .s .now) (sheetOf (a .root .now) ns) (a .ids .now) (a .ats .now)
+    (times (read.scopeOf (typeOf (a .left))) end (a .n) (rows (drop (a .at) (a .s .now)))) _ _ (c14 .if1 .left) _
+    (c13 .node .ensures) x (c11 .node2 .given .0 .0) (c11 .node2 .given .1) _ (c9 .node-row .ensures .0) _
+    (c9 .node-row .ensures .1) _ _ _ (c6 .write-chain .result) _ _ (c8 .if2 .left) ((c6 .write-chain .ensures) ns x)
+    ((c2 .write-own2 .ensures) ns x)
+
+-- ---- write_list
 
 write-list-returns : (t : ℕ) → write-list-lts.Need-returns (write-list-calls t) (write-list-at t) write-list.Post
 write-list-returns t c =
     let c2 = c .before .before in let c5 = c2 .before .before .before in let c6 = c5 .before in
-    let c12 = c6 .before .before .before .before .before .before in
-    λ ns x. law.list-text (sheetOf ((c12 .args .root) .now) ns) (c12 .args .leaf) (c12 .args .left)
-    (rows (drop (c12 .args .at) ((c12 .args .s) .now))) _ (c6 .kind .ensures) (c5 .if1 .taken) (c2 .displayed .ensures)
+    let a = c6 .before .before .before .before .before .before .args in
+    λ ns x. law.list-text (sheetOf (a .root .now) ns) (a .leaf) (a .left) (rows (drop (a .at) (a .s .now))) _
+    (c6 .kind .ensures) (c5 .if1 .taken) (c2 .displayed .ensures)
 
 write-list-returns-2 : (t : ℕ) → write-list-lts.Need-returns-2 (write-list-calls t) (write-list-at t) write-list.Post
 write-list-returns-2 t c =
     let c2 = c .before .before in let c5 = c2 .before .before .before in let c6 = c5 .before in let c7 = c6 .before in
-    let c13 = c7 .before .before .before .before .before .before in
-    λ ns x. law.list-data (sheetOf ((c13 .args .root) .now) ns) (c13 .args .leaf) (c13 .args .left)
-    (rows (drop (c13 .args .at) ((c13 .args .s) .now))) _ (c7 .kind .ensures) (c6 .if1 .left) (c5 .if2 .taken)
-    (c2 .displayed2 .ensures)
-
-write-list-write-type-requires : (t : ℕ) → write-list-lts.Need-write-type-requires (write-list-calls t) (write-list-at t)
-    write-list.Post
-write-list-write-type-requires t c κs =
-    let c14 = c .before .before .before .before .before .before .before .before .before .before .before .before .before .before
-    in
-    (omega (arith, (c14 .pre .0)), tt)
+    let a = c7 .before .before .before .before .before .before .args in
+    λ ns x. law.list-data (sheetOf (a .root .now) ns) (a .leaf) (a .left) (rows (drop (a .at) (a .s .now))) _
+    (c7 .kind .ensures) (c6 .if1 .left) (c5 .if2 .taken) (c2 .displayed2 .ensures)
 
 write-list-returns-3 : (t : ℕ) → write-list-lts.Need-returns-3 (write-list-calls t) (write-list-at t) write-list.Post
 write-list-returns-3 t c =
     let c2 = c .before .before in let c6 = c2 .before .before .before .before in let c8 = c6 .before .before in
     let c11 = c8 .before .before .before in let c13 = c11 .before .before in let c14 = c13 .before in let c15 = c14 .before in
-    let c21 = c15 .before .before .before .before .before .before in
-    λ ns x. law.list-inner (sheetOf ((c21 .args .root) .now) ns) (c21 .args .leaf) (c21 .args .left)
-    (rows (drop (c21 .args .at) ((c21 .args .s) .now))) _ (c15 .kind .ensures) _ (c14 .if1 .left) (c13 .if2 .left)
-    (c8 .element-leaf .ensures) (c11 .list-head .ensures) ((c6 .write-type .ensures) ns x) (c2 .byte .ensures)
+    let a = c15 .before .before .before .before .before .before .args in
+    λ ns x. law.list-inner (sheetOf (a .root .now) ns) (a .leaf) (a .left) (rows (drop (a .at) (a .s .now))) _
+    (c15 .kind .ensures) _ (c14 .if1 .left) (c13 .if2 .left) (c8 .element-leaf .ensures) (c11 .list-head .ensures)
+    ((c6 .write-type .ensures) ns x) (c2 .byte .ensures)
+
+-- ---- write_own
 
 write-own-returns : (t : ℕ) → write-own-lts.Need-returns (write-own-calls t) (write-own-at t) write-own.Post
 write-own-returns t c =
-    let c2 = c .before .before in let c4 = c2 .before .before in let c6 = c4 .before .before in let c7 = c6 .before in
-    let c13 = c7 .before .before .before .before .before .before in
-    λ ns x y w. law.own-none (c13 .args .left) (sheetOf ((c13 .args .root) .now) ns) (c13 .args .id) (c13 .args .n) _ _
-    (c6 .scope .ensures) y _ _ _ _ _ (rw (c7 .node-row .ensures .1) (w .params)) (rw (c4 .enum-told .given .1) refl)
-    (c2 .unbound .ensures)
+    let c2 = c .before .before in let c4 = c2 .before .before in let c6 = c4 .before .before in
+    let a = c6 .before .before .before .before .before .before .args in
+    λ ns x y w. law.own-none (a .left) (sheetOf (a .root .now) ns) (a .id) (a .n) _ _ (c6 .scope .ensures) y _ _ _ _ _ w
+    (rw (c4 .enum-told .given .1) refl) (c2 .unbound .ensures)
 
 write-own-returns-2 : (t : ℕ) → write-own-lts.Need-returns-2 (write-own-calls t) (write-own-at t) write-own.Post
 write-own-returns-2 t c =
     let c1 = c .before in let c3 = c1 .before .before in let c5 = c3 .before .before in
-    let c12 = c5 .before .before .before .before .before .before .before in
-    λ ns x y w. law.own-other (c12 .args .left) (sheetOf ((c12 .args .root) .now) ns) (c12 .args .id) (c12 .args .n) _ _
-    (c5 .scope .ensures) y _ _ _ _ _ (rw (c3 .scope2 .given .1) refl) _ (c1 .next .ensures .0) (c .match2 .keys2)
+    let a = c5 .before .before .before .before .before .before .args in
+    λ ns x y w. law.own-other (a .left) (sheetOf (a .root .now) ns) (a .id) (a .n) _ _ (c5 .scope .ensures) y _ _ _ _ _
+    (rw (c3 .scope2 .given .1) refl) _ (c1 .next .ensures .0) (c .match2 .keys2)
 
 write-own-returns-3 : (t : ℕ) → write-own-lts.Need-returns-3 (write-own-calls t) (write-own-at t) write-own.Post
 write-own-returns-3 t c =
     let c2 = c .before .before in let c4 = c2 .before .before in let c6 = c4 .before .before in let c8 = c6 .before .before in
-    let c10 = c8 .before .before in let c12 = c10 .before .before in let c13 = c12 .before in
-    let c19 = c13 .before .before .before .before .before .before in
-    λ ns x y w. law.own-inherit (c19 .args .left) (sheetOf ((c19 .args .root) .now) ns) (c19 .args .id) (c19 .args .n) _ _
-    (c12 .scope .ensures) y _ _ _ _ _ (rw (c10 .scope2 .given .1) refl) _ (c8 .next .ensures .0) _ _ _ (c6 .line .given .1)
-    _ (rw (c13 .node-row .ensures .1) (w .params)) (c4 .if1 .taken) (c2 .inherited .ensures)
-
-write-own-write-binds-requires : (t : ℕ) → write-own-lts.Need-write-binds-requires (write-own-calls t) (write-own-at t)
-    write-own.Post
-write-own-write-binds-requires t c κs =
-    let c16 = c .before .before .before .before .before .before .before .before .before .before .before .before .before .before
-    .before .before in
-    (omega (arith, (c16 .pre .0)), tt)
+    let c10 = c8 .before .before in let c12 = c10 .before .before in
+    let a = c12 .before .before .before .before .before .before .args in
+    λ ns x y w. law.own-inherit (a .left) (sheetOf (a .root .now) ns) (a .id) (a .n) _ _ (c12 .scope .ensures) y _ _ _ _ _
+    (rw (c10 .scope2 .given .1) refl) _ (c8 .next .ensures .0) _ _ _ (c6 .line .given .1) _ w (c4 .if1 .taken)
+    (c2 .inherited .ensures)
 
 write-own-returns-4 : (t : ℕ) → write-own-lts.Need-returns-4 (write-own-calls t) (write-own-at t) write-own.Post
 write-own-returns-4 t c =
     let c2 = c .before .before in let c4 = c2 .before .before in let c6 = c4 .before .before in let c8 = c6 .before .before in
     let c10 = c8 .before .before in let c12 = c10 .before .before in
-    let c19 = c12 .before .before .before .before .before .before .before in
-    λ ns x y w. law.own-binds (c19 .args .left) (sheetOf ((c19 .args .root) .now) ns) (c19 .args .id) (c19 .args .n) _ _
-    (c12 .scope .ensures) y _ _ _ _ _ (rw (c10 .scope2 .given .1) refl) _ (c8 .next .ensures .0) _ _ _ (c6 .line .given .1)
-    _ (c8 .next .ensures .1) (c4 .if1 .left) ((c2 .write-binds .ensures) ns x)
+    let a = c12 .before .before .before .before .before .before .args in
+    λ ns x y w. law.own-binds (a .left) (sheetOf (a .root .now) ns) (a .id) (a .n) _ _ (c12 .scope .ensures) y _ _ _ _ _
+    (rw (c10 .scope2 .given .1) refl) _ (c8 .next .ensures .0) _ _ _ (c6 .line .given .1) _ (c8 .next .ensures .1)
+    (c4 .if1 .left) ((c2 .write-binds .ensures) ns x)
+
+-- ---- write_type
 
 write-type-returns : (t : ℕ) → write-type-lts.Need-returns (write-type-calls t) (write-type-at t) write-type.Post
 write-type-returns t c =
@@ -495,62 +405,50 @@ write-type-returns-3 : (t : ℕ) → write-type-lts.Need-returns-3 (write-type-c
 unfolding typeString
 write-type-returns-3 t c =
     let c2 = c .before .before in let c4 = c2 .before .before in let c6 = c4 .before .before in let c8 = c6 .before .before in
-    let c9 = c8 .before in let c15 = c9 .before .before .before .before .before .before in
+    let c9 = c8 .before in let a = c9 .before .before .before .before .before .before .args in
     λ ns x. read-law.type-plain _ _ _ _ _ _ _ _ (c9 .if1 .left) (c8 .next .ensures .0) (c6 .line .given .1)
-    (c8 .next .ensures .1) (λ ty. Writes (typeString ty (sheetOf ((c15 .args .root) .now) ns) (c15 .args .leaf))
-    ((c15 .args .buf) .now) (c15 .args .t) (c2 .plain .last .1 .1 .1 .1 .0) (c2 .plain .result)) (c4 .if2 .taken)
-    ((c2 .plain .ensures) (c4 .if2 .taken))
-
-write-type-write-list-requires : (t : ℕ) → write-type-lts.Need-write-list-requires (write-type-calls t) (write-type-at t)
-    write-type.Post
-write-type-write-list-requires t c κs =
-    let c13 = c .before .before .before .before .before .before .before .before .before .before .before .before .before in
-    (omega (arith, (c13 .pre .0)), tt)
+    (c8 .next .ensures .1) (λ ty. Writes (typeString ty (sheetOf (a .root .now) ns) (a .leaf)) (a .buf .now) (a .t)
+    (c2 .plain .last .1 .1 .1 .1 .0) (c2 .plain .result)) (c4 .if2 .taken) ((c2 .plain .ensures) (c4 .if2 .taken))
 
 write-type-returns-4 : (t : ℕ) → write-type-lts.Need-returns-4 (write-type-calls t) (write-type-at t) write-type.Post
 write-type-returns-4 t c =
     let c2 = c .before .before in let c4 = c2 .before .before in let c7 = c4 .before .before .before in
-    let c9 = c7 .before .before in let c10 = c9 .before in let c16 = c10 .before .before .before .before .before .before in
+    let c9 = c7 .before .before in let c10 = c9 .before in let a = c10 .before .before .before .before .before .before .args in
     λ ns x. read-law.type-list _ _ _ _ _ _ _ _ (c10 .if1 .left) (c9 .next .ensures .0) (c7 .line .given .1)
-    (c9 .next .ensures .1) (λ ty. Writes (typeString ty (sheetOf ((c16 .args .root) .now) ns) (c16 .args .leaf))
-    ((c16 .args .buf) .now) (c16 .args .t) (c2 .write-list .last .1 .1 .1 .1 .1 .1 .1 .1 .0) (c2 .write-list .result))
-    (c4 .if3 .taken) ((c2 .write-list .ensures) ns x)
+    (c9 .next .ensures .1) (λ ty. Writes (typeString ty (sheetOf (a .root .now) ns) (a .leaf)) (a .buf .now) (a .t)
+    (c2 .write-list .last .1 .1 .1 .1 .1 .1 .1 .1 .0) (c2 .write-list .result)) (c4 .if3 .taken)
+    ((c2 .write-list .ensures) ns x)
 
 write-type-returns-5 : (t : ℕ) → write-type-lts.Need-returns-5 (write-type-calls t) (write-type-at t) write-type.Post
 write-type-returns-5 t c =
     let c2 = c .before .before in let c4 = c2 .before .before in let c8 = c4 .before .before .before .before in
-    let c10 = c8 .before .before in let c11 = c10 .before in let c17 = c11 .before .before .before .before .before .before in
-    λ ns x. read-law.type-enum (sheetOf ((c17 .args .root) .now) ns) (c17 .args .leaf) _ _ _ _ _ _ _ _ (c11 .if1 .left)
-    (c10 .next .ensures .0) (c8 .line .given .1) (c10 .next .ensures .1)
-    (λ (o : Out Str). Writes o ((c17 .args .buf) .now) (c17 .args .t) (c2 .qualified-module .last .1 .1 .1 .1 .1 .1 .0)
-    (c2 .qualified-module .result)) (c4 .if4 .taken) ((c2 .qualified-module .ensures) ns x)
-
-write-type-do-branding-requires : (t : ℕ) → write-type-lts.Need-do-branding-requires (write-type-calls t) (write-type-at t)
-    write-type.Post
-write-type-do-branding-requires t c κs =
-    let c15 = c .before .before .before .before .before .before .before .before .before .before .before .before .before .before
-    .before in
-    (omega (arith, (c15 .pre .0)), tt)
+    let c10 = c8 .before .before in let c11 = c10 .before in
+    let a = c11 .before .before .before .before .before .before .args in
+    λ ns x. read-law.type-enum (sheetOf (a .root .now) ns) (a .leaf) _ _ _ _ _ _ _ _ (c11 .if1 .left) (c10 .next .ensures .0)
+    (c8 .line .given .1) (c10 .next .ensures .1) (λ (o : Out Str). Writes o (a .buf .now) (a .t)
+    (c2 .qualified-module .last .1 .1 .1 .1 .1 .1 .0) (c2 .qualified-module .result)) (c4 .if4 .taken)
+    ((c2 .qualified-module .ensures) ns x)
 
 write-type-returns-6 : (t : ℕ) → write-type-lts.Need-returns-6 (write-type-calls t) (write-type-at t) write-type.Post
 write-type-returns-6 t c =
     let c2 = c .before .before in let c4 = c2 .before .before in let c5 = c4 .before in let c6 = c5 .before in
     let c7 = c6 .before in let c9 = c7 .before .before in let c11 = c9 .before .before in let c12 = c11 .before in
-    let c18 = c12 .before .before .before .before .before .before in
-    λ ns x. read-law.type-branded (sheetOf ((c18 .args .root) .now) ns) (c18 .args .leaf) _ _ _ _ _ _ _ _ (c12 .if1 .left)
-    (c11 .next .ensures .0) (c9 .line .given .1) (c11 .next .ensures .1)
-    (λ (o : Out Str). Writes o ((c18 .args .buf) .now) (c18 .args .t)
+    let a = c12 .before .before .before .before .before .before .args in
+    λ ns x. read-law.type-branded (sheetOf (a .root .now) ns) (a .leaf) _ _ _ _ _ _ _ _ (c12 .if1 .left) (c11 .next .ensures .0)
+    (c9 .line .given .1) (c11 .next .ensures .1) (λ (o : Out Str). Writes o (a .buf .now) (a .t)
     (c2 .do-branding .last .1 .1 .1 .1 .1 .1 .1 .1 .1 .1 .0) (c2 .do-branding .result)) (c7 .if2 .left) (c6 .if3 .left)
     (c5 .if4 .left) (c4 .if5 .taken) ((c2 .do-branding .ensures) ns x)
 
 write-type-returns-7 : (t : ℕ) → write-type-lts.Need-returns-7 (write-type-calls t) (write-type-at t) write-type.Post
 write-type-returns-7 t c =
     let c2 = c .before .before in let c4 = c2 .before .before in let c9 = c4 .before .before .before .before .before in
-    let c11 = c9 .before .before in let c12 = c11 .before in let c18 = c12 .before .before .before .before .before .before in
+    let c11 = c9 .before .before in let c12 = c11 .before in
+    let a = c12 .before .before .before .before .before .before .args in
     λ ns x. read-law.type-pointer _ _ _ _ _ _ _ _ (c12 .if1 .left) (c11 .next .ensures .0) (c9 .line .given .1)
-    (c11 .next .ensures .1) (λ ty. Writes (typeString ty (sheetOf ((c18 .args .root) .now) ns) (c18 .args .leaf))
-    ((c18 .args .buf) .now) (c18 .args .t) (c2 .pointer .last .1 .1 .1 .1 .1 .1 .1 .1 .1 .0) (c2 .pointer .result))
-    (c4 .if5 .left) ((c2 .pointer .ensures) ns x)
+    (c11 .next .ensures .1) (λ ty. Writes (typeString ty (sheetOf (a .root .now) ns) (a .leaf)) (a .buf .now) (a .t)
+    (c2 .pointer .last .1 .1 .1 .1 .1 .1 .1 .1 .1 .0) (c2 .pointer .result)) (c4 .if5 .left) ((c2 .pointer .ensures) ns x)
+
+-- ---- the cycle
 
 pub +do-branding+write-binding+write-binds+write-chain+write-list+write-own+write-type-spec :
     {M : Type 1} → statement M
@@ -573,7 +471,7 @@ pub +do-branding+write-binding+write-binds+write-chain+write-list+write-own+writ
     (λ c κs. search needs)
     (λ c κs. search needs)
     (λ c κs. search needs)
-    (do-branding-write-chain-requires t)
+    (λ c κs. search needs)
     (λ c κs. search needs)
     (λ c. search needs)
     (do-branding-returns-2 t))
@@ -583,7 +481,7 @@ pub +do-branding+write-binding+write-binds+write-chain+write-list+write-own+writ
     (λ c κs. search needs)
     (λ c. search needs)
     (λ c κs. search needs)
-    (write-binding-write-type-requires t)
+    (λ c κs. search needs)
     (λ c. search needs)
     (write-binding-returns t)
     (λ c. search needs)
@@ -595,13 +493,15 @@ pub +do-branding+write-binding+write-binds+write-chain+write-list+write-own+writ
     write-binds-μ-loop
     (write-binds-loop-holds t)
     (λ c κs. search needs)
-    (write-binds-write-binding-requires t)
+    (λ c κs. search needs)
+    (λ c. search needs)
+    (write-binds-returns t)
     (λ c κs. search needs)
     (λ c. search needs)
     (λ c. search needs)
     (write-binds-loop-again t)
     (λ c. search needs)
-    (write-binds-returns t))
+    (write-binds-returns-2 t))
     (λ t. write-chain-lts.spec (write-chain-calls t)
     (write-chain-at t)
     write-chain.Post
@@ -611,12 +511,12 @@ pub +do-branding+write-binding+write-binds+write-chain+write-list+write-own+writ
     (λ c. search needs)
     (write-chain-returns-2 t)
     (λ c κs. search needs)
-    (write-chain-write-own-requires t)
+    (λ c κs. search needs)
     (λ c. search needs)
     (write-chain-returns-3 t)
     (λ c. search needs)
-    (write-chain-write-chain-requires t)
-    (write-chain-write-own-requires-2 t)
+    (λ c κs. search needs)
+    (λ c κs. search needs)
     (λ c. search needs)
     (write-chain-returns-4 t))
     (λ t. write-list-lts.spec (write-list-calls t)
@@ -633,14 +533,13 @@ pub +do-branding+write-binding+write-binds+write-chain+write-list+write-own+writ
     (write-list-returns-2 t)
     (λ c κs. search needs)
     (λ c κs. search needs)
-    (write-list-write-type-requires t)
+    (λ c κs. search needs)
     (λ c κs. search needs)
     (λ c. search needs)
     (write-list-returns-3 t))
     (λ t. write-own-lts.spec (write-own-calls t)
     (write-own-at t)
     write-own.Post
-    (λ c κs. search needs)
     (λ c κs. search needs)
     (λ c. search needs)
     (λ c. search needs)
@@ -653,7 +552,7 @@ pub +do-branding+write-binding+write-binds+write-chain+write-list+write-own+writ
     (λ c κs. search needs)
     (λ c. search needs)
     (write-own-returns-3 t)
-    (write-own-write-binds-requires t)
+    (λ c κs. search needs)
     (λ c. search needs)
     (write-own-returns-4 t))
     λ t. write-type-lts.spec (write-type-calls t)
@@ -667,14 +566,14 @@ pub +do-branding+write-binding+write-binds+write-chain+write-list+write-own+writ
     (λ c. search needs)
     (write-type-returns-3 t)
     (λ c. search needs)
-    (write-type-write-list-requires t)
+    (λ c κs. search needs)
     (λ c. search needs)
     (write-type-returns-4 t)
     (λ c κs. search needs)
     (λ c. search needs)
     (write-type-returns-5 t)
     (λ c. search needs)
-    (write-type-do-branding-requires t)
+    (λ c κs. search needs)
     (λ c. search needs)
     (write-type-returns-6 t)
     (λ c κs. search needs)
