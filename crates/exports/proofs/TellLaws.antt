@@ -1,5 +1,5 @@
 -- What the code's answer says of a sheet is what is told of it: by the two cases of what is admitted. Assumes nothing.
-use mathlib.Core.Path.{_≡_, refl, sym, _∙_}
+use mathlib.Core.Path.{_≡_, refl}
 use Prim.Native.Nat.{ℕ}
 use native.Mathlib.Omega.{arith}
 use Rattle.tree.specs.Read.{Admitted, sheet, refused}

@@ -28,12 +28,10 @@ use Rattle.tree.specs.Tree.{Ty, Scopes, Binds, Sheet, end, stop, bound, inherit
 use Rattle.tree.specs.Reader.{Rows, Reading, got, no, Reader, _then_, mapR, times, onType}
 use Rattle.tree.specs.Read as read
 use Rattle.tree.specs.Read.{typeOf, typeFrom, bindingOf, paramsOf, among}
-use Rattle.codegen_types.specs.Out.{Out, ok, refused}
 use Rattle.codegen_types.specs.TypeString as typeString
-use Rattle.codegen_types.specs.TypeString.{nodeOf, orElse, scopeOf, scopesOf, bindingsOf}
-use Rattle.tree.specs.Index.{On, Has, Indexed}
-use Rattle.find.specs.Find.{After, owed, pastRows, lastScope, ScopeHere, ScopeIs, namesOf, nameAt, NodeHere, lookup}
-use Rattle.find.specs.declared.Found.{Found}
+use Rattle.codegen_types.specs.TypeString.{orElse, scopeOf, scopesOf, bindingsOf}
+use Rattle.tree.specs.Index.{On, Has}
+use Rattle.find.specs.Find.{After, owed, pastRows, lastScope, ScopeHere, ScopeIs, namesOf, nameAt, lookup}
 use Rattle.find.specs.declared.Found.the-variants.{At, Nothing}
 
 -- what holds for a letter's lines and for all others

@@ -11,7 +11,7 @@ use Rattle.text.specs.Bytes.{Str, ascii, cond, both}
 use Rattle.row.specs.Rows.{rows}
 use Rattle.tree.specs.Tree as tree
 use Rattle.tree.specs.Tree.{Ty, plain, list, enum, struct, interface, anyPointer, parameter, kind, Scopes, Sheet}
-use Rattle.tree.specs.Reader.{Rows, got, no}
+use Rattle.tree.specs.Reader.{Rows}
 use Rattle.tree.specs.Read.{typeOf}
 use Rattle.codegen_types.specs.Out.{Out, ok, refused, _then_, refusalOf}
 use Rattle.codegen_types.specs.TypeString.{typeString}

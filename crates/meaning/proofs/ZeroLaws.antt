@@ -3,7 +3,7 @@
 use mathlib.Core.Path.{_≡_, refl, sym, ap, _∙_, subst}
 use mathlib.Core.Bool.{Bool, true, false}
 use mathlib.Core.Logic.{_⊎_, inl, inr}
-use mathlib.Core.Option.{Option, none, some}
+use mathlib.Core.Option.{none, some}
 use mathlib.Core.List.{List, [], _∷_}
 use Prim.Native.Nat.{ℕ, zero, suc, _+_, _-_, _^_, _≤_, _<_}
 use native.Mathlib.Omega.{arith}
@@ -18,17 +18,15 @@ use Rattle.calls.specs.Calls.{clearPointer}
 use Rattle.record.specs.Lines.{Zero, ofSlot, ofTag, ofPointer, zeroLine, zeroText, zeroTexts}
 use Rattle.record.specs.Masks.{maskBits}
 use Rattle.record.specs.Offsets.{Place, from, size}
-use Rattle.record.specs.Record.{Record, mapO, coded, get, null, Has, Holds, HoldsPointer}
-use Rattle.record.specs.Types.{Num, uint, Kind, bool, num, enum, placeOf, tagPlace}
-use Rattle.record.specs.declared.Width.the-variants.{Two}
+use Rattle.record.specs.Record.{Record, coded, get, null, Has, Holds, HoldsPointer}
+use Rattle.record.specs.Types.{Kind, placeOf, tagPlace}
 use Rattle.record.proofs.BitLaws.{xors-xor, toBits-zero}
 use Rattle.record.proofs.RecordLaws.{after, cleared, put-inside, after-length, after-at, after-out, get-ext, get-after}
 use Rattle.record.proofs.RecordLaws.{clear-inside, cleared-bits, cleared-length, cleared-at, cleared-other, null-flag}
 use Rattle.record.proofs.SectionLaws.{where?}
 use Rattle.meaning.specs.Claims.{In, HoldsZero, ZeroHas, ZeroClears, Zeroed, ZeroingHolds}
 use Rattle.meaning.specs.Meaning.{Op, setOp, clearOp, writes, runOp, runLine, runLines, runZeroing}
-use Rattle.meaning.specs.Reading.{_>>=_, _>>_, _or_, pure, lit, number, typeName}
-use Rattle.meaning.proofs.CallLaws.{parts, set-bool, set-data}
+use Rattle.meaning.specs.Reading.{_>>=_, _>>_, pure}
 use Rattle.meaning.proofs.HaserLaws.{haser-null}
 use Rattle.meaning.proofs.LineLaws.{Says, says-zero, zeroOp, Saying, wholes-saying, lines-stringify, indented, runOps}
 use Rattle.meaning.proofs.LineLaws.{run-lines}

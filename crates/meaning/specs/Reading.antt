@@ -1,7 +1,7 @@
 -- Reading from the front of a line: fixed bytes, numbers, types and masks as they are written in a call. Assumes nothing.
 use Prim.Native.Nat.{ℕ, _+_, _*_, _-_, _^_}
 use Prim.Native.String.{String}
-use mathlib.Core.Bool.{Bool, true, false}
+use mathlib.Core.Bool.{Bool}
 use mathlib.Core.List.{[], _∷_}
 use mathlib.Core.Option.{Option, none, some}
 use lib.Dec.{eqb, leb, ltb}

@@ -1,15 +1,13 @@
 -- Laws of nodes: the node that the index has for an id, and what its N row says. Assumes nothing.
-use mathlib.Core.Path.{_≡_, refl, sym, _∙_}
+use mathlib.Core.Path.{_≡_, refl}
 use mathlib.Core.Bool.{Bool, true, false}
 use mathlib.Core.List.{List, [], _∷_}
 use mathlib.Core.Option.{none, some}
-use Prim.Native.Nat.{ℕ, zero, suc, _+_, _-_, _≤_, _<_}
+use Prim.Native.Nat.{ℕ, zero, suc, _-_, _≤_, _<_}
 use native.Mathlib.Omega.{arith}
-use native.Mathlib.Numerals.{add-one, sub-one}
-use borrow.Author.Tests.{eq-eqb, ne-eqb}
+use native.Mathlib.Numerals.{sub-one}
 use lib.Dec.{eqb}
-use lib.ListN.{length, getD, take, drop, drop-of-length-le, length-take}
-use lib.Seq.{drop-cons, getD-take}
+use lib.ListN.{length}
 use types.Run.{OneOf}
 use denote.Enum.Declared.{tagOf}
 use Rattle.text.specs.Bytes.{Str, cond}
@@ -22,11 +20,10 @@ use Rattle.tree.specs.Reader.{Rows, Reading, got, no, Reader, _then_}
 use Rattle.tree.specs.Read.{among, fieldsOf, paramsOf, membersOf, nodeOf}
 use Rattle.tree.specs.Walked.{passed}
 use Rattle.tree.specs.Index.{On, nodeHere, Indexed}
-use Rattle.tree.proofs.OtherLines.{never, not-node, not-parameter}
+use Rattle.tree.proofs.OtherLines.{never, not-node}
 use Rattle.place.specs.Place.{byId, nth, Finds, NodeAt, nodeLine}
 use Rattle.find.specs.Find.{lookup}
-use Rattle.find.specs.declared.Found.{Found}
-use Rattle.find.specs.declared.Found.the-variants.{At, Nothing}
+use Rattle.find.specs.declared.Found.the-variants.{At}
 use Rattle.row.specs.declared.Line.the-variants as line
 
 pub nth-more : {A : Type 0} (k : ℕ) (x : A) (xs : List A) → 0 < k → nth (k - 1) xs ≡ nth k (x ∷ xs)

@@ -1,23 +1,23 @@
 -- Records: a set and then a get, what a set leaves alone, sets in either order, clears. Every law is over a place, whatever its
 -- width. A bit of the section lies in a place or not, and the laws of writes settle both. Assumes nothing.
-use mathlib.Core.Path.{_≡_, refl, sym, ap, _∙_, subst}
+use mathlib.Core.Path.{_≡_, refl, ap, _∙_, subst}
 use mathlib.Core.Bool.{Bool, true, false, not}
 use mathlib.Core.Option.{some}
-use mathlib.Core.Logic.{_⊎_, inl, inr, _≢_}
+use mathlib.Core.Logic.{_≢_}
 use mathlib.Core.List.{List, [], _∷_}
 use Prim.Native.Nat.{ℕ, _+_, _-_, _*_, _^_, _≤_, _<_}
 use native.Mathlib.Omega.{arith}
 use lib.Bits.{bitXor, xor-lt}
 use lib.Dec.{eqb}
 use lib.ListN.{length, getD}
-use lib.Seq.{drop-cons, ext-getD}
+use lib.Seq.{drop-cons}
 use Rattle.record.specs.Bits.{bit}
 use Rattle.record.specs.Offsets.{Place, from, size, pointerAddress}
 use Rattle.record.specs.Record.{Record, read, write, masked, coded, getBits, putBits, nullFlag, clearFlag, get, put}
 use Rattle.record.specs.Record.{null, clear, Has, Clear, Holds, HoldsPointer, Same}
 use Rattle.record.specs.declared.PointerOffset.{PointerOffset}
 use Rattle.record.proofs.BitLaws.{length-xors, of-to, xors-twice, xors-xor}
-use Rattle.record.proofs.SectionLaws.{length-write, read-write, write-at, write-out, where?, found-ext, found-inside}
+use Rattle.record.proofs.SectionLaws.{length-write, read-write, write-at, write-out, found-ext, found-inside}
 use Rattle.record.proofs.SectionLaws.{stored-inside}
 
 -- the record with the value v, under mask m, put at p

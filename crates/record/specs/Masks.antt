@@ -1,6 +1,6 @@
 -- The masks of a slot's getter and setter, from its kind, its default's bits and its explicit flag: as bits, and as they are
 -- written. Assumes nothing.
-use mathlib.Core.Bool.{Bool, true, false}
+use mathlib.Core.Bool.{Bool}
 use mathlib.Core.List.{_++_}
 use mathlib.Core.Option.{Option, none, some}
 use Prim.Native.Nat.{ℕ, _-_, _*_, _^_}

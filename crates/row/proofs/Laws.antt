@@ -13,7 +13,7 @@ use lib.Dec.{eqb}
 use borrow.Author.Tests.{eq-eqb, ne-eqb, eqb-false}
 use Rattle.text.specs.Bytes.{Str, cond, unit}
 use Rattle.row.specs.Rows.{rowLen, Passes, onto, rows, joined, restOf, newlines, size, lineNo}
-use Rattle.row.specs.Line.{reader, badLine, lineOf, lineAt, textStart, textOf, textAt}
+use Rattle.row.specs.Line.{reader, badLine, lineOf, textStart, textOf, textAt}
 
 -- where a row goes on and where it ends
 pub rowLen-here : (s : Str) (i : ℕ) → i < length s → getD s i 0 ≡ 10 → rowLen (drop i s) ≡ 1
@@ -255,14 +255,8 @@ module _ (s : Str) (at e : ℕ) (lo : at < e) (hi : e ≤ length s) where
   unfolding textOf
   text-row = rw (row-length, row-first, row-front)
 
--- what the row at a position says, by its last byte, and its text
+-- where the rows after the row at a position begin, and its text
 module _ (s : Str) (at e : ℕ) (h : at < length s) (is : e ≡ at + rowLen (drop at s)) where
-  pub said :
-      lineAt (rows (drop at s))
-      ≡ cond (eqb (getD s (e - 1) 0) 10) (reader (getD s at 0)) badLine (take (e - 1 - at) (drop at s))
-  unfolding lineAt
-  said = rw (rows-at s at e h is) (line-row s at e (row-starts s at e h is) (row-ends s at e h is))
-
   pub after : rows (drop e s) ≡ restOf (rows (drop at s))
   unfolding restOf
   after = rw (rows-at s at e h is)

@@ -2,7 +2,7 @@
 -- row ends; a line shorter than its letter's least length is bad. Assumes nothing.
 use mathlib.Core.Path.{_≡_, refl, sym, ap, _∙_}
 use mathlib.Core.Bool.{Bool, true, false}
-use mathlib.Core.List.{List, [], _∷_, _++_}
+use mathlib.Core.List.{[], _∷_, _++_}
 use Prim.Native.Nat.{ℕ, zero, suc, _+_, _-_, _<_, _≤_}
 use native.Mathlib.Decide.{decLt}
 use native.Mathlib.Omega.{arith}
@@ -24,7 +24,7 @@ use Rattle.row.specs.Line.{given, reader, badLine, lineOf, lineAt, textO
 use Rattle.row.specs.declared.Line.{Line}
 use Rattle.row.specs.declared.Line.the-variants.{Root, Node, Parameter, Field, Group, Typ, Scope, Unbound, Value, Word, Bad}
 use Rattle.row.proofs.Line.{the-type}
-use Rattle.row.proofs.Laws.{row-bounds, rows-at, line-row, after}
+use Rattle.row.proofs.Laws.{row-bounds, rows-at, line-row}
 use Rattle.row.proofs.PrintLaws.{rows-printed}
 use Rattle.row.proofs.ReadLaws.{Good, printed-line}
 

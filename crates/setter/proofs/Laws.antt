@@ -1,6 +1,6 @@
 -- What a setter refuses: its type's refusal, whatever leaf it asks for, then its default's. By the slot's type. Assumes nothing.
 use mathlib.Core.Path.{_≡_, refl, sym, ap, _∙_}
-use mathlib.Core.Bool.{Bool, true, false, not}
+use mathlib.Core.Bool.{Bool, true, false}
 use mathlib.Core.List.{_++_}
 use mathlib.Core.Option as option
 use mathlib.Core.Option.{Option, some}
@@ -16,7 +16,7 @@ use Rattle.names.specs.Names.{camelToSnakeCase}
 use Rattle.row.specs.Rows.{rows}
 use Rattle.tree.specs.Tree as tree
 use Rattle.tree.specs.Tree.{Ty, plain, list, enum, struct, interface, anyPointer, parameter, kind, Sheet, Node, Value}
-use Rattle.tree.specs.Reader.{Rows, no}
+use Rattle.tree.specs.Reader.{Rows}
 use Rattle.tree.specs.Read.{typeOf}
 use Rattle.codegen_types.specs.Out.{Out, ok, refused, _then_, refusalOf}
 use Rattle.codegen_types.specs.Leaf.{display, bareName, lifetimeComma}

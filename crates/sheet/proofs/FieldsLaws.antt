@@ -12,7 +12,7 @@ use types.Run.{OneOf}
 use denote.Enum.Declared.{tagOf}
 use Rattle.text.specs.Bytes.{unit, either}
 use Rattle.row.proofs.Line.{the-type}
-use Rattle.row.specs.Rows.{rows, restOf, size}
+use Rattle.row.specs.Rows.{restOf, size}
 use Rattle.row.specs.Line.{lineAt, textAt}
 use Rattle.row.specs.declared.Line.{Line}
 use Rattle.tree.specs.Tree.{Slot, Field, slot, group}

@@ -1,7 +1,7 @@
 -- Laws of the loop over the nodes, over its arrays: what is held at each turn, and what a turn makes of it. Assumes nothing.
 use mathlib.Core.Path.{_≡_, refl, _∙_}
 use mathlib.Core.List.{List, [], _++_}
-use Prim.Native.Nat.{ℕ, _+_, _*_, _-_, _≤_, _<_}
+use Prim.Native.Nat.{ℕ, _+_, _-_, _≤_, _<_}
 use native.Mathlib.Omega.{arith}
 use lib.ListN.{length, take, drop, set, length-set}
 use Rattle.text.specs.Bytes.{Str, unit}
@@ -10,7 +10,6 @@ use Rattle.row.proofs.Laws.{rows-out, rows-shrink}
 use Rattle.tree.specs.Tree.{Node}
 use Rattle.tree.specs.Reader.{Reading, got, no}
 use Rattle.tree.specs.Read.{nodesOf}
-use Rattle.tree.specs.Walked.{walked}
 use Rattle.tree.specs.Index.{On, Indexed}
 use Rattle.tree.specs.declared.Walk.{Walk}
 use Rattle.tree.specs.declared.Walk.the-variants.{Next, Refused}

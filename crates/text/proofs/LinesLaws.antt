@@ -6,7 +6,7 @@ use Prim.Native.Nat.{ℕ, _+_, _-_, _*_, _<_}
 use native.Mathlib.Omega.{arith}
 use lib.ListN.{replicate-append-replicate}
 use Rattle.text.specs.Bytes.{Str, unit}
-use Rattle.text.specs.Lines.{FormattedText, FormattedTexts, _&_, spaces, toLines, flatMap, join, stringify, ended}
+use Rattle.text.specs.Lines.{FormattedText, spaces, toLines, join, stringify, ended}
 
 join-ended : (l : Str) (ls : List Str) → join (unit 10) (l ∷ ls) ++ unit 10 ≡ ended (l ∷ ls)
 unfolding join ended

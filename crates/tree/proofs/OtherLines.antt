@@ -8,7 +8,7 @@ use native.Mathlib.Omega.{arith}
 use types.Run.{OneOf, miss}
 use denote.Enum.Declared.{tagOf}
 use Rattle.row.proofs.Line.{the-type}
-use Rattle.row.specs.Line.{asRoot, asNode, asParameter, asField, asGroup, asType, asScope, asUnbound, asValue, asWord}
+use Rattle.row.specs.Line.{asRoot, asNode, asParameter, asField, asType, asScope, asUnbound, asValue, asWord}
 use Rattle.tree.specs.Read.{isField}
 use Rattle.row.specs.declared.Line.{Line}
 use Rattle.row.specs.declared.Line.the-variants.{Root, Node, Parameter, Field, Group, Typ, Scope, Unbound, Value, Word, Bad}

@@ -9,10 +9,10 @@ use lib.ListN.{length}
 use lib.Dec.{eqb, ltb}
 use Rattle.text.specs.Bytes.{Str, cond}
 use Rattle.row.specs.Rows.{restOf, size}
-use Rattle.row.specs.Line.{lineAt, textAt, cases}
+use Rattle.row.specs.Line.{lineAt, cases}
 use Rattle.row.specs.declared.Line.{Line}
 use Rattle.tree.specs.Tree.{Ty, end, inherit, bind, stop, unbound, bound, Field}
-use Rattle.tree.specs.Reader.{Rows, Reading, got, no, Reader, _then_, mapR, times, onField, onGroup, onType, onScope}
+use Rattle.tree.specs.Reader.{Rows, Reading, got, no, Reader, _then_, mapR, times, onType, onScope}
 use Rattle.tree.specs.Reader.{onUnbound, onValue, onWord}
 use Rattle.tree.specs.Read.{bindingOf, scopeOf, typeFrom, typeOf, valueOf, wordsUpTo, hasWords, wordsOf, slotOf}
 use Rattle.tree.specs.Walked.{passed}

@@ -6,11 +6,12 @@ mod sheets;
 
 use crate::answer::{answer, text_of_field, Request};
 use crate::context::context;
-use crate::generate::corners::{node, slot};
+use crate::generate::corners::{node, slot, Corner};
+use crate::generate::hostile;
 use crate::program::accessors;
 use crate::sheet::print::print;
 use crate::sheet::read::read;
-use crate::sheet::{Binding, Scope, Sheet, Slot, Type};
+use crate::sheet::{Binding, Field, Scope, Sheet, Slot, Type};
 use std::hint::black_box;
 use std::time::{Duration, Instant};
 
@@ -79,6 +80,7 @@ pub fn names() -> Vec<String> {
         names.extend(SLOTS.iter().map(|(slot, _)| format!("{request} {slot}")));
     }
     names.push("zero group".to_string());
+    names.extend(hostile::all().iter().filter(|corner| last_field(&corner.sheet).is_some()).map(worst_name));
     names.extend(sheets::WHOLE.iter().map(|(name, _)| format!("accessors {name}")));
     names
 }
@@ -89,11 +91,12 @@ pub fn work(name: &str, side: Side) -> Option<Round> {
         ("leaf", name) => leaves::work(name, side),
         ("admit", sheet) => admission(sheets::admitted().into_iter().find(|(name, _)| name == sheet)?.1(), side),
         ("accessors", sheet) => program(sheets::WHOLE.iter().find(|(name, _)| *name == sheet)?.1, side),
-        ("zero", "group") => request(sheets::group_sheet(), Request::Zero, side),
+        ("zero", "group") => request(sheets::group_sheet(), FIRST, Request::Zero, side),
+        ("worst", _) => worst(hostile::all().into_iter().find(|corner| worst_name(corner) == name)?.sheet, side),
         (request_name, slot) => {
             let (_, asked) = REQUESTS.iter().find(|(name, _)| *name == request_name)?;
             let (_, slot) = SLOTS.iter().find(|(name, _)| *name == slot)?;
-            request(slot_sheet(slot()), *asked, side)
+            request(slot_sheet(slot()), FIRST, *asked, side)
         }
     }
 }
@@ -114,21 +117,48 @@ fn slot_sheet(slot: Slot) -> Sheet {
     Sheet::of(nodes)
 }
 
-/// The answer to a request on the first field of node 1.
-fn request(sheet: Sheet, request: Request, side: Side) -> Option<Round> {
+fn worst_name(corner: &Corner) -> String {
+    format!("worst {}", corner.name)
+}
+
+/// A field by its node's id and its place there.
+type FieldAt = (u64, usize);
+
+/// The first field of node 1.
+const FIRST: FieldAt = (1, 0);
+
+/// The last field of the first node that has any.
+fn last_field(sheet: &Sheet) -> Option<FieldAt> {
+    let node = sheet.nodes.iter().find(|node| !node.fields.is_empty())?;
+    Some((node.id, node.fields.len() - 1))
+}
+
+/// The type's text of a slot, or the zeroing of a group, where a sheet makes it hard.
+fn worst(sheet: Sheet, side: Side) -> Option<Round> {
+    let at = last_field(&sheet)?;
+    let node = sheet.nodes.iter().find(|node| node.id == at.0)?;
+    let asked = match node.fields[at.1] {
+        Field::Slot(_) => Request::Type { leaf: 4 },
+        Field::Group(_) => Request::Zero,
+    };
+    request(sheet, at, asked, side)
+}
+
+/// The answer to a request on a field.
+fn request(sheet: Sheet, at: FieldAt, request: Request, side: Side) -> Option<Round> {
     let bytes = print(&sheet);
     let mut buffer = vec![0; BUFFER];
     match side {
         Side::Rust => {
             let sheet: &'static Sheet = Box::leak(Box::new(sheet));
             let ctx = context(sheet);
-            let node = sheet.nodes.iter().find(|node| node.id == 1)?;
-            Some(Box::new(move || discard(text_of_field(&ctx, node, &node.fields[0], request))))
+            let node = sheet.nodes.iter().find(|node| node.id == at.0)?;
+            Some(Box::new(move || discard(text_of_field(&ctx, node, &node.fields[at.1], request))))
         }
         Side::RustFromBytes => {
-            Some(Box::new(move || discard(answer(black_box(&bytes), 1, 0, request, 0, &mut buffer))))
+            Some(Box::new(move || discard(answer(black_box(&bytes), at.0, at.1 as u64, request, 0, &mut buffer))))
         }
-        Side::Kitlubas => kitlubas_answer(bytes, request),
+        Side::Kitlubas => kitlubas_answer(bytes, at, request),
     }
 }
 
@@ -178,16 +208,16 @@ fn kitlubas_admit(_bytes: Vec<u8>) -> Option<Round> {
 }
 
 #[cfg(has_answer)]
-fn kitlubas_answer(bytes: Vec<u8>, request: Request) -> Option<Round> {
+fn kitlubas_answer(bytes: Vec<u8>, at: FieldAt, request: Request) -> Option<Round> {
     use crate::boundary::answer::answer;
     let mut buffer = vec![0; BUFFER];
     Some(Box::new(move || {
         let mut fill = 0;
-        discard(answer(black_box(&bytes), 1, 0, request, &mut fill, &mut buffer));
+        discard(answer(black_box(&bytes), at.0, at.1 as u64, request, &mut fill, &mut buffer));
     }))
 }
 
 #[cfg(not(has_answer))]
-fn kitlubas_answer(_bytes: Vec<u8>, _request: Request) -> Option<Round> {
+fn kitlubas_answer(_bytes: Vec<u8>, _at: FieldAt, _request: Request) -> Option<Round> {
     None
 }

@@ -6,8 +6,6 @@ use Rattle.text.proofs.Laws.{_⨾_}
 use Rattle.names.proofs.Laws.{char-first, char-lower, char-capital}
 use Rattle.names.proofs.snake_char.Statement.{statement}
 use Rattle.names.proofs.snake_char.Tie as tie
-use Rattle.names.proofs.snake_char.Reads as reads
-use Rattle.names.proofs.snake_char.Lts as lts
 
 returns : tie.Need-returns
 returns c =

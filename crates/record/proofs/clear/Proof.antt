@@ -1,7 +1,7 @@
 -- `record::clear` meets its contract: inside the pointers by the law of a cleared flag, past them nothing changes. Assumes
 -- nothing.
 use borrow.Author.Needs.{needs}
-use mathlib.Core.Path.{_≡_, refl, sym}
+use mathlib.Core.Path.{refl, sym}
 use lib.Seq.{set-out}
 use Rattle.record.proofs.OperationLaws.{clear-inside, clear-past}
 use Rattle.record.proofs.clear.Statement.{statement}

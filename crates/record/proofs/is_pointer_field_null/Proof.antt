@@ -1,7 +1,6 @@
 -- `record::is_pointer_field_null` meets its contract, by the laws of a null flag. Assumes nothing.
 use borrow.Author.Needs.{needs}
 use borrow.Author.Tests.{eq-eqb, ne-eqb}
-use mathlib.Core.Path.{_≡_}
 use Rattle.record.proofs.OperationLaws.{null-inside, null-past}
 use Rattle.record.proofs.is_pointer_field_null.Statement.{statement}
 use Rattle.record.proofs.is_pointer_field_null.Tie as tie

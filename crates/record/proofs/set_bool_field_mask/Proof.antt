@@ -1,6 +1,5 @@
 -- `record::set_bool_field_mask` meets its contract, by the laws of a Bool's set. Assumes nothing.
 use borrow.Author.Needs.{needs}
-use mathlib.Core.Path.{_≡_}
 use native.Mathlib.Nat.{mod-lt, zero-lt-suc}
 use native.Mathlib.Omega.{arith}
 use lib.Bits.{xor-lt}

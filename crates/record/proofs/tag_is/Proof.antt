@@ -1,6 +1,6 @@
 -- `record::tag_is` meets its contract: what the get of the tag answers decides. Assumes nothing.
 use borrow.Author.Needs.{needs}
-use mathlib.Core.Path.{_≡_, sym, _∙_}
+use mathlib.Core.Path.{sym, _∙_}
 use borrow.Author.Tests.{eq-eqb, ne-eqb}
 use Rattle.record.proofs.OperationLaws.{tag-value, tag-none}
 use Rattle.record.proofs.tag_is.Statement.{statement}

@@ -1,5 +1,4 @@
 -- `row::line_to` meets its contract: what stands in front of the part's last byte is read by its letter. Assumes nothing.
-use mathlib.Core.Path.{sym}
 use borrow.Author.Tests.{eq-eqb, ne-eqb}
 use borrow.Author.Needs.{needs}
 use Rattle.row.proofs.Laws.{line-row}

@@ -1,6 +1,6 @@
 -- `sheet::field` meets its contract: each return is one law of FieldsLaws for the row's line, and an id that was put after the
 -- others has its mark. Assumes nothing.
-use mathlib.Core.Path.{_≡_, sym, _∙_, ap}
+use mathlib.Core.Path.{sym, _∙_, ap}
 use mathlib.Core.List.{List}
 use Prim.Native.Nat.{ℕ}
 use native.Mathlib.Omega.{arith}

@@ -1,7 +1,6 @@
 -- `sheet::seen_between` meets its contract: what is to be found from the start on is to be found from here on. Assumes nothing.
 use mathlib.Core.Path.{_≡_, refl, sym, _∙_}
 use Prim.Native.Nat.{_-_}
-use native.Mathlib.Omega.{arith}
 use lib.ListN.{take, drop}
 use borrow.Author.Needs.{needs}
 use Rattle.sheet.proofs.FieldsLaws.{seen-hit, seen-miss, seen-none}

@@ -9,7 +9,6 @@ use borrow.Author.Tests.{eq-eqb}
 use borrow.Author.Needs.{needs}
 use Rattle.type_parts.proofs.pointer.Statement.{statement}
 use Rattle.type_parts.proofs.pointer.Tie as tie
-use Rattle.type_parts.proofs.parameter.Reads as parameter-reads′
 
 returns : tie.Need-returns
 unfolding typeString

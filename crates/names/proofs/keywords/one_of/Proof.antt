@@ -10,8 +10,6 @@ use Rattle.names.specs.Keywords.{among, wordsOf}
 use Rattle.names.proofs.KeywordLaws.{turn, words-none}
 use Rattle.names.proofs.keywords.one_of.Statement.{statement}
 use Rattle.names.proofs.keywords.one_of.Tie as tie
-use Rattle.names.proofs.keywords.one_of.Reads as reads
-use Rattle.names.proofs.keywords.one_of.Lts as lts
 
 abbrev Inv-loop : tie.InvT-loop
 Inv-loop name words len at₀ at = (at ≤ length words)
