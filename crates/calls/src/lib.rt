@@ -2,7 +2,6 @@
 // bits, elements or pointers, as its name says; its type and its value are the texts that stand in it.
 use text::Text;
 ghost use mathlib.Core.Path.{_≡_};
-ghost use Rattle.text.specs.Decimal.{signed};
 ghost use Rattle.text.specs.Text.{Wrote};
 ghost use Rattle.calls.specs.Calls.{getBoolField, getDataField, getEnumField, setBoolField, setDataField, setTag};
 ghost use Rattle.calls.specs.Calls.{zeroBool, zeroData, zeroTag, clearPointer, notNull, tagTest};
@@ -42,7 +41,7 @@ impl Mask {
             Mask::True => t.bytes(buf, b", true"),
             Mask::Signed { half, bits } => {
                 let t = t.bytes(buf, b", ");
-                signed(t, buf, half, bits)
+                t.signed(buf, half, bits)
             }
             Mask::Plain(n) => {
                 let t = t.bytes(buf, b", ");
@@ -60,20 +59,6 @@ impl Mask {
             }
         }
     }
-}
-
-// The number whose bits in two's complement are n, where the sign's bit is half.
-fn signed(t: Text, buf: &mut [u8], half: u64, n: u64) -> Text
-    ensures { λ r. ⌜ Wrote (now (buf .entry)) t (signed half n) (now (buf .exit)) r ⌝ }
-{
-    if n < half {
-        return t.number(buf, n);
-    }
-    let t = t.byte(buf, b'-');
-    if n - half <= half {
-        return t.number(buf, half - (n - half));
-    }
-    t.number(buf, 0)
 }
 
 fn get_bool_head(t: Text, buf: &mut [u8], is_reader: bool, masked: bool) -> Text

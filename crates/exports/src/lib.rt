@@ -40,10 +40,10 @@ pub extern "C" fn kitlubas_signed(at: usize, buf: &mut [u8], width: u32, n: u64)
 {
     let t = Text::at(at);
     match width {
-        8 => t.signed8(buf, (n % 0x100) as u8).fill(),
-        16 => t.signed16(buf, (n % 0x1_0000) as u16).fill(),
-        32 => t.signed32(buf, (n % 0x1_0000_0000) as u32).fill(),
-        64 => t.signed64(buf, n).fill(),
+        8 => t.signed(buf, 0x80, n % 0x100).fill(),
+        16 => t.signed(buf, 0x8000, n % 0x1_0000).fill(),
+        32 => t.signed(buf, 0x8000_0000, n % 0x1_0000_0000).fill(),
+        64 => t.signed(buf, 0x8000_0000_0000_0000, n).fill(),
         _ => 18446744073709551615,
     }
 }

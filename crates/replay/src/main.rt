@@ -43,10 +43,10 @@ fn leaf(t: Text, buf: &mut [u8], letter: u8, about: &[u8]) -> Text {
         b'c' => names::default_name(t, buf, about),
         b'm' => names::module_name(t, buf, about),
         b'u' => t.number(buf, hex(about)),
-        b'h' => t.signed8(buf, (hex(about) % 0x100) as u8),
-        b'i' => t.signed16(buf, (hex(about) % 0x1_0000) as u16),
-        b'j' => t.signed32(buf, (hex(about) % 0x1_0000_0000) as u32),
-        b'k' => t.signed64(buf, hex(about)),
+        b'h' => t.signed(buf, 0x80, hex(about) % 0x100),
+        b'i' => t.signed(buf, 0x8000, hex(about) % 0x1_0000),
+        b'j' => t.signed(buf, 0x8000_0000, hex(about) % 0x1_0000_0000),
+        b'k' => t.signed(buf, 0x8000_0000_0000_0000, hex(about)),
         _ => t,
     }
 }

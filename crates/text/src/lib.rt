@@ -123,40 +123,17 @@ impl Text {
     }
 
     // the number in decimal whose bits in two's complement are n, where the sign's bit is half
-    fn signed(self, buf: &mut [u8], half: u64, n: u64) -> Text
-        requires { ⌜ n < half + half ⌝ }
+    pub fn signed(self, buf: &mut [u8], half: u64, n: u64) -> Text
         ensures { λ r. ⌜ Wrote (now (buf .entry)) self (signed half n) (now (buf .exit)) r ⌝ }
     {
         if n < half {
             return self.number(buf, n);
         }
         let t = self.byte(buf, b'-');
-        t.number(buf, half - (n - half))
-    }
-
-    // the same at 8, 16, 32 and 64 bits
-    pub fn signed8(self, buf: &mut [u8], n: u8) -> Text
-        ensures { λ r. ⌜ Wrote (now (buf .entry)) self (signed (2 ^ 7) n) (now (buf .exit)) r ⌝ }
-    {
-        self.signed(buf, 0x80, n as u64)
-    }
-
-    pub fn signed16(self, buf: &mut [u8], n: u16) -> Text
-        ensures { λ r. ⌜ Wrote (now (buf .entry)) self (signed (2 ^ 15) n) (now (buf .exit)) r ⌝ }
-    {
-        self.signed(buf, 0x8000, n as u64)
-    }
-
-    pub fn signed32(self, buf: &mut [u8], n: u32) -> Text
-        ensures { λ r. ⌜ Wrote (now (buf .entry)) self (signed (2 ^ 31) n) (now (buf .exit)) r ⌝ }
-    {
-        self.signed(buf, 0x8000_0000, n as u64)
-    }
-
-    pub fn signed64(self, buf: &mut [u8], n: u64) -> Text
-        ensures { λ r. ⌜ Wrote (now (buf .entry)) self (signed (2 ^ 63) n) (now (buf .exit)) r ⌝ }
-    {
-        self.signed(buf, 0x8000_0000_0000_0000, n)
+        if n - half <= half {
+            return t.number(buf, half - (n - half));
+        }
+        t.number(buf, 0)
     }
 
     // the start of a line: four spaces for each step of its indent
