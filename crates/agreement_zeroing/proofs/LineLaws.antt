@@ -15,7 +15,7 @@ use Rattle.text.proofs.BytesLaws.{both-true}
 use Rattle.tree.specs.Tree.{kind, Slot}
 use Rattle.codegen_types.specs.TypeString.{isPointer}
 use Rattle.calls.specs.Calls.{zeroBool, zeroData, clearPointer}
-use Rattle.codegen.specs.Primitive.{primitiveText}
+use Rattle.codegen_types.specs.Primitive.{primitiveText}
 use Rattle.codegen.specs.Zeroing as codegen
 use Rattle.codegen.specs.Zeroing.{contains}
 use Rattle.record.specs.Lines.{Zero, ofSlot, ofPointer, zeroLine, zeroText}

@@ -1,13 +1,12 @@
--- Laws of names of types, of masks and of a haser's lines. Assumes nothing.
+-- Laws of masks and of a haser's lines. Assumes nothing.
 use mathlib.Core.Path.{_≡_, refl, sym, ap, _∙_}
 use mathlib.Core.Bool.{Bool, true, false}
 use mathlib.Core.Option.{Option}
 use mathlib.Core.List.{List, [], _++_, append-assoc}
-use Prim.Native.Nat.{ℕ, _+_, _*_, _≤_, min}
+use Prim.Native.Nat.{ℕ, _*_}
 use native.Mathlib.Omega.{arith}
 use borrow.Author.Tests.{ne-eqb}
 use lib.Dec.{eqb, leb}
-use lib.ListN.{length, take, length-take, List·getD-eq-default}
 use Rattle.text.specs.Bytes.{Str, ascii, unit, cond, both}
 use Rattle.text.specs.Lines.{FormattedTexts, Branch, Line, none, _&_, spaces, toLines, flatMap, stringify, ended}
 use Rattle.text.proofs.LinesLaws.{ended-append, stringify-lines}
@@ -16,34 +15,12 @@ use Rattle.names.specs.Names.{camelToSnakeCase}
 use Rattle.text.specs.declared.Text.{Text}
 use Rattle.tree.specs.Tree.{Slot, kind}
 use Rattle.codegen_types.specs.Out.{Out, ok, refused}
-use Rattle.codegen_types.specs.TypeString.{isPointer, primitives}
+use Rattle.codegen_types.specs.TypeString.{isPointer}
 use Rattle.calls.specs.Calls.{notNull, tagTest}
 use Rattle.codegen.specs.Given.{Given}
 use Rattle.codegen.specs.Default.{value, integer, unless, primDefault, getterMask}
 use Rattle.codegen.specs.Function.{function}
 use Rattle.codegen.specs.Haser.{haserRequest, generateHaser, tagTests, tagTestLine}
-use Rattle.codegen.specs.Primitive.{primitiveText, Holds}
-use Rattle.codegen.specs.declared.TypeName.{TypeName}
-
--- ---- names of types
-
-pub held-name : (p : TypeName) (bytes : Str) (len : ℕ) → (p .bytes ≡ bytes) × (p .len ≡ len) → len ≤ 4 → length bytes ≡ 4
-    → Holds p (take len bytes)
-held-name p bytes len e fits full = record { full = rw (e .0) full; fits = rw (e .1) fits; bytes = rw (e .0, e .1) refl }
-
-pub counted : (p : TypeName) (text : Str) → Holds p text → p .len ≡ length (take (p .len) (p .bytes))
-counted p text h =
-    let e : length (take (p .len) (p .bytes)) ≡ min (p .len) (length (p .bytes)) = length-take (p .len) (p .bytes) in
-    let f = h .full in
-    let g = h .fits in
-    omega arith
-
-pub no-primitive : (k : ℕ) → 12 ≤ k → primitiveText k ≡ []
-no-primitive k h = List·getD-eq-default primitives [] h
-
--- a number that is not n, and not below
-pub past : (k n : ℕ) → n ≤ k → (k ≡ n → ⊥) → n + 1 ≤ k
-past k n h ne = omega arith
 
 -- ---- masks
 

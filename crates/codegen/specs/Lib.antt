@@ -1,5 +1,4 @@
 pub mod Given
-pub mod Primitive
 pub mod Default
 pub mod WordArray
 pub mod Function

@@ -12,7 +12,7 @@ use Rattle.tree.specs.Tree.{kind, Slot, Arm, slot, group, Field, Node, Sheet}
 use Rattle.codegen_types.specs.Out.{Out, ok, refused, _then_}
 use Rattle.codegen_types.specs.TypeString.{isPrim, isPointer, nodeOf}
 use Rattle.calls.specs.Calls.{zeroBool, zeroData, zeroTag, clearPointer}
-use Rattle.codegen.specs.Primitive.{primitiveText}
+use Rattle.codegen_types.specs.Primitive.{primitiveText}
 
 -- what it gives: `result`, and whether a line of it clears a pointer
 pub record Zeroing : Type 0 where

@@ -13,40 +13,7 @@ ghost use Rattle.calls.specs.Mask.{maskText};
 ghost use Rattle.codegen.specs.Default.{value, integer, floatZero, primDefault, getterMask};
 ghost use Rattle.codegen.specs.Given.{Given};
 ghost use Rattle.codegen.specs.Haser.{haserRequest, tagTestLine};
-ghost use Rattle.codegen.specs.Primitive.{primitiveText, Holds};
-
-// The name of a primitive type, held by value.
-pub struct TypeName {
-    bytes: [u8; 4],
-    len: usize,
-}
-
-fn held(bytes: [u8; 4], len: usize) -> TypeName
-    ensures { λ r. ⌜ (r .bytes ≡ bytes) × (r .len ≡ len) ⌝ }
-{
-    TypeName { bytes, len }
-}
-
-// The text of the type of this kind: Void to Float64; any other kind has none.
-pub fn primitive(kind: u64) -> TypeName
-    ensures { λ r. ⌜ Holds r (primitiveText kind) ⌝ }
-{
-    match kind {
-        0 => held(*b"()  ", 2),
-        1 => held(*b"bool", 4),
-        2 => held(*b"i8  ", 2),
-        3 => held(*b"i16 ", 3),
-        4 => held(*b"i32 ", 3),
-        5 => held(*b"i64 ", 3),
-        6 => held(*b"u8  ", 2),
-        7 => held(*b"u16 ", 3),
-        8 => held(*b"u32 ", 3),
-        9 => held(*b"u64 ", 3),
-        10 => held(*b"f32 ", 3),
-        11 => held(*b"f64 ", 3),
-        _ => held(*b"    ", 0),
-    }
-}
+ghost use Rattle.codegen_types.specs.Primitive.{primitiveText};
 
 // A number in decimal: signed for Int8 to Int64, otherwise as its bits.
 fn integer(kind: u64, bits: u64) -> Mask
@@ -115,16 +82,6 @@ pub fn prim_default(kind: u64, bits: u64) -> Mask
     getter_mask(kind, bits)
 }
 
-// The text of a primitive type.
-pub fn type_name(t: Text, buf: &mut [u8], kind: u64) -> Text
-    ensures { λ r. ⌜ Wrote (now (buf .entry)) t (primitiveText kind) (now (buf .exit)) r ⌝ }
-{
-    let name = primitive(kind);
-    let bytes = name.bytes;
-    let len = name.len;
-    t.bytes(buf, &bytes[..len])
-}
-
 // The get of a number, masked by its default.
 pub fn get_number(
     t: Text,
@@ -137,7 +94,7 @@ pub fn get_number(
     ensures { λ r. ⌜ Wrote (now (buf .entry)) t
         (getDataField «is_reader» (primitiveText kind) offset (getterMask (value kind bits))) (now (buf .exit)) r ⌝ }
 {
-    let name = primitive(kind);
+    let name = codegen_types::primitive(kind);
     let bytes = name.bytes;
     let len = name.len;
     let mask = getter_mask(kind, bits);
@@ -158,7 +115,7 @@ pub fn set_number(t: Text, buf: &mut [u8], kind: u64, offset: u64, default: u64,
     ensures { λ r. ⌜ Given (primDefault (value default bits)) (λ mask. Wrote (now (buf .entry)) t
         (setDataField (primitiveText kind) offset (ascii "value") mask) (now (buf .exit)) r) ⌝ }
 {
-    let name = primitive(kind);
+    let name = codegen_types::primitive(kind);
     let bytes = name.bytes;
     let len = name.len;
     let mask = prim_default(default, bits);
@@ -169,7 +126,7 @@ pub fn set_number(t: Text, buf: &mut [u8], kind: u64, offset: u64, default: u64,
 pub fn zero_number(t: Text, buf: &mut [u8], kind: u64, offset: u64) -> Text
     ensures { λ r. ⌜ Wrote (now (buf .entry)) t (zeroData (primitiveText kind) offset) (now (buf .exit)) r ⌝ }
 {
-    let name = primitive(kind);
+    let name = codegen_types::primitive(kind);
     let bytes = name.bytes;
     let len = name.len;
     calls::zero_data(t, buf, &bytes[..len], offset)

@@ -9,7 +9,7 @@ ghost use Rattle.text.specs.Lines.{stringify};
 ghost use Rattle.text.specs.Text.{Wrote};
 ghost use Rattle.tree.specs.Tree as tree;
 ghost use Rattle.slot.specs.Slot.{SlotIs};
-ghost use Rattle.codegen.specs.Primitive.{primitiveText};
+ghost use Rattle.codegen_types.specs.Primitive.{primitiveText};
 ghost use Rattle.codegen.specs.Getter.{void, pointerDefault, fromPointer, capability, untyped};
 ghost use Rattle.codegen.specs.Getter.{isFallible, fragmentOf, getterCode};
 ghost use Rattle.codegen_getter.specs.Parts.{fromPointerHead, capabilityHead, anyPointerHead};

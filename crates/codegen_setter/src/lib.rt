@@ -11,7 +11,7 @@ ghost use Rattle.names.specs.Names.{nameOf};
 ghost use Rattle.calls.specs.Calls.{setBoolField, setDataField};
 ghost use Rattle.codegen.specs.Default.{value, primDefault};
 ghost use Rattle.codegen.specs.Given.{Given};
-ghost use Rattle.codegen.specs.Primitive.{primitiveText};
+ghost use Rattle.codegen_types.specs.Primitive.{primitiveText};
 ghost use Rattle.codegen.specs.Setter.{setPointer, initPointer, newPointer, setterInput, pointerField, reborrowed};
 ghost use Rattle.codegen.specs.Setter.{setterOf, setterOnly, only, textParts, dataParts, pointerParts};
 ghost use Rattle.text.specs.Lines as lines;
@@ -166,7 +166,7 @@ pub fn number(
         (now (buf .exit)) r)) ⌝ }
 {
     let t = set_open(t, buf, name);
-    let t = codegen::type_name(t, buf, kind);
+    let t = codegen_types::type_name(t, buf, kind);
     let t = t.bytes(buf, b")  {\n");
     let t = tag_line(t, buf, tag, discriminant);
     let t = t.bytes(buf, b"    ");

@@ -1,4 +1,5 @@
 pub mod Out
 pub mod Leaf
 pub mod TypeString
+pub mod Primitive
 pub mod Examples

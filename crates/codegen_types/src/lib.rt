@@ -1,4 +1,4 @@
-// `Leaf` of codegen_types.rs of capnpc and the texts that depend on it alone. The definitions of `type_string` and `do_branding`
+// `Leaf` of codegen_types.rs of capnpc and the texts that depend on it alone, and the names of the primitive types. The definitions of `type_string` and `do_branding`
 // stand in specs/; the code that meets them is in the crates type_refusal and type_string.
 use text::Text;
 ghost use mathlib.Core.List.{_++_};
@@ -7,6 +7,7 @@ ghost use Rattle.text.specs.Text.{Wrote};
 ghost use mathlib.Core.Path.{_≡_};
 ghost use Rattle.codegen_types.specs.Leaf.{bareName, display, lifetimeComma};
 ghost use Rattle.codegen_types.specs.TypeString.{elementLeaf};
+ghost use Rattle.codegen_types.specs.Primitive.{primitiveText, Holds};
 
 // The lifetimes that are asked for: 'a and '_.
 pub enum Lifetime {
@@ -87,4 +88,47 @@ pub fn element_leaf(kind: u64) -> Leaf
     } else {
         Leaf::Owned
     }
+}
+
+// The name of a primitive type, held by value.
+pub struct TypeName {
+    pub bytes: [u8; 4],
+    pub len: usize,
+}
+
+fn held(bytes: [u8; 4], len: usize) -> TypeName
+    ensures { λ r. ⌜ (r .bytes ≡ bytes) × (r .len ≡ len) ⌝ }
+{
+    TypeName { bytes, len }
+}
+
+// The text of the type of this kind: Void to Float64; any other kind has none.
+pub fn primitive(kind: u64) -> TypeName
+    ensures { λ r. ⌜ Holds r (primitiveText kind) ⌝ }
+{
+    match kind {
+        0 => held(*b"()  ", 2),
+        1 => held(*b"bool", 4),
+        2 => held(*b"i8  ", 2),
+        3 => held(*b"i16 ", 3),
+        4 => held(*b"i32 ", 3),
+        5 => held(*b"i64 ", 3),
+        6 => held(*b"u8  ", 2),
+        7 => held(*b"u16 ", 3),
+        8 => held(*b"u32 ", 3),
+        9 => held(*b"u64 ", 3),
+        10 => held(*b"f32 ", 3),
+        11 => held(*b"f64 ", 3),
+        _ => held(*b"    ", 0),
+    }
+}
+
+// The text of a primitive type.
+pub fn type_name(t: Text, buf: &mut [u8], kind: u64) -> Text
+    ensures { λ r. ⌜ Wrote (now (buf .entry)) t (primitiveText kind) (now (buf .exit)) r ⌝ }
+{
+    let name = primitive(kind);
+    let bytes = name.bytes;
+    let len = name.len;
+    t.bytes(buf, &bytes[..len])
 }

@@ -25,7 +25,7 @@ use Rattle.find.proofs.Laws.{on-one}
 use Rattle.type_parts.specs.Parts.{Writes}
 use Rattle.slot.specs.Slot.{HasId, SlotIs}
 use Rattle.slot.specs.declared.Slot.{Slot}
-use Rattle.codegen.specs.Primitive.{primitiveText}
+use Rattle.codegen_types.specs.Primitive.{primitiveText}
 use Rattle.codegen.specs.Getter.{moduleLeaf, isOptionField, optional, resultType, asFunction}
 use Rattle.find.proofs.Laws.{on-has}
 use Rattle.getter.specs.Result.{arrow, enumResult, fallibleResult, resultOut}

@@ -29,7 +29,7 @@ use Rattle.slot.specs.Slot.{SlotIs, SlotField, slotFieldOf, SlotHere}
 use Rattle.slot.proofs.Laws.{name-at}
 use Rattle.slot.specs.declared.Slot.{Slot}
 use Rattle.codegen.specs.WordArray.{wordArrayDeclaration}
-use Rattle.codegen.specs.Primitive.{primitiveText}
+use Rattle.codegen_types.specs.Primitive.{primitiveText}
 use Rattle.codegen.specs.Getter.{moduleLeaf, isOptionField, optional, resultType, asFunction, fragmentOf, getterCode}
 use Rattle.codegen.specs.Getter.{defaultDeclaration, declared, getterText, getterRequest}
 use Rattle.getter.specs.Result.{Here, Words, resultOut}

@@ -19,7 +19,7 @@ ghost use Rattle.find.specs.Find.{On};
 ghost use Rattle.slot.specs.Slot.{slotFieldOf, SlotOn};
 ghost use Rattle.type_refusal.specs.Told as refusal;
 ghost use Rattle.type_parts.specs.Parts.{Writes, ForAll};
-ghost use Rattle.codegen.specs.Primitive.{primitiveText};
+ghost use Rattle.codegen_types.specs.Primitive.{primitiveText};
 ghost use Rattle.codegen.specs.Getter.{moduleLeaf, optional, asFunction, defaultDeclaration, declared, getterRequest};
 ghost use Rattle.getter.specs.Result.{optionFits, Here, Words, arrow, enumResult, fallibleResult, resultOut};
 
@@ -94,7 +94,7 @@ fn prim_result(t: Text, buf: &mut [u8], kind: u64, is_fn: bool) -> Text
         return t.bytes(buf, b"()");
     }
     let t = arrow(t, buf, is_fn);
-    codegen::type_name(t, buf, kind)
+    codegen_types::type_name(t, buf, kind)
 }
 
 // The result type of an enum, whose node has this id.

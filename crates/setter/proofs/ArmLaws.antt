@@ -34,7 +34,7 @@ use Rattle.slot.proofs.Laws.{name-at}
 use Rattle.slot.specs.declared.Slot.{Slot}
 use Rattle.calls.specs.Calls.{setBoolField, setDataField}
 use Rattle.codegen.specs.Default.{value, primDefault}
-use Rattle.codegen.specs.Primitive.{primitiveText}
+use Rattle.codegen_types.specs.Primitive.{primitiveText}
 use Rattle.codegen_getter.proofs.Laws.{default-is}
 use Rattle.getter.specs.Result.{Here}
 use Rattle.codegen.specs.Given.{Given}

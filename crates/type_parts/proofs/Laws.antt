@@ -2,7 +2,7 @@
 use mathlib.Core.Path.{_≡_, refl, sym, _∙_, subst}
 use mathlib.Core.Bool.{Bool, true, false}
 use mathlib.Core.List.{List, [], _∷_, _++_, append-assoc, append-nil}
-use Prim.Native.Nat.{ℕ, _+_, _<_, _≤_}
+use Prim.Native.Nat.{ℕ, _<_}
 use native.Mathlib.Omega.{arith}
 use lib.ListN.{length}
 use package.types.Run.{OneOf, miss}
@@ -54,10 +54,6 @@ refused-leaf root p l t l′ t′ Server h = tt
 refused-leaf root p l t l′ t′ ServerDispatch h = tt
 refused-leaf root p l t l′ t′ Pipeline h = absurd (miss (3 ∷ 4 ∷ 5 ∷ 7 ∷ []) 6 tt h)
 refused-leaf root p l t l′ t′ GetType h = tt
-
--- a number from k on that is not k
-pub above : (k n : ℕ) → k ≤ n → (n ≡ k → ⊥) → k + 1 ≤ n
-above k n h e = omega arith
 
 -- ---- arguments
 

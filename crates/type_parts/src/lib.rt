@@ -4,15 +4,14 @@ use codegen_types::Lifetime;
 use find::Found;
 use text::Text;
 ghost use mathlib.Core.Path.{_≡_};
-ghost use mathlib.Core.List.{[], _++_, map};
-ghost use Prim.Native.Nat.{_<_};
-ghost use lib.ListN.{drop, getD};
+ghost use mathlib.Core.List.{_++_, map};
+ghost use lib.ListN.{drop};
 ghost use Rattle.text.specs.Bytes.{ascii};
 ghost use Rattle.text.specs.Text.{Wrote};
 ghost use Rattle.row.specs.Rows.{rows};
 ghost use Rattle.tree.specs.Read.{pointer};
 ghost use Rattle.codegen_types.specs.Leaf.{display, bareName, lifetimeComma};
-ghost use Rattle.codegen_types.specs.TypeString.{primitives, plainString, listModule};
+ghost use Rattle.codegen_types.specs.TypeString.{plainString, listModule};
 ghost use Rattle.codegen_types.specs.TypeString.{anyOwned, parameterString, getQualifiedModule, typeString};
 ghost use Rattle.find.specs.Find.{namesOf};
 ghost use Rattle.type_parts.specs.Parts.{ForAll, Writes, Listed, Opened, closer};
@@ -32,29 +31,9 @@ pub fn displayed(root: &[u8], path: &[u8], leaf: Leaf, t: Text, buf: &mut [u8]) 
     leaf.display(t, buf)
 }
 
-// Void, Bool and the numbers, by their kinds.
-fn primitive(kind: u64, t: Text, buf: &mut [u8]) -> Text
-    ensures { λ r. ⌜ (kind < 12 → Wrote (now (buf .entry)) t (getD primitives kind []) (now (buf .exit)) r) ⌝ }
-{
-    match kind {
-        0 => t.bytes(buf, b"()"),
-        1 => t.bytes(buf, b"bool"),
-        2 => t.bytes(buf, b"i8"),
-        3 => t.bytes(buf, b"i16"),
-        4 => t.bytes(buf, b"i32"),
-        5 => t.bytes(buf, b"i64"),
-        6 => t.bytes(buf, b"u8"),
-        7 => t.bytes(buf, b"u16"),
-        8 => t.bytes(buf, b"u32"),
-        9 => t.bytes(buf, b"u64"),
-        10 => t.bytes(buf, b"f32"),
-        _ => t.bytes(buf, b"f64"),
-    }
-}
-
-// A type of one row that is no pointer to a node: kinds 0 to 13.
+// A type of one row that is no pointer to a node: kinds 0 to 13; any other kind has no text here.
 pub fn plain(root: &[u8], kind: u64, leaf: Leaf, t: Text, buf: &mut [u8]) -> Text
-    ensures { λ r. ⌜ (kind < 14 → Wrote (now (buf .entry)) t (plainString (now (root .entry)) leaf kind) (now (buf .exit)) r) ⌝ }
+    ensures { λ r. ⌜ Wrote (now (buf .entry)) t (plainString (now (root .entry)) leaf kind) (now (buf .exit)) r ⌝ }
 {
     if kind == 12 {
         return displayed(root, b"::text::", leaf, t, buf);
@@ -62,7 +41,7 @@ pub fn plain(root: &[u8], kind: u64, leaf: Leaf, t: Text, buf: &mut [u8]) -> Tex
     if kind == 13 {
         return displayed(root, b"::data::", leaf, t, buf);
     }
-    primitive(kind, t, buf)
+    codegen_types::type_name(t, buf, kind)
 }
 
 // The list module for an element of this kind, with its colons.

@@ -15,7 +15,7 @@ use Rattle.text.proofs.BytesLaws.{both-true}
 use Rattle.text.proofs.DecimalLaws.{decimal-low, decimal-high}
 use Rattle.calls.specs.Calls.{zeroBool, zeroData, zeroTag, clearPointer}
 use Rattle.calls.proofs.Laws.{zero-bool, zero-tag, zero-data}
-use Rattle.codegen.specs.Primitive.{primitiveText}
+use Rattle.codegen_types.specs.Primitive.{primitiveText}
 use Rattle.tree.proofs.OtherLines.{never}
 use Rattle.zeroing.specs.Lines.{zeroText}
 

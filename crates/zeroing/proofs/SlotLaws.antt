@@ -13,7 +13,7 @@ use Rattle.text.specs.Bytes.{Str, ascii, cond, both, either, same}
 use Rattle.tree.specs.Tree.{kind, Slot, Arm, slot, group, Field, Node}
 use Rattle.codegen_types.specs.TypeString.{isPointer}
 use Rattle.calls.specs.Calls.{zeroBool, zeroData, zeroTag, clearPointer}
-use Rattle.codegen.specs.Primitive.{primitiveText}
+use Rattle.codegen_types.specs.Primitive.{primitiveText}
 use Rattle.codegen.specs.Zeroing.{zeroLine, contains}
 use Rattle.zeroing.specs.Lines.{lineType, zeroText, hasLine, repeats, slotLines, tagLines}
 use Rattle.zeroing.proofs.LineLaws.{same-true, same-line, tag-unlike}

@@ -10,7 +10,7 @@ use Rattle.row.specs.Rows.{rows}
 use Rattle.tree.specs.Tree.{kind, Arm, slot, group, Field, Node}
 use Rattle.find.specs.Find.{kindAt}
 use Rattle.calls.specs.Calls.{zeroBool, zeroData, zeroTag, clearPointer}
-use Rattle.codegen.specs.Primitive.{primitiveText}
+use Rattle.codegen_types.specs.Primitive.{primitiveText}
 
 -- the type of a slot's line by its kind: Void 0 has no line, Bool is 1, the numbers are 2 to 11, an enum is Uint16's 7, every
 -- pointer is 12

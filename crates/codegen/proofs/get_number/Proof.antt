@@ -1,6 +1,6 @@
 -- `codegen::get_number` meets its contract. Assumes nothing.
 use native.Mathlib.Omega.{arith}
-use Rattle.codegen.proofs.Laws.{counted}
+use Rattle.codegen_types.proofs.PrimitiveLaws.{counted}
 use borrow.Author.Needs.{needs}
 use Rattle.codegen.proofs.get_number.Statement.{statement}
 use Rattle.codegen.proofs.get_number.Tie as tie

@@ -3,9 +3,10 @@ use Rattle.text.specs.Bytes.{ascii}
 use Rattle.calls.specs.Calls.{setDataField}
 use Rattle.calls.specs.Mask.{maskText}
 use Rattle.codegen.specs.Default.{value, primDefault}
-use Rattle.codegen.specs.Primitive.{primitiveText}
+use Rattle.codegen_types.specs.Primitive.{primitiveText}
 use native.Mathlib.Omega.{arith}
-use Rattle.codegen.proofs.Laws.{counted, given-wrote}
+use Rattle.codegen_types.proofs.PrimitiveLaws.{counted}
+use Rattle.codegen.proofs.Laws.{given-wrote}
 use borrow.Author.Needs.{needs}
 use Rattle.codegen.proofs.set_number.Statement.{statement}
 use Rattle.codegen.proofs.set_number.Tie as tie

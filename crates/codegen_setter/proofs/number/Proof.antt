@@ -5,7 +5,7 @@ use Rattle.text.specs.Bytes.{ascii}
 use Rattle.text.proofs.Laws.{_⨾_, kept}
 use Rattle.calls.specs.Calls.{setDataField}
 use Rattle.codegen.specs.Default.{value, primDefault}
-use Rattle.codegen.specs.Primitive.{primitiveText}
+use Rattle.codegen_types.specs.Primitive.{primitiveText}
 use Rattle.codegen_setter.proofs.Laws.{masked-text}
 use borrow.Author.Needs.{needs}
 use Rattle.codegen_setter.proofs.number.Statement.{statement}

@@ -408,7 +408,7 @@ write-type-returns-3 t c =
     let c9 = c8 .before in let a = c9 .before .before .before .before .before .before .args in
     λ ns x. read-law.type-plain _ _ _ _ _ _ _ _ (c9 .if1 .left) (c8 .next .ensures .0) (c6 .line .given .1)
     (c8 .next .ensures .1) (λ ty. Writes (typeString ty (sheetOf (a .root .now) ns) (a .leaf)) (a .buf .now) (a .t)
-    (c2 .plain .last .1 .1 .1 .1 .0) (c2 .plain .result)) (c4 .if2 .taken) ((c2 .plain .ensures) (c4 .if2 .taken))
+    (c2 .plain .last .1 .1 .1 .1 .0) (c2 .plain .result)) (c4 .if2 .taken) (c2 .plain .ensures)
 
 write-type-returns-4 : (t : ℕ) → write-type-lts.Need-returns-4 (write-type-calls t) (write-type-at t) write-type.Post
 write-type-returns-4 t c =

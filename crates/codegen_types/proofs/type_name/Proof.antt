@@ -1,9 +1,9 @@
--- `codegen::type_name` meets its contract: the held name, written. Assumes nothing.
+-- `codegen_types::type_name` meets its contract: the held name, written. Assumes nothing.
 use native.Mathlib.Omega.{arith}
-use Rattle.codegen.proofs.Laws.{counted}
+use Rattle.codegen_types.proofs.PrimitiveLaws.{counted}
 use borrow.Author.Needs.{needs}
-use Rattle.codegen.proofs.type_name.Statement.{statement}
-use Rattle.codegen.proofs.type_name.Tie as tie
+use Rattle.codegen_types.proofs.type_name.Statement.{statement}
+use Rattle.codegen_types.proofs.type_name.Tie as tie
 
 array-share-prefix-bytes : tie.Need-array-share-prefix-bytes
 array-share-prefix-bytes c =

@@ -4,8 +4,8 @@ use mathlib.Core.List.{[]}
 use Prim.Native.Nat.{ℕ, _≤_}
 use lib.ListN.{length, getD, take}
 use Rattle.text.specs.Bytes.{Str}
 use Rattle.codegen_types.specs.TypeString.{primitives}
-use Rattle.codegen.specs.declared.TypeName.{TypeName}
+use Rattle.codegen_types.specs.declared.TypeName.{TypeName}
 
 -- the text of the type of this kind: Void to Float64
 abbrev pub primitiveText : ℕ → Str

@@ -1,12 +1,11 @@
--- `codegen::primitive` meets its contract: each arm holds its kind's text. Assumes nothing.
-use Rattle.codegen.proofs.Laws.{past}
+-- `codegen_types::primitive` meets its contract: each arm holds its kind's text. Assumes nothing.
 use Prim.Native.Nat.{zero-le}
 use mathlib.Core.Path.{refl}
 use lib.Dec.{lit≤}
-use Rattle.codegen.proofs.Laws.{held-name, no-primitive}
+use Rattle.codegen_types.proofs.PrimitiveLaws.{held-name, no-primitive, past}
 use borrow.Author.Needs.{needs}
-use Rattle.codegen.proofs.primitive.Statement.{statement}
-use Rattle.codegen.proofs.primitive.Tie as tie
+use Rattle.codegen_types.proofs.primitive.Statement.{statement}
+use Rattle.codegen_types.proofs.primitive.Tie as tie
 
 returns : tie.Need-returns
 returns c =
