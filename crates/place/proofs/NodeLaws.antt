@@ -134,16 +134,12 @@ module _ (rs : Rows) where
 
   pub node-says :
       (l : Line) (i p sc st g tc to : ℕ) → l ≡ lineAt rs → l ≡ line.Node i p sc st g tc to
-      → On (nodeHere rs) (λ n.
-      record { id = i; parent = p; scope = sc; «is_struct» = st; generic = g; «tag_count» = tc; «tag_offset» = to }
-      ≡ nodeLine n)
+      → On (nodeHere rs) (λ n. record { «is_struct» = st; «tag_count» = tc; «tag_offset» = to } ≡ nodeLine n)
   unfolding nodeOf among made
   node-says l i p sc st g tc to here is =
       rw (← here, is)
       (node-any (made i p sc st g tc to)
-      (λ n. record { id = i; parent = p; scope = sc; «is_struct» = st; generic = g; «tag_count» = tc; «tag_offset» = to }
-      ≡ nodeLine n)
-      (restOf rs) (λ ps fs. refl))
+      (λ n. record { «is_struct» = st; «tag_count» = tc; «tag_offset» = to } ≡ nodeLine n) (restOf rs) (λ ps fs. refl))
 
   pub node-not :
       (l : Line) (P : Node → Type 0) → l ≡ lineAt rs → OneOf (0 ∷ 2 ∷ 3 ∷ 4 ∷ 5 ∷ 6 ∷ 7 ∷ 8 ∷ 9 ∷ 10 ∷ []) (tagOf the-type l)

@@ -11,15 +11,18 @@ use Rattle.row.proofs.Line.{the-type}
 use Rattle.row.specs.Rows.{rows, restOf}
 use Rattle.row.specs.Line.{lineAt, textAt}
 use Rattle.row.specs.declared.Line.{Line}
-use Rattle.tree.specs.Tree.{Slot, Field, slot, group}
+use Rattle.tree.specs.Tree.{Ty, Value, Slot, Field, slot, group}
 use Rattle.tree.specs.Reader.{Rows, Reading, got, no, Reader, _then_, mapR}
-use Rattle.tree.specs.Read.{overlap, slotOf, field, fieldOf, isField, groupId, fieldsOf}
+use Rattle.tree.specs.Read.{typeOf, valueOf, wordsOf, hasWords, slotOf}
+use Rattle.tree.specs.Read.{overlap, field, fieldOf, isField, groupId, fieldsOf}
 use Rattle.tree.specs.Walked.{passed}
-use Rattle.tree.specs.Index.{On}
+use Rattle.tree.specs.Index.{On, Has}
 use Rattle.tree.proofs.OtherLines.{never, not-a-field}
 use Rattle.tree.proofs.WalkLaws.{passed-map}
 use Rattle.tree.proofs.FieldLaws.{fields-here}
-use Rattle.place.specs.Place.{nth, Finds, FieldAt, SaysField}
+use Rattle.place.specs.Place.{nth, Finds, FieldAt, SaysArm, ReadsField}
+use Rattle.place.specs.declared.FieldLine.{FieldLine}
+use Rattle.place.specs.declared.FieldRead.{FieldRead}
 use Rattle.find.specs.declared.Found.{Found}
 use Rattle.find.specs.declared.Found.the-variants.{At, Nothing}
 use Rattle.place.proofs.NodeLaws.{nth-more, nth-first, nth-none}
@@ -43,6 +46,33 @@ field-none rs h = go (lineAt rs) refl h
     go (line.Value a b) e h = rw (e, e)
     go (line.Word a) e h = rw (e, e)
     go line.Bad e h = rw (e, e)
+
+-- the offset and the type of the slot that is read
+slot-read : (s : Str) (o e p ty : ℕ) (rs : Rows) → rs ≡ rows (drop ty s)
+    → On (slotOf o e p rs) (λ sl. SaysArm s (says.Slot o ty) (slot sl))
+unfolding slotOf
+slot-read s o e p ty rs r = by-type (typeOf 16 rs) refl
+  where
+    Read : Slot → Type 0
+    Read sl = SaysArm s (says.Slot o ty) (slot sl)
+
+    made : Ty → Value → List ℕ → Slot
+    made t v ws = record { offset = o; explicit = e; option = p; ty = t; default = v; words = ws }
+
+    by-words : (t : Ty) (v : Value) → Has (typeOf 16 (rows (drop ty s))) (λ x. x ≡ t) → (g : Reading (List ℕ))
+        → On (g then λ ws. got (made t v ws)) Read
+    by-words t v k (got ws q) = (refl, k)
+    by-words t v k (no j q) = tt
+
+    by-value : (t : Ty) → Has (typeOf 16 (rows (drop ty s))) (λ x. x ≡ t) → (g : Reading Value)
+        → On (g then λ v rs. wordsOf (hasWords e (v .kind)) rs then λ ws. got (made t v ws)) Read
+    by-value t k (got v q) = by-words t v k (wordsOf (hasWords e (v .kind)) q)
+    by-value t k (no j q) = tt
+
+    by-type : (g : Reading Ty) → typeOf 16 rs ≡ g
+        → On (g then λ t rs. valueOf rs then λ v rs. wordsOf (hasWords e (v .kind)) rs then λ ws. got (made t v ws)) Read
+    by-type (got t q) i = by-value t (rw (← r, i) refl) (valueOf q)
+    by-type (no j q) i = tt
 
 -- the first row's line l, and the rows after it
 module _ (rs rest : Rows) (l : Line) (here : l ≡ lineAt rs) (after : rest ≡ restOf rs) where
@@ -68,21 +98,64 @@ module _ (rs rest : Rows) (l : Line) (here : l ≡ lineAt rs) (after : rest ≡ 
 
   pub says-slot :
       (s : Str) (o d e p ty : ℕ) → l ≡ line.Field o d e p → rest ≡ rows (drop ty s)
-      → On (fieldOf rs) (λ f. SaysField s (says.Slot o d e p ty) f)
-  says-slot s o d e p ty i t = rw (field-of-slot o d e p i) (go (slotOf o e p rest) refl)
+      → On (fieldOf rs) (λ f. SaysArm s (says.Slot o ty) (f .arm))
+  says-slot s o d e p ty i t = rw (field-of-slot o d e p i) (go (slotOf o e p rest) (slot-read s o e p ty rest t))
     where
-      go : (g : Reading Slot) → slotOf o e p rest ≡ g
-          → On (g then λ sl. got (field (textAt rs) d (slot sl))) (λ f. SaysField s (says.Slot o d e p ty) f)
-      go (got sl us) h = (refl, rw (← t, h) refl)
+      go : (g : Reading Slot) → On g (λ sl. SaysArm s (says.Slot o ty) (slot sl))
+          → On (g then λ sl. got (field (textAt rs) d (slot sl))) (λ f. SaysArm s (says.Slot o ty) (f .arm))
+      go (got sl us) h = h
       go (no k us) h = tt
 
-  pub says-group : (s : Str) (i d : ℕ) → l ≡ line.Group i d → On (fieldOf rs) (λ f. SaysField s (says.Group i d) f)
-  says-group s i d e = rw (field-of-group i d e) (refl, refl)
+  pub says-group : (s : Str) (i d : ℕ) → l ≡ line.Group i d → On (fieldOf rs) (λ f. SaysArm s (says.Group i) (f .arm))
+  says-group s i d e = rw (field-of-group i d e) refl
 
   pub says-none :
       (s : Str) → OneOf (0 ∷ 1 ∷ 2 ∷ 5 ∷ 6 ∷ 7 ∷ 8 ∷ 9 ∷ 10 ∷ []) (tagOf the-type l) → On (fieldOf rs)
-      (λ f. SaysField s says.Nothing f)
+      (λ f. SaysArm s says.Nothing (f .arm))
   says-none s o = rw (field-none rs (rw (← here) (not-a-field l o))) tt
+
+-- a field's reading, by what its line says and by the walk past it
+module _ (s : Str) (rs : Rows) where
+  pub reads-some :
+      (l : FieldLine) (next : ℕ) (q : Rows) → On (fieldOf rs) (λ f. SaysArm s l (f .arm)) → got tt q ≡ passed (fieldOf rs)
+      → rows (drop next s) ≡ q → ReadsField s (record { line = l; next = next }) (fieldOf rs)
+  reads-some l next q said walk e = go (fieldOf rs) said walk
+    where
+      go : (g : Reading Field) → On g (λ f. SaysArm s l (f .arm)) → got tt q ≡ passed g
+          → ReadsField s (record { line = l; next = next }) g
+      go (got f us) h w = let z : q ≡ us = cc in (h, e ∙ z)
+      go (no k us) h w = never cc
+
+  pub reads-none :
+      (next k : ℕ) (q : Rows) → no k q ≡ passed (fieldOf rs)
+      → ReadsField s (record { line = says.Nothing; next = next }) (fieldOf rs)
+  reads-none next k q walk = go (fieldOf rs) walk
+    where
+      go : (g : Reading Field) → no k q ≡ passed g → ReadsField s (record { line = says.Nothing; next = next }) g
+      go (got f us) w = never cc
+      go (no j us) w = refl
+
+-- a line is a field's
+abbrev pub IsField : FieldLine → Type 0
+IsField (says.Slot o ty) = Unit {0}
+IsField (says.Group i) = Unit {0}
+IsField says.Nothing = ⊥
+
+-- where a field is read, the walk goes past it; where none is, it is refused
+module _ (s : Str) (r : FieldRead) (g : Reading Field) (h : ReadsField s r g) where
+  pub read-on : (l : FieldLine) → r .line ≡ l → IsField l → got tt (rows (drop (r .next) s)) ≡ passed g
+  read-on l is some = go g h
+    where
+      go : (g : Reading Field) → ReadsField s r g → got tt (rows (drop (r .next) s)) ≡ passed g
+      go (got f us) h = rw (h .1) refl
+      go (no k us) h = let z : l ≡ says.Nothing = cc in absurd (rw z at some)
+
+  pub read-end : {A : Type 0} → r .line ≡ says.Nothing → ((k : ℕ) (q : Rows) → no k q ≡ passed g → A) → A
+  read-end e law = go g h law
+    where
+      go : {A : Type 0} (g : Reading Field) → ReadsField s r g → ((k : ℕ) (q : Rows) → no k q ≡ passed g → A) → A
+      go (got f us) h law = absurd (rw e at (h .0))
+      go (no k us) h law = law k us refl
 
 -- one turn of the fields that are read, where the first is g
 module _ (s : Str) (rs : Rows) (seen : List ℕ) where

@@ -7,13 +7,15 @@ use lib.Dec.{eqb}
 use lib.ListN.{drop}
 use Rattle.text.specs.Bytes.{Str, cond}
 use Rattle.row.specs.Rows.{rows}
-use Rattle.tree.specs.Tree.{Slot, Arm, slot, group, Field, Node}
-use Rattle.tree.specs.Read.{slotOf, fieldOf}
+use Rattle.tree.specs.Tree.{Arm, slot, group, Field, Node}
+use Rattle.tree.specs.Reader.{Reading, got, no}
+use Rattle.tree.specs.Read.{typeOf, fieldOf}
 use Rattle.tree.specs.Index.{Has, nodeHere}
 use Rattle.find.specs.declared.Found.{Found}
 use Rattle.find.specs.declared.Found.the-variants.{At, Nothing}
 use Rattle.place.specs.declared.NodeLine.{NodeLine}
 use Rattle.place.specs.declared.FieldLine.{FieldLine}
+use Rattle.place.specs.declared.FieldRead.{FieldRead}
 use Rattle.place.specs.declared.FieldLine.the-variants as line
 
 -- the node with an id
@@ -41,25 +43,19 @@ NodeAt s q n = Has (nodeHere (rows (drop q s))) (λ m. m ≡ n)
 abbrev pub FieldAt : Str → ℕ → Field → Type 0
 FieldAt s q f = Has (fieldOf (rows (drop q s))) (λ g. g ≡ f)
 
--- the numbers of a node's N line
+-- what a node's N line says that is asked for
 abbrev pub nodeLine : Node → NodeLine
-nodeLine n = record {
-  id = n .id;
-  parent = n .parent;
-  scope = n .scope;
-  «is_struct» = n .isStruct;
-  generic = n .generic;
-  «tag_count» = n .tagCount;
-  «tag_offset» = n .tagOffset;
-}
+nodeLine n = record { «is_struct» = n .isStruct; «tag_count» = n .tagCount; «tag_offset» = n .tagOffset }
 
--- what a field's line says of the field: of a slot its numbers and the position of its type, of a group its numbers
-abbrev pub SaysArm : Str → FieldLine → ℕ → Arm → Type 0
-SaysArm s (line.Slot o d e p ty) δ (slot sl) = (d ≡ δ) × Has (slotOf o e p (rows (drop ty s))) (λ x. x ≡ sl)
-SaysArm s (line.Slot o d e p ty) δ (group i) = ⊥
-SaysArm s (line.Group j d) δ (slot sl) = ⊥
-SaysArm s (line.Group j d) δ (group i) = (d ≡ δ) × (j ≡ i)
-SaysArm s line.Nothing δ a = ⊥
+-- what a field's line says of the field: of a slot its offset and the position of its type, of a group its id
+abbrev pub SaysArm : Str → FieldLine → Arm → Type 0
+SaysArm s (line.Slot o ty) (slot sl) = (sl .offset ≡ o) × Has (typeOf 16 (rows (drop ty s))) (λ t. t ≡ sl .ty)
+SaysArm s (line.Slot o ty) (group i) = ⊥
+SaysArm s (line.Group j) (slot sl) = ⊥
+SaysArm s (line.Group j) (group i) = j ≡ i
+SaysArm s line.Nothing a = ⊥
 
-abbrev pub SaysField : Str → FieldLine → Field → Type 0
-SaysField s l f = SaysArm s l (f .discriminant) (f .arm)
+-- a field's reading: what its line says and where the rows after it stand, or nothing where no field is read
+abbrev pub ReadsField : Str → FieldRead → Reading Field → Type 0
+ReadsField s r (got f rest) = SaysArm s (r .line) (f .arm) × (rows (drop (r .next) s) ≡ rest)
+ReadsField s r (no k rest) = r .line ≡ line.Nothing

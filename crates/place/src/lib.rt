@@ -13,36 +13,29 @@ ghost use Rattle.tree.specs.Walked.{passed, walked};
 ghost use Rattle.tree.specs.Index.{On, nodeHere};
 ghost use Rattle.tree.specs.Tree.{Node};
 ghost use Rattle.place.specs.Fields.{FieldsHere};
-ghost use Rattle.place.specs.Place.{nth, Finds, NodeAt, FieldAt, nodeLine, SaysField};
+ghost use Rattle.place.specs.Place.{nth, Finds, NodeAt, FieldAt, nodeLine, SaysArm, ReadsField};
 
-// The numbers of an N row.
+// What an N row says that is asked for: whether the node is a struct, and its tag.
 pub struct NodeLine {
-    pub id: u64,
-    pub parent: u64,
-    pub scope: u64,
     pub is_struct: u64,
-    pub generic: u64,
     pub tag_count: u64,
     pub tag_offset: u64,
 }
 
-// The numbers of an F row and the position of its type; or those of a G row.
+// The offset in an F row and the position of its type; or the id in a G row.
 pub enum FieldLine {
-    Slot {
-        offset: u64,
-        discriminant: u64,
-        explicit: u64,
-        option: u64,
-        ty: usize,
-    },
-    Group {
-        id: u64,
-        discriminant: u64,
-    },
+    Slot { offset: u64, ty: usize },
+    Group { id: u64 },
     Nothing,
 }
 
-// The numbers of the node at a position.
+// A field that was read: what its row says, and the position after it. `Nothing` where there is none.
+pub struct FieldRead {
+    pub line: FieldLine,
+    pub next: usize,
+}
+
+// What the N row at a position says.
 pub fn node_line(s: &[u8], at: usize) -> NodeLine
     ensures { λ r. ⌜ On (nodeHere (rows (drop at (now (s .entry))))) (λ n. r ≡ nodeLine n) ⌝ }
 {
@@ -50,28 +43,20 @@ pub fn node_line(s: &[u8], at: usize) -> NodeLine
     let l = g.line;
     match l {
         Line::Node {
-            id,
-            parent,
-            scope,
+            id: _,
+            parent: _,
+            scope: _,
             is_struct,
-            generic,
+            generic: _,
             tag_count,
             tag_offset,
         } => NodeLine {
-            id,
-            parent,
-            scope,
             is_struct,
-            generic,
             tag_count,
             tag_offset,
         },
         _ => NodeLine {
-            id: 0,
-            parent: 0,
-            scope: 0,
             is_struct: 0,
-            generic: 0,
             tag_count: 0,
             tag_offset: 0,
         },
@@ -155,7 +140,7 @@ pub fn field(s: &[u8], at: usize, place: u64) -> Found
 
 // What the F or G row at a position says.
 pub fn field_line(s: &[u8], at: usize) -> FieldLine
-    ensures { λ r. ⌜ On (fieldOf (rows (drop at (now (s .entry))))) (λ f. SaysField (now (s .entry)) r f) ⌝ }
+    ensures { λ r. ⌜ On (fieldOf (rows (drop at (now (s .entry))))) (λ f. SaysArm (now (s .entry)) r (f .arm)) ⌝ }
 {
     let g = row::next(s, at);
     let l = g.line;
@@ -163,17 +148,54 @@ pub fn field_line(s: &[u8], at: usize) -> FieldLine
     match l {
         Line::Field {
             offset,
-            discriminant,
-            explicit,
-            option,
-        } => FieldLine::Slot {
-            offset,
-            discriminant,
-            explicit,
-            option,
-            ty: e,
-        },
-        Line::Group { id, discriminant } => FieldLine::Group { id, discriminant },
+            discriminant: _,
+            explicit: _,
+            option: _,
+        } => FieldLine::Slot { offset, ty: e },
+        Line::Group {
+            id,
+            discriminant: _,
+        } => FieldLine::Group { id },
         _ => FieldLine::Nothing,
+    }
+}
+
+// The field at a position: what `field_line` and `after_field` give, by one reading of its row.
+pub fn read_field(s: &[u8], at: usize) -> FieldRead
+    ensures { λ r. ⌜ ReadsField (now (s .entry)) r (fieldOf (rows (drop at (now (s .entry))))) ⌝ }
+{
+    let g = row::next(s, at);
+    let l = g.line;
+    let e = g.next;
+    match l {
+        Line::Field {
+            offset,
+            discriminant: _,
+            explicit,
+            option: _,
+        } => match tree::slot(s, e, explicit) {
+            Walk::Next { at: next } => FieldRead {
+                line: FieldLine::Slot { offset, ty: e },
+                next,
+            },
+            Walk::Refused {
+                number: _,
+                at: next,
+            } => FieldRead {
+                line: FieldLine::Nothing,
+                next,
+            },
+        },
+        Line::Group {
+            id,
+            discriminant: _,
+        } => FieldRead {
+            line: FieldLine::Group { id },
+            next: e,
+        },
+        _ => FieldRead {
+            line: FieldLine::Nothing,
+            next: e,
+        },
     }
 }

@@ -18,7 +18,7 @@ use Rattle.codegen.specs.Zeroing.{Zeroing, zeroFieldsOfGroup, zeroingRequest}
 use Rattle.type_parts.specs.Parts.{Writes}
 use Rattle.zeroing.specs.Told.{Zeroes}
 use Rattle.zeroing.specs.declared.Zeroed.{Zeroed}
-use Rattle.place.specs.Place.{FieldAt, SaysArm, SaysField}
+use Rattle.place.specs.Place.{FieldAt, SaysArm}
 use Rattle.place.specs.declared.FieldLine.{FieldLine}
 use Rattle.place.specs.declared.FieldLine.the-variants as line
 use Rattle.place.proofs.FieldLine as field-line
@@ -27,27 +27,26 @@ use Rattle.find.proofs.Laws.{on-has}
 
 -- a field f whose row says l
 module _ (Q : Out Str → Type 0) (s : Str) (at : ℕ) (l : FieldLine)
-    (read : On (fieldOf (rows (drop at s))) (λ f. SaysField s l f)) (sheet : Sheet) (f : Field) (here : FieldAt s at f) where
-  is-said : SaysArm s l (f .discriminant) (f .arm)
-  is-said = on-has (λ g. SaysField s l g) (fieldOf (rows (drop at s))) f read here
+    (read : On (fieldOf (rows (drop at s))) (λ f. SaysArm s l (f .arm))) (sheet : Sheet) (f : Field) (here : FieldAt s at f) where
+  is-said : SaysArm s l (f .arm)
+  is-said = on-has (λ g. SaysArm s l (g .arm)) (fieldOf (rows (drop at s))) f read here
 
-  pub of-group :
-      (id d : ℕ) → l ≡ line.Group id d → Q (zeroingRequest sheet id) → Q (groupOf (f .arm) then zeroingRequest sheet)
-  of-group id d e q = go (f .arm) (rw e at is-said)
+  pub of-group : (id : ℕ) → l ≡ line.Group id → Q (zeroingRequest sheet id) → Q (groupOf (f .arm) then zeroingRequest sheet)
+  of-group id e q = go (f .arm) (rw e at is-said)
     where
-      go : (a : Arm) → SaysArm s (line.Group id d) (f .discriminant) a → Q (groupOf a then zeroingRequest sheet)
+      go : (a : Arm) → SaysArm s (line.Group id) a → Q (groupOf a then zeroingRequest sheet)
       go (slot sl) h = absurd h
-      go (group i) h = rw (← h .1) q
+      go (group i) h = rw (← h) q
 
   pub of-other :
       OneOf (0 ∷ 2 ∷ []) (tagOf field-line.the-type l) → Q (refused 15) → Q (groupOf (f .arm) then zeroingRequest sheet)
   of-other tag q = go l tag (f .arm) is-said
     where
-      go : (l : FieldLine) → OneOf (0 ∷ 2 ∷ []) (tagOf field-line.the-type l) → (a : Arm) → SaysArm s l (f .discriminant) a
+      go : (l : FieldLine) → OneOf (0 ∷ 2 ∷ []) (tagOf field-line.the-type l) → (a : Arm) → SaysArm s l a
           → Q (groupOf a then zeroingRequest sheet)
-      go (line.Slot o d e p ty) tag (slot sl) h = q
-      go (line.Slot o d e p ty) tag (group i) h = absurd h
-      go (line.Group i d) tag a h = absurd (miss (0 ∷ 2 ∷ []) 1 tt tag)
+      go (line.Slot o ty) tag (slot sl) h = q
+      go (line.Slot o ty) tag (group i) h = absurd h
+      go (line.Group i) tag a h = absurd (miss (0 ∷ 2 ∷ []) 1 tt tag)
       go line.Nothing tag a h = absurd h
 
 -- a zeroing that is written is the text of its request

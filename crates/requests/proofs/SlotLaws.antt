@@ -20,7 +20,7 @@ use Rattle.tree.proofs.OtherLines.{never}
 use Rattle.codegen_types.specs.Out.{Out, ok, refused, refusalOf, _then_}
 use Rattle.codegen_types.specs.declared.Refusal.{Refusal}
 use Rattle.codegen_types.specs.declared.Refusal.the-variants.{Number}
-use Rattle.place.specs.Place.{SaysArm, SaysField, nodeLine}
+use Rattle.place.specs.Place.{SaysArm, nodeLine}
 use Rattle.place.specs.declared.NodeLine.{NodeLine}
 use Rattle.place.specs.declared.FieldLine.{FieldLine}
 use Rattle.place.specs.declared.FieldLine.the-variants as says
@@ -62,32 +62,25 @@ of-slot Q k rs f h x q = go (lineAt rs) refl
     go line.Bad i = absurd (rw (i, i) at h)
 
 -- whether a field is a slot, by what its row says
-module _ (s : Str) (l : FieldLine) (g : Reading Field) (told : On g (λ f. SaysField s l f)) where
-  pub says-slot : (o d e p ty : ℕ) → l ≡ says.Slot o d e p ty → On g (λ f. true ≡ isSlot (f .arm))
-  says-slot o d e p ty i = go g (rw i at told)
+module _ (s : Str) (l : FieldLine) (g : Reading Field) (told : On g (λ f. SaysArm s l (f .arm))) where
+  pub says-slot : (o ty : ℕ) → l ≡ says.Slot o ty → On g (λ f. true ≡ isSlot (f .arm))
+  says-slot o ty i =
+      on-one (λ f. SaysArm s l (f .arm)) (λ f. true ≡ isSlot (f .arm)) g (λ f h. by-arm (f .arm) (rw i at h)) told
     where
-      by-arm : (δ : ℕ) (a : Arm) → SaysArm s (says.Slot o d e p ty) δ a → true ≡ isSlot a
-      by-arm δ (slot sl) h = refl
-      by-arm δ (group j) h = absurd h
-
-      go : (g : Reading Field) → On g (λ f. SaysField s (says.Slot o d e p ty) f) → On g (λ f. true ≡ isSlot (f .arm))
-      go (got f us) h = by-arm (f .discriminant) (f .arm) h
-      go (no k us) h = tt
+      by-arm : (a : Arm) → SaysArm s (says.Slot o ty) a → true ≡ isSlot a
+      by-arm (slot sl) h = refl
+      by-arm (group j) h = absurd h
 
   pub says-other : OneOf (1 ∷ 2 ∷ []) (tagOf field-line.the-type l) → On g (λ f. false ≡ isSlot (f .arm))
-  says-other tag = go g l tag told
+  says-other tag =
+      on-one (λ f. SaysArm s l (f .arm)) (λ f. false ≡ isSlot (f .arm)) g (λ f h. by-arm l tag (f .arm) h) told
     where
-      by-arm : (l : FieldLine) → OneOf (1 ∷ 2 ∷ []) (tagOf field-line.the-type l) → (δ : ℕ) (a : Arm) → SaysArm s l δ a
+      by-arm : (l : FieldLine) → OneOf (1 ∷ 2 ∷ []) (tagOf field-line.the-type l) → (a : Arm) → SaysArm s l a
           → false ≡ isSlot a
-      by-arm (says.Slot o d e p ty) tag δ a h = absurd (miss (1 ∷ 2 ∷ []) 0 tt tag)
-      by-arm (says.Group i d) tag δ (slot sl) h = absurd h
-      by-arm (says.Group i d) tag δ (group j) h = refl
-      by-arm says.Nothing tag δ a h = absurd h
-
-      go : (g : Reading Field) (l : FieldLine) → OneOf (1 ∷ 2 ∷ []) (tagOf field-line.the-type l)
-          → On g (λ f. SaysField s l f) → On g (λ f. false ≡ isSlot (f .arm))
-      go (got f us) l tag h = by-arm l tag (f .discriminant) (f .arm) h
-      go (no k us) l tag h = tt
+      by-arm (says.Slot o ty) tag a h = absurd (miss (1 ∷ 2 ∷ []) 0 tt tag)
+      by-arm (says.Group i) tag (slot sl) h = absurd h
+      by-arm (says.Group i) tag (group j) h = refl
+      by-arm says.Nothing tag a h = absurd h
 
 -- the refusal of the request k of an x, for the field f that stands first, by the answer b to whether it is a slot
 module _ {X : Type 0} (k : X → SlotField → Out Str) (x : X) (rs : Rows) (f : Field) (here : Has (fieldOf rs) (λ g. g ≡ f))

@@ -85,14 +85,7 @@ fn locate(s: &[u8], ids: &[u64], ats: &[usize], id: u64, place: u64) -> Located
 fn type_text_refusal(s: &[u8], ids: &[u64], ats: &[usize], field: usize, leaf: u64) -> Refusal
     ensures { λ r. ⌜ TypeTextRefused (now (s .entry)) (now (ids .entry)) (now (ats .entry)) field leaf r ⌝ }
 {
-    let FieldLine::Slot {
-        offset: _,
-        discriminant: _,
-        explicit: _,
-        option: _,
-        ty,
-    } = place::field_line(s, field)
-    else {
+    let FieldLine::Slot { offset: _, ty } = place::field_line(s, field) else {
         return Refusal::Number(15);
     };
     match leaf_of(leaf) {
@@ -106,13 +99,7 @@ fn is_slot(s: &[u8], field: usize) -> bool
     ensures { λ r. ⌜ On (fieldOf (rows (drop field (now (s .entry))))) (λ f. r ≡ isSlot (f .arm)) ⌝ }
 {
     match place::field_line(s, field) {
-        FieldLine::Slot {
-            offset: _,
-            discriminant: _,
-            explicit: _,
-            option: _,
-            ty: _,
-        } => true,
+        FieldLine::Slot { offset: _, ty: _ } => true,
         _ => false,
     }
 }
@@ -170,10 +157,7 @@ fn zeroing_refusal(s: &[u8], ids: &[u64], ats: &[usize], node: usize, field: usi
     ensures { λ r. ⌜ RequestRefused (now (s .entry)) (now (ids .entry)) (now (ats .entry)) node field Zeroing r ⌝ }
 {
     match place::field_line(s, field) {
-        FieldLine::Group {
-            id,
-            discriminant: _,
-        } => zeroing::zeroing_refusal(s, ids, ats, id),
+        FieldLine::Group { id } => zeroing::zeroing_refusal(s, ids, ats, id),
         _ => Refusal::Number(15),
     }
 }
@@ -217,14 +201,7 @@ fn type_text(
     ensures { λ r. ⌜ TypeTextWritten (now (s .entry)) (now (ids .entry)) (now (ats .entry)) (now (root .entry)) field leaf
         (now (buf .entry)) t (now (buf .exit)) r ⌝ }
 {
-    let FieldLine::Slot {
-        offset: _,
-        discriminant: _,
-        explicit: _,
-        option: _,
-        ty,
-    } = place::field_line(s, field)
-    else {
+    let FieldLine::Slot { offset: _, ty } = place::field_line(s, field) else {
         return t;
     };
     match leaf_of(leaf) {
@@ -299,10 +276,7 @@ fn zeroing(
         (now (buf .entry)) t (now (buf .exit)) r ⌝ }
 {
     match place::field_line(s, field) {
-        FieldLine::Group {
-            id,
-            discriminant: _,
-        } => {
+        FieldLine::Group { id } => {
             let z = zeroing::zeroing(s, ids, ats, id, t, buf);
             z.text
         }

@@ -9,15 +9,11 @@ use Prim.Native.Nat.{ℕ, _-_}
 use borrow.Author.Tests.{eq-eqb, ne-eqb}
 use lib.Dec.{eqb}
 use lib.ListN.{drop}
-use types.Run.{OneOf, miss}
-use denote.Enum.Declared.{tagOf}
-use Rattle.place.proofs.FieldLine.{the-type}
 use Rattle.text.specs.Bytes.{Str, cond}
 use Rattle.text.specs.Lines.{Branch, Line, stringify}
 use Rattle.tree.specs.Tree.{Slot, slot, group, Field, Node, Sheet}
-use Rattle.tree.specs.Reader.{Rows, got, no}
+use Rattle.tree.specs.Reader.{Rows}
 use Rattle.tree.specs.Read.{fieldOf}
-use Rattle.tree.specs.Walked.{passed}
 use Rattle.tree.specs.Index.{On, nodeHere, Indexed}
 use Rattle.tree.proofs.OtherLines.{never}
 use Rattle.row.specs.Rows.{rows}
@@ -27,15 +23,15 @@ use Rattle.codegen_types.specs.declared.Refusal.the-variants.{None, Number}
 use Rattle.find.specs.Find.{lookup}
 use Rattle.find.specs.declared.Found.{Found}
 use Rattle.find.specs.declared.Found.the-variants.{At}
-use Rattle.place.specs.Place.{NodeAt, nodeLine, SaysField}
+use Rattle.place.specs.Place.{NodeAt, nodeLine, ReadsField}
 use Rattle.place.specs.declared.NodeLine.{NodeLine}
-use Rattle.place.specs.declared.FieldLine.{FieldLine}
+use Rattle.place.specs.declared.FieldRead.{FieldRead}
 use Rattle.place.specs.declared.FieldLine.the-variants as says
 use Rattle.calls.specs.Calls.{zeroTag}
 use Rattle.codegen.specs.Zeroing.{Zeroing, contains, push, noPush, zeroLine, zeroSlot, zeroFields, zeroNode, zeroFieldsOfGroup}
 use Rattle.codegen.specs.Zeroing.{zeroingRequest}
 use Rattle.place.specs.Fields.{FieldsHere}
-use Rattle.find.proofs.Laws.{on-got, on-has}
+use Rattle.find.proofs.Laws.{on-has}
 use Rattle.zeroing.proofs.FieldLaws.{turn, ended-here}
 use Rattle.zeroing.proofs.TurnLaws.{says-slot, says-group}
 use Rattle.zeroing.proofs.GroupLaws.{group-there}
@@ -86,13 +82,6 @@ group-stops inner f fs seen i k e h = rw e (go (inner i) h)
     go (ok g) h = never cc
     go (refused j) h = h
 
--- a field whose line is no group's is a slot
-no-group : {A : Type 0} (s : Str) (f : Field) (line : FieldLine) → OneOf (0 ∷ 2 ∷ []) (tagOf the-type line) → SaysField s line f
-    → ((sl : Slot) → f .arm ≡ slot sl → A) → A
-no-group s f (says.Slot o d e p ty) one h k = let x = says-slot s _ f h o d e p ty refl in k (x .sl) (x .is)
-no-group s f (says.Group i d) one h k = absurd (miss (0 ∷ 2 ∷ []) 1 tt one)
-no-group s f says.Nothing one h k = absurd h
-
 -- ---- the loop
 
 -- the refusal of the fields that are read at some rows
@@ -106,39 +95,35 @@ pub seeking-first : (inner : ℕ → Out Zeroing) (rs : Rows) → Seeking inner 
 seeking-first inner rs = record { rest = λ r h. h }
 
 module _ (inner : ℕ → Out Zeroing) (rs₀ rs : Rows) (g : Seeking inner rs₀ rs) where
-  pub seeking-end : (j : ℕ) (q : Rows) → no j q ≡ passed (fieldOf rs) → Meets inner rs₀ None
-  unfolding zeroFields
-  seeking-end j q e = g .rest None (λ fs seen h. rw (ended-here 0 j fs rs q h e) refl)
+  module _ (s : Str) (r : FieldRead) (read : ReadsField s r (fieldOf rs)) where
+    pub seeking-end : r .line ≡ says.Nothing → Meets inner rs₀ None
+    unfolding zeroFields
+    seeking-end e = g .rest None (λ fs seen h. rw (ended-here s rs r read e fs h) refl)
 
-  module _ (q : Rows) (walk : got tt q ≡ passed (fieldOf rs)) (s : Str) (line : FieldLine)
-      (said : On (fieldOf rs) (λ f. SaysField s line f)) where
-    told : (f : Field) → fieldOf rs ≡ got f q → SaysField s line f
-    told f x = on-got (λ f. SaysField s line f) (fieldOf rs) f q said x
-
-    pub seeking-slot : OneOf (0 ∷ 2 ∷ []) (tagOf the-type line) → Seeking inner rs₀ q
-    seeking-slot o = record {
-      rest = λ r later. g .rest r (λ fs seen h.
-          let t = turn 0 fs rs q h walk in
-          no-group s (t .field) line o (told (t .field) (t .is))
-          (λ sl e. rw (t .first) (slot-passes inner (t .field) (drop 1 fs) r (λ seen. later (drop 1 fs) seen (t .next)) seen
-          sl e)));
+    pub seeking-slot : (o ty : ℕ) → r .line ≡ says.Slot o ty → Seeking inner rs₀ (rows (drop (r .next) s))
+    seeking-slot o ty e = record {
+      rest = λ refusal later. g .rest refusal (λ fs seen h.
+          let t = turn s rs r read (says.Slot o ty) e tt 0 fs h in
+          let x = says-slot s o ty (t .field .arm) (t .said) in
+          rw (t .first)
+          (slot-passes inner (t .field) (drop 1 fs) refusal (λ seen. later (drop 1 fs) seen (t .next)) seen (x .sl) (x .is)));
     }
 
-    module _ (i d : ℕ) (is : line ≡ says.Group i d) where
-      pub seeking-group : refusalOf (inner i) ≡ None → Seeking inner rs₀ q
+    module _ (i : ℕ) (e : r .line ≡ says.Group i) where
+      pub seeking-group : refusalOf (inner i) ≡ None → Seeking inner rs₀ (rows (drop (r .next) s))
       seeking-group n = record {
-        rest = λ r later. g .rest r (λ fs seen h.
-            let t = turn 0 fs rs q h walk in
+        rest = λ refusal later. g .rest refusal (λ fs seen h.
+            let t = turn s rs r read (says.Group i) e tt 0 fs h in
             rw (t .first)
-            (group-passes inner (t .field) (drop 1 fs) r (λ seen. later (drop 1 fs) seen (t .next)) seen i
-            (says-group s line (t .field) (told (t .field) (t .is)) i d is) n));
+            (group-passes inner (t .field) (drop 1 fs) refusal (λ seen. later (drop 1 fs) seen (t .next)) seen i
+            (says-group s i (t .field .arm) (t .said)) n));
       }
 
       pub seeking-stop : (k : ℕ) → Number k ≡ refusalOf (inner i) → Meets inner rs₀ (Number k)
       seeking-stop k n = g .rest (Number k) (λ fs seen h.
-          let t = turn 0 fs rs q h walk in
+          let t = turn s rs r read (says.Group i) e tt 0 fs h in
           rw (t .first)
-          (group-stops inner (t .field) (drop 1 fs) seen i k (says-group s line (t .field) (told (t .field) (t .is)) i d is) n))
+          (group-stops inner (t .field) (drop 1 fs) seen i k (says-group s i (t .field .arm) (t .said)) n))
 
 -- ---- a group's node
 

@@ -8,56 +8,29 @@ use lib.Dec.{eqb}
 use lib.ListN.{take, drop, set}
 use Rattle.text.specs.Bytes.{Str}
 use Rattle.row.specs.Rows.{rows}
-use Rattle.tree.specs.Tree.{Ty, Value, kind, Slot, Arm, slot, group, Field, Node}
-use Rattle.tree.specs.Reader.{Rows, Reading, got, no, _then_}
-use Rattle.tree.specs.Read.{typeOf, valueOf, hasWords, wordsOf, slotOf, fieldOf}
-use Rattle.tree.specs.Walked.{passed}
-use Rattle.tree.specs.Index.{On}
-use Rattle.tree.proofs.OtherLines.{never}
+use Rattle.tree.specs.Tree.{kind, Slot, Arm, slot, group, Field, Node}
+use Rattle.tree.specs.Reader.{Rows}
+use Rattle.tree.specs.Read.{typeOf, fieldOf}
 use Rattle.codegen_types.specs.Out.{Out}
 use Rattle.find.specs.Find.{kindAt}
 use Rattle.find.proofs.TypeLaws.{type-kind}
-use Rattle.place.specs.Place.{SaysArm, SaysField}
+use Rattle.place.specs.Place.{SaysArm, ReadsField}
 use Rattle.place.specs.declared.FieldLine.{FieldLine}
 use Rattle.place.specs.declared.FieldLine.the-variants as says
+use Rattle.place.specs.declared.FieldRead.{FieldRead}
+use Rattle.place.proofs.PlaceLaws.{IsField}
 use Rattle.codegen.specs.Zeroing.{Zeroing, zeroFields}
 use Rattle.zeroing.specs.Lines.{repeats, slotLines, tagLines, typeAt, markPlace, Marked}
 use Rattle.place.specs.Fields.{FieldsHere}
 use Rattle.zeroing.specs.Told.{Added, Adds}
 use Rattle.zeroing.specs.declared.Lines.{Lines}
-use Rattle.find.proofs.Laws.{on-got, on-has}
+use Rattle.find.proofs.Laws.{on-has}
 use Rattle.zeroing.proofs.FieldLaws.{turn, ended-here}
 use Rattle.zeroing.proofs.SlotLaws.{pointer-is, seenArm, seenAfter, seen-append, slot-lines}
 use Rattle.zeroing.proofs.MarkLaws.{marked-none, marked-slot, marked-group}
 use Rattle.zeroing.proofs.GroupLaws.{fields-none, next-slot, next-group}
 
 -- ---- what a field's line says
-
--- the offset and the kind of the slot that is read
-module _ (o e p : ℕ) (rs : Rows) where
-  abbrev Read : Slot → Type 0
-  Read sl = (sl .offset ≡ o) × (kind (sl .ty) ≡ kindAt rs)
-
-  abbrev made : Ty → Value → List ℕ → Slot
-  made t v ws = record { offset = o; explicit = e; option = p; ty = t; default = v; words = ws }
-
-  slot-read : On (slotOf o e p rs) Read
-  unfolding slotOf
-  slot-read = types (typeOf 16 rs) (type-kind 16 rs)
-    where
-      words : (t : Ty) (v : Value) → kind t ≡ kindAt rs → (g : Reading (List ℕ)) → On (g then λ ws. got (made t v ws)) Read
-      words t v k (got ws q) = (refl, k)
-      words t v k (no j q) = tt
-
-      values : (t : Ty) → kind t ≡ kindAt rs → (g : Reading Value)
-          → On (g then λ v rs. wordsOf (hasWords e (v .kind)) rs then λ ws. got (made t v ws)) Read
-      values t k (got v q) = words t v k (wordsOf (hasWords e (v .kind)) q)
-      values t k (no j q) = tt
-
-      types : (g : Reading Ty) → On g (λ t. kind t ≡ kindAt rs)
-          → On (g then λ t rs. valueOf rs then λ v rs. wordsOf (hasWords e (v .kind)) rs then λ ws. got (made t v ws)) Read
-      types (got t q) k = values t k (valueOf q)
-      types (no j q) k = tt
 
 -- a slot by its offset and kind
 pub record IsSlot (a : Arm) (offset k : ℕ) : Type 0 where
@@ -66,28 +39,22 @@ pub record IsSlot (a : Arm) (offset k : ℕ) : Type 0 where
   pub offsetIs : sl .offset ≡ offset
   pub kindIs : kind (sl .ty) ≡ k
 
--- what the line r of the field f says
-module _ (s : Str) (r : FieldLine) (f : Field) (h : SaysField s r f) where
-  pub says-slot : (o d e p ty : ℕ) → r ≡ says.Slot o d e p ty → IsSlot (f .arm) o (kindAt (rows (drop ty s)))
-  says-slot o d e p ty i = go (f .arm) refl (rw i at h)
-    where
-      go : (a : Arm) → f .arm ≡ a → SaysArm s (says.Slot o d e p ty) (f .discriminant) a
-          → IsSlot (f .arm) o (kindAt (rows (drop ty s)))
-      go (slot sl) e′ w =
-          let rs = rows (drop ty s) in
-          let x = on-has (Read o e p rs) (slotOf o e p rs) sl (slot-read o e p rs) (w .1) in
-          record { sl = sl; is = e′; offsetIs = x .0; kindIs = x .1 }
-      go (group i) e′ w = absurd w
+-- what a line says of the field with arm a
+module _ (s : Str) where
+  pub says-slot : (o ty : ℕ) (a : Arm) → SaysArm s (says.Slot o ty) a → IsSlot a o (kindAt (rows (drop ty s)))
+  says-slot o ty (slot sl) h =
+      let rs = rows (drop ty s) in
+      record {
+        sl = sl;
+        is = refl;
+        offsetIs = h .0;
+        kindIs = on-has (λ t. kind t ≡ kindAt rs) (typeOf 16 rs) (sl .ty) (type-kind 16 rs) (h .1);
+      }
+  says-slot o ty (group i) h = absurd h
 
-  pub says-group : (i d : ℕ) → r ≡ says.Group i d → f .arm ≡ group i
-  says-group i d e = go (f .arm) (rw e at h)
-    where
-      go : (a : Arm) → SaysArm s (says.Group i d) (f .discriminant) a → a ≡ group i
-      go (slot sl) w = absurd w
-      go (group j) w = rw (w .1) refl
-
-  says-nothing : r ≡ says.Nothing → ⊥
-  says-nothing e = rw e at h
+  pub says-group : (i : ℕ) (a : Arm) → SaysArm s (says.Group i) a → a ≡ group i
+  says-group i (slot sl) h = absurd h
+  says-group i (group j) h = rw h refl
 
 -- ---- the loop
 
@@ -110,62 +77,52 @@ going-first inner rs marks l p = record {
 
 module _ (inner : ℕ → Out Zeroing) (rs₀ : Rows) (l₀ : List ℕ) (p₀ : Lines) (rs : Rows) (k : ℕ) (marks l : List ℕ) (p : Lines)
     (g : Going inner rs₀ l₀ p₀ rs k marks l p) where
-  -- no more fields
-  pub going-end : (j : ℕ) (q : Rows) → no j q ≡ passed (fieldOf rs) → (fs : List Field) (n : Node) → FieldsHere rs₀ fs
-      → Adds (zeroFields inner (tagLines n) fs) l₀ p₀ l p
-  going-end j q e fs n h =
-      g .rest fs n l p h
-      (rw (ended-here k j fs rs q (g .here fs h) e) (fields-none inner (seenAfter (tagLines n) (take k fs)) l p))
+  module _ (s : Str) (r : FieldRead) (read : ReadsField s r (fieldOf rs)) where
+    -- no more fields
+    pub going-end : r .line ≡ says.Nothing → (fs : List Field) (n : Node) → FieldsHere rs₀ fs
+        → Adds (zeroFields inner (tagLines n) fs) l₀ p₀ l p
+    going-end e fs n h =
+        g .rest fs n l p h
+        (rw (ended-here s rs r read e (drop k fs) (g .here fs h)) (fields-none inner (seenAfter (tagLines n) (take k fs)) l p))
 
-  module _ (q : Rows) (walk : got tt q ≡ passed (fieldOf rs)) (s : Str) (r : FieldLine)
-      (said : On (fieldOf rs) (λ f. SaysField s r f)) (marks₁ l₁ : List ℕ) (p₁ : Lines) where
-    going : ((fs : List Field) (f : Field) → fieldOf rs ≡ got f q → Marked marks (take k fs)
-        → Marked marks₁ (take k fs ++ (f ∷ [])))
-        → ((fs : List Field) (f : Field) → FieldsHere rs₀ fs → fieldOf rs ≡ got f q
-        → (n : Node) (l′ : List ℕ) (p′ : Lines)
-        → Adds (zeroFields inner (seenArm (seenAfter (tagLines n) (take k fs)) (f .arm)) (drop (suc k) fs)) l₁ p₁ l′ p′
-        → Adds (zeroFields inner (seenAfter (tagLines n) (take k fs)) (f ∷ drop (suc k) fs)) l p l′ p′)
-        → Going inner rs₀ l₀ p₀ q (k + 1) marks₁ l₁ p₁
-    going mark step = rw (add-one k) (record {
-      here = λ fs h. turn k fs rs q (g .here fs h) walk .next;
-      marked = λ fs h.
-          let t = turn k fs rs q (g .here fs h) walk in rw (t .taken) (mark fs (t .field) (t .is) (g .marked fs h));
-      rest = λ fs n l′ p′ h a.
-          let t = turn k fs rs q (g .here fs h) walk in
-          g .rest fs n l′ p′ h
-          (rw (t .first) (step fs (t .field) h (t .is) n l′ p′
-          (rw (t .taken, seen-append (tagLines n) (take k fs) (t .field)) at a)));
-    })
+    module _ (line : FieldLine) (is : r .line ≡ line) (some : IsField line) (marks₁ l₁ : List ℕ) (p₁ : Lines) where
+      going : ((fs : List Field) (f : Field) → SaysArm s line (f .arm) → Marked marks (take k fs)
+          → Marked marks₁ (take k fs ++ (f ∷ [])))
+          → ((fs : List Field) (f : Field) → FieldsHere rs₀ fs → SaysArm s line (f .arm)
+          → (n : Node) (l′ : List ℕ) (p′ : Lines)
+          → Adds (zeroFields inner (seenArm (seenAfter (tagLines n) (take k fs)) (f .arm)) (drop (suc k) fs)) l₁ p₁ l′ p′
+          → Adds (zeroFields inner (seenAfter (tagLines n) (take k fs)) (f ∷ drop (suc k) fs)) l p l′ p′)
+          → Going inner rs₀ l₀ p₀ (rows (drop (r .next) s)) (k + 1) marks₁ l₁ p₁
+      going mark step = rw (add-one k) (record {
+        here = λ fs h. turn s rs r read line is some k fs (g .here fs h) .next;
+        marked = λ fs h.
+            let t = turn s rs r read line is some k fs (g .here fs h) in
+            rw (t .taken) (mark fs (t .field) (t .said) (g .marked fs h));
+        rest = λ fs n l′ p′ h a.
+            let t = turn s rs r read line is some k fs (g .here fs h) in
+            g .rest fs n l′ p′ h
+            (rw (t .first) (step fs (t .field) h (t .said) n l′ p′
+            (rw (t .taken, seen-append (tagLines n) (take k fs) (t .field)) at a)));
+      })
 
-    told : (f : Field) → fieldOf rs ≡ got f q → SaysField s r f
-    told f x = on-got (λ f. SaysField s r f) (fieldOf rs) f q said x
-
-    pub going-slot : (o d e b ty : ℕ) → r ≡ says.Slot o d e b ty
+    pub going-slot : (marks₁ l₁ : List ℕ) (p₁ : Lines) (o ty : ℕ) → r .line ≡ says.Slot o ty
         → ((fs : List Field) → FieldsHere rs₀ fs → Marked marks (take k fs)
         → Added (slotLines (typeAt s ty) o (repeats (typeAt s ty) o (take k fs))) (eqb (typeAt s ty) 12) l p l₁ p₁)
-        → marks₁ ≡ set marks (markPlace (typeAt s ty) o) 1 → Going inner rs₀ l₀ p₀ q (k + 1) marks₁ l₁ p₁
-    going-slot o d e b ty i a m = going
+        → marks₁ ≡ set marks (markPlace (typeAt s ty) o) 1
+        → Going inner rs₀ l₀ p₀ (rows (drop (r .next) s)) (k + 1) marks₁ l₁ p₁
+    going-slot marks₁ l₁ p₁ o ty i a m = going (says.Slot o ty) i tt marks₁ l₁ p₁
         (λ fs f x w.
-        let is = says-slot s r f (told f x) o d e b ty i in
+        let is = says-slot s o ty (f .arm) x in
         rw m (rw (is .kindIs, is .offsetIs) at (marked-slot marks (take k fs) f (is .sl) (is .is) w)))
         (λ fs f h x n l′ p′ w.
-        let is = says-slot s r f (told f x) o d e b ty i in
+        let is = says-slot s o ty (f .arm) x in
         next-slot inner (seenAfter (tagLines n) (take k fs)) f (drop (suc k) fs) (is .sl) l p l₁ p₁ l′ p′ (is .is)
         (rw (slot-lines n (take k fs) (is .sl), pointer-is (is .sl), is .kindIs, is .offsetIs) (a fs h (g .marked fs h))) w)
 
-    pub going-group : (i d : ℕ) → r ≡ says.Group i d → Adds (inner i) l p l₁ p₁ → marks₁ ≡ marks
-        → Going inner rs₀ l₀ p₀ q (k + 1) marks₁ l₁ p₁
-    going-group i d e a m = going
-        (λ fs f x w. rw m (marked-group marks (take k fs) f i (says-group s r f (told f x) i d e) w))
+    pub going-group : (marks₁ l₁ : List ℕ) (p₁ : Lines) (i : ℕ) → r .line ≡ says.Group i → Adds (inner i) l p l₁ p₁
+        → marks₁ ≡ marks → Going inner rs₀ l₀ p₀ (rows (drop (r .next) s)) (k + 1) marks₁ l₁ p₁
+    going-group marks₁ l₁ p₁ i e a m = going (says.Group i) e tt marks₁ l₁ p₁
+        (λ fs f x w. rw m (marked-group marks (take k fs) f i (says-group s i (f .arm) x) w))
         (λ fs f h x n l′ p′ w.
         next-group inner (seenAfter (tagLines n) (take k fs)) f (drop (suc k) fs) i l p l₁ p₁ l′ p′
-        (says-group s r f (told f x) i d e) a w)
-
--- a field that is read is a slot or a group
-pub never-nothing : {A : Type 0} (s : Str) (rs q : Rows) (r : FieldLine) → got tt q ≡ passed (fieldOf rs)
-    → On (fieldOf rs) (λ f. SaysField s r f) → r ≡ says.Nothing → A
-never-nothing s rs q r walk said e = go (fieldOf rs) walk said
-  where
-    go : {A : Type 0} (g : Reading Field) → got tt q ≡ passed g → On g (λ f. SaysField s r f) → A
-    go (got f z) w h = absurd (says-nothing s r f h e)
-    go (no k z) w h = never cc
+        (says-group s i (f .arm) x) a w)

@@ -3,7 +3,6 @@ use codegen_types::Refusal;
 use find::Found;
 use place::FieldLine;
 use text::Text;
-use tree::Walk;
 ghost use mathlib.Core.Path.{_≡_};
 ghost use mathlib.Core.Bool.{false};
 ghost use mathlib.Core.List.{List};
@@ -12,11 +11,9 @@ ghost use lib.ListN.{drop, set, take};
 ghost use Rattle.text.specs.Bytes.{either};
 ghost use Rattle.text.specs.Text.{Wrote};
 ghost use Rattle.row.specs.Rows.{rows};
-ghost use Rattle.tree.specs.Tree.{Field, Node};
-ghost use Rattle.tree.specs.Read.{fieldOf};
-ghost use Rattle.tree.specs.Index.{On};
+ghost use Rattle.tree.specs.Tree.{Arm, Field, Node};
 ghost use Rattle.codegen_types.specs.Out.{refusalOf};
-ghost use Rattle.place.specs.Place.{NodeAt};
+ghost use Rattle.place.specs.Place.{NodeAt, SaysArm};
 ghost use Rattle.type_refusal.specs.Told.{ForAll};
 ghost use Rattle.codegen.specs.Zeroing.{zeroFieldsOfGroup, zeroingRequest};
 ghost use Rattle.zeroing.specs.Lines.{lineType, zeroText, hasLine, repeats, slotLines, tagLines};
@@ -50,18 +47,12 @@ fn line_type(kind: u64) -> u64
     12
 }
 
-// Whether the field at a position has the line of a type at an offset.
-fn has_line(s: &[u8], at: usize, typ: u64, offset: u64) -> bool
-    ensures { λ r. ⌜ On (fieldOf (rows (drop at (now (s .entry))))) (λ f. r ≡ hasLine typ offset (f .arm)) ⌝ }
+// Whether the field with this row has the line of a type at an offset.
+fn has_line(s: &[u8], line: FieldLine, typ: u64, offset: u64) -> bool
+    ensures { λ r. ⌜ ((a : Arm) → SaysArm (now (s .entry)) line a → r ≡ hasLine typ offset a) ⌝ }
 {
-    match place::field_line(s, at) {
-        FieldLine::Slot {
-            offset: o,
-            discriminant: _,
-            explicit: _,
-            option: _,
-            ty,
-        } => {
+    match line {
+        FieldLine::Slot { offset: o, ty } => {
             if o == offset {
                 return line_type(find::kind(s, ty)) == typ;
             }
@@ -79,13 +70,15 @@ fn is_repeat(s: &[u8], first: usize, count: usize, typ: u64, offset: u64) -> boo
     let mut at = first;
     let mut n = count;
     while 0 < n {
-        let Walk::Next { at: q } = place::after_field(s, at) else {
+        let f = place::read_field(s, at);
+        let line = f.line;
+        if let FieldLine::Nothing = line {
             return false;
-        };
-        if has_line(s, at, typ, offset) {
+        }
+        if has_line(s, line, typ, offset) {
             return true;
         }
-        at = q;
+        at = f.next;
         n -= 1;
     }
     false
@@ -240,28 +233,18 @@ fn zero_fields_of_group(
     let mut at = first;
     let mut count = 0;
     loop {
-        let Walk::Next { at: q } = place::after_field(s, at) else {
-            return p;
-        };
-        match place::field_line(s, at) {
-            FieldLine::Slot {
-                offset,
-                discriminant: _,
-                explicit: _,
-                option: _,
-                ty,
-            } => {
+        let f = place::read_field(s, at);
+        let line = f.line;
+        match line {
+            FieldLine::Slot { offset, ty } => {
                 p = zero_slot(s, first, count, &mut marks, ty, offset, p, buf);
-                at = q;
+                at = f.next;
                 count += 1;
                 continue;
             }
-            FieldLine::Group {
-                id: inner,
-                discriminant: _,
-            } => {
+            FieldLine::Group { id: inner } => {
                 p = zero_fields_of_group(s, ids, ats, inner, left - 1, p, buf);
-                at = q;
+                at = f.next;
                 count += 1;
                 continue;
             }
@@ -311,24 +294,21 @@ fn group_refusal(s: &[u8], ids: &[u64], ats: &[usize], id: u64, left: usize) -> 
     }
     let mut at = place::first_field(s, node);
     loop {
-        let Walk::Next { at: q } = place::after_field(s, at) else {
-            return Refusal::None;
-        };
-        match place::field_line(s, at) {
-            FieldLine::Group {
-                id: inner,
-                discriminant: _,
-            } => {
+        let f = place::read_field(s, at);
+        let line = f.line;
+        match line {
+            FieldLine::Slot { offset: _, ty: _ } => {
+                at = f.next;
+                continue;
+            }
+            FieldLine::Group { id: inner } => {
                 if let Refusal::Number(number) = group_refusal(s, ids, ats, inner, left - 1) {
                     return Refusal::Number(number);
                 }
-                at = q;
+                at = f.next;
                 continue;
             }
-            _ => {
-                at = q;
-                continue;
-            }
+            FieldLine::Nothing => return Refusal::None,
         }
     }
 }

@@ -16,7 +16,7 @@ returns c =
     let start = at-field-line .before .before in
     let a = start .args in
     says-slot (a .s .now) (at-field-line .field-line .result) (fieldOf (rows (drop (a .field) (a .s .now)))) (at-field-line
-    .field-line .ensures) _ _ _ _ _ (c .enum-told .given .1)
+    .field-line .ensures) _ _ (c .enum-told .given .1)
 
 returns-2 : tie.Need-returns-2
 returns-2 c =

@@ -31,7 +31,7 @@ returns-2 c =
     let a = start .args in
     λ nodes f x h. type-of-slot (λ (o : Out Str). Writes o (a .buf .now) (a .t)
     (at-type-string .type-string .last .1 .1 .1 .1 .1 .1 .1 .0) (at-type-string .type-string .result)) (a .s .now) (a .field)
-    (a .leaf) _ (at-field-line .field-line .ensures) (sheetOf (a .root .now) nodes) f h _ _ _ _ _ (at-ty .ty .given .1) _
+    (a .leaf) _ (at-field-line .field-line .ensures) (sheetOf (a .root .now) nodes) f h _ _ (at-ty .ty .given .1) _
     (at-leaf-of .leaf-of .ensures) _ (at-leaf .leaf .given .1) ((at-type-string .type-string .ensures) nodes x)
 
 returns-3 : tie.Need-returns-3
@@ -42,7 +42,7 @@ returns-3 c =
     let start = at-field-line .before .before .before .before .before .before in
     let a = start .args in
     λ nodes f x h. type-no-leaf (λ (o : Out Str). Writes o (a .buf .now) (a .t) (a .buf .now) (a .t)) (a .s .now) (a .field)
-    (a .leaf) _ (at-field-line .field-line .ensures) (sheetOf (a .root .now) nodes) f h _ _ _ _ _ (at-ty .ty .given .1) _
+    (a .leaf) _ (at-field-line .field-line .ensures) (sheetOf (a .root .now) nodes) f h _ _ (at-ty .ty .given .1) _
     (at-leaf-of .leaf-of .ensures) (c .enum-told .given .1) tt
 
 pub type-text-spec : {M : Type 1} → statement M

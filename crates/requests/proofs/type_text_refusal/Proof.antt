@@ -29,7 +29,7 @@ returns-2 c =
     let start = at-field-line .before .before .before .before in
     let a = start .args in
     λ root nodes f x h. type-of-slot (λ (o : Out Str). (c .type-refusal .result) ≡ refusalOf o) (a .s .now) (a .field)
-    (a .leaf) _ (at-field-line .field-line .ensures) (sheetOf root nodes) f h _ _ _ _ _ (at-ty .ty .given .1) _
+    (a .leaf) _ (at-field-line .field-line .ensures) (sheetOf root nodes) f h _ _ (at-ty .ty .given .1) _
     (at-leaf-of .leaf-of .ensures) _ (at-leaf .leaf .given .1) ((c .type-refusal .ensures) root nodes x)
 
 returns-3 : tie.Need-returns-3
@@ -40,7 +40,7 @@ returns-3 c =
     let start = at-field-line .before .before .before .before in
     let a = start .args in
     λ root nodes f x h. type-no-leaf (λ (o : Out Str). Number 15 ≡ refusalOf o) (a .s .now) (a .field) (a .leaf) _
-    (at-field-line .field-line .ensures) (sheetOf root nodes) f h _ _ _ _ _ (at-ty .ty .given .1) _
+    (at-field-line .field-line .ensures) (sheetOf root nodes) f h _ _ (at-ty .ty .given .1) _
     (at-leaf-of .leaf-of .ensures) (c .enum-told .given .1) refl
 
 pub type-text-refusal-spec : {M : Type 1} → statement M

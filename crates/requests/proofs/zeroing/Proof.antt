@@ -19,7 +19,7 @@ returns c =
     let a = start .args in
     λ nodes at x n f. of-group (λ (o : Out Str). Writes o (a .buf .now) (a .t) (at-zeroing .zeroing .last .1 .1 .1 .1 .1 .0)
     (at-zeroing .zeroing .result .text)) (a .s .now) (a .field) _ (at-field-line .field-line .ensures)
-    (sheetOf (a .root .now) nodes) (at .1) f _ _ (at-id .id .given .1) (zeroing-writes (sheetOf (a .root .now) nodes) _ _ _ _ _
+    (sheetOf (a .root .now) nodes) (at .1) f _ (at-id .id .given .1) (zeroing-writes (sheetOf (a .root .now) nodes) _ _ _ _ _
     ((at-zeroing .zeroing .ensures) (a .root .now) nodes x))
 
 returns-2 : tie.Need-returns-2

@@ -18,7 +18,7 @@ returns c =
     let start = at-field-line .before .before .before .before in
     let a = start .args in
     λ root nodes at x n f. of-group (λ (o : Out Str). (c .zeroing-refusal .result) ≡ refusalOf o) (a .s .now) (a .field) _
-    (at-field-line .field-line .ensures) (sheetOf root nodes) (at .1) f _ _ (at-id .id .given .1)
+    (at-field-line .field-line .ensures) (sheetOf root nodes) (at .1) f _ (at-id .id .given .1)
     ((c .zeroing-refusal .ensures) root nodes x)
 
 returns-2 : tie.Need-returns-2

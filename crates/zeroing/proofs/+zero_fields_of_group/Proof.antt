@@ -10,18 +10,15 @@ use borrow.Fn.Kinds.{In}
 use borrow.Fn.PlainCycle.{Measures, is, falls, and}
 use Rattle.codegen.specs.Zeroing.{zeroFieldsOfGroup}
 use Rattle.find.specs.Find.{sheetOf}
-use Rattle.tree.proofs.WalkLaws.{came, refused}
 use Rattle.tree.specs.Index.{Indexed}
 use Rattle.tree.specs.Tree.{Node}
 use Rattle.row.specs.Rows.{rows}
 use Rattle.text.specs.Bytes.{Str}
 use Rattle.find.proofs.node.Reads as node-reads
-use Rattle.place.proofs.after_field.Reads as after-field-reads
-use Rattle.place.proofs.field_line.Reads as field-line-reads
-use Rattle.zeroing.proofs.TurnLaws.{Going, going-first, going-end, going-slot, going-group, never-nothing}
+use Rattle.place.proofs.read_field.Reads as read-field-reads
+use Rattle.zeroing.proofs.TurnLaws.{Going, going-first, going-end, going-slot, going-group}
 use Rattle.zeroing.proofs.GroupLaws.{none-left, group-missing, group-adds}
-use Rattle.place.proofs.FieldsLaws.{field-less}
-use Rattle.zeroing.proofs.FieldLaws.{count-fits, count-more}
+use Rattle.zeroing.proofs.FieldLaws.{fewer, count-fits, count-more}
 use Rattle.zeroing.proofs.zero_fields_of_group.Reads as zero-fields-of-group
 use Rattle.zeroing.proofs.zero_fields_of_group.Kinds as zero-fields-of-group-kinds
 use Rattle.zeroing.proofs.+zero_fields_of_group.Lts-zero_fields_of_group as zero-fields-of-group-lts
@@ -58,10 +55,8 @@ zero-fields-of-group-calls t = (
   first-field-reads.Learnt,
   tag-line-reads.Asked,
   tag-line-reads.Learnt,
-  after-field-reads.Asked,
-  after-field-reads.Learnt,
-  field-line-reads.Asked,
-  field-line-reads.Learnt,
+  read-field-reads.Asked,
+  read-field-reads.Learnt,
   zero-slot-reads.Asked,
   zero-slot-reads.Learnt,
   zero-fields-of-group-below t,
@@ -100,65 +95,51 @@ zero-fields-of-group-loop-holds : (t : ℕ) → zero-fields-of-group-lts.Need-lo
 zero-fields-of-group-loop-holds t c =
     (refl, refl, omega arith, λ root ns x. going-first _ _ _ _ _)
 
-zero-fields-of-group-returns-3 : (t : ℕ) → zero-fields-of-group-lts.Need-returns-3 (zero-fields-of-group-calls t)
-    (zero-fields-of-group-at t) zero-fields-of-group.Post zero-fields-of-group-Inv-loop zero-fields-of-group-μ-loop
-zero-fields-of-group-returns-3 t c =
-    let at-after-field = c .before .before in
-    let at-loop = at-after-field .before in
-    let at-tag-line = at-loop .before .before .before in
-    let at-first-field = at-tag-line .before .before in
-    let at-node2 = at-first-field .before .before in
-    let at-node = at-node2 .before .before in
-    let at-if1 = at-node .before in
-    let start = at-if1 .before .before .before .before .before in
-    let a = start .args in
-    let end = refused _ _ _ (at-after-field .after-field .ensures) _ _ (c .enum-told2 .given .1) in
-    λ root ns x. group-adds (a .s .now) (sheetOf root ns) (a .ids .now) (a .ats .now) (a .left) (a .id) (at-if1 .if1 .left) _
-    (at-node .node .ensures) x _ (at-node2 .node2 .given .1) _ _ _ _ _ _ (at-tag-line .tag-line .ensures)
-    (λ n w. going-end _ _ _ _ _ _ _ _ _ (at-loop .loop .inv .3 root ns x) _ _ end (n .fields) n
-    (at-first-field .first-field .ensures n w))
-
 zero-fields-of-group-add-count : (t : ℕ) → zero-fields-of-group-lts.Need-add-count (zero-fields-of-group-calls t)
     (zero-fields-of-group-at t) zero-fields-of-group.Post zero-fields-of-group-Inv-loop zero-fields-of-group-μ-loop
 zero-fields-of-group-add-count t c =
-    let at-q = c .before .before .before .before .before .before .before .before .before .before .before in
-    let at-after-field = at-q .before .before in
-    let at-loop = at-after-field .before in
+    let at-line = c .before .before .before .before .before .before .before in
+    let at-read-field = at-line .before .before in
+    let at-loop = at-read-field .before in
     let at-first-field = at-loop .before .before .before .before .before in
     let start = at-first-field .before .before .before .before .before .before .before .before .before .before in
-    let walk = came _ _ _ (at-after-field .after-field .ensures) _ (at-q .q .given .1) in
+    let a = start .args in
+    let read = at-read-field .read-field in
     omega (
       arith,
-      count-fits (start .args .s .now) (at-first-field .first-field .result) (at-loop .loop .count) _ _ walk
-          (at-loop .loop .inv .2) (start .good .0 .0),
+      count-fits (a .s .now) _ (read .result) (read .ensures) _ (at-line .line .given .1) tt
+          (at-first-field .first-field .result) (at-loop .loop .count) (at-loop .loop .inv .2) (start .good .0 .0),
     )
 
 zero-fields-of-group-loop-less : (t : ℕ) → zero-fields-of-group-lts.Need-loop-less (zero-fields-of-group-calls t)
     (zero-fields-of-group-at t) zero-fields-of-group.Post zero-fields-of-group-Inv-loop zero-fields-of-group-μ-loop
 zero-fields-of-group-loop-less t c =
-    let at-q = c .before .before .before .before .before .before .before .before .before .before .before in
-    let at-after-field = at-q .before .before in
-    field-less _ _ (came _ _ _ (at-after-field .after-field .ensures) _ (at-q .q .given .1))
+    let at-line = c .before .before .before .before .before .before .before in
+    let at-read-field = at-line .before .before in
+    let at-loop = at-read-field .before in
+    let a = at-loop .before .before .before .before .before .before .before .before .before .before .before .before .before
+    .before .before .args
+    in
+    let read = at-read-field .read-field in
+    fewer (a .s .now) _ (read .result) (read .ensures) _ (at-line .line .given .1) tt
 
 zero-fields-of-group-loop-again : (t : ℕ) → zero-fields-of-group-lts.Need-loop-again (zero-fields-of-group-calls t)
     (zero-fields-of-group-at t) zero-fields-of-group.Post zero-fields-of-group-Inv-loop zero-fields-of-group-μ-loop
 zero-fields-of-group-loop-again t c =
     let at-zero-slot = c .before .before .before in
-    let at-offset = at-zero-slot .before .before .before .before in
-    let at-field-line = at-offset .before .before in
-    let at-q = at-field-line .before .before in
-    let at-after-field = at-q .before .before in
-    let at-loop = at-after-field .before in
+    let at-line = at-zero-slot .before .before .before .before in
+    let at-read-field = at-line .before .before in
+    let at-loop = at-read-field .before in
     let at-first-field = at-loop .before .before .before .before .before in
     let start = at-first-field .before .before .before .before .before .before .before .before .before .before in
-    let walk = came _ _ _ (at-after-field .after-field .ensures) _ (at-q .q .given .1) in (
+    let a = start .args in
+    let read = at-read-field .read-field in (
       omega arith,
       rw (at-zero-slot .zero-slot .ensures .1, length-set) (at-loop .loop .inv .1),
-      count-more (start .args .s .now) (at-first-field .first-field .result) (at-loop .loop .count) _ _ walk
-          (at-loop .loop .inv .2),
-      λ root ns x. going-slot _ _ _ _ _ _ _ _ _ (at-loop .loop .inv .3 root ns x) _ walk (start .args .s .now) _
-          (at-field-line .field-line .ensures) _ _ _ _ _ _ _ _ (at-offset .offset .given .1)
-          (at-zero-slot .zero-slot .ensures .0) (at-zero-slot .zero-slot .ensures .1),
+      count-more (a .s .now) _ (read .result) (read .ensures) _ (at-line .line .given .1) tt
+          (at-first-field .first-field .result) (at-loop .loop .count) (at-loop .loop .inv .2),
+      λ root ns x. going-slot _ _ _ _ _ _ _ _ _ (at-loop .loop .inv .3 root ns x) (a .s .now) (read .result) (read .ensures)
+          _ _ _ _ _ (at-line .line .given .1) (at-zero-slot .zero-slot .ensures .0) (at-zero-slot .zero-slot .ensures .1),
     )
 
 zero-fields-of-group-zero-fields-of-group-requires : (t : ℕ)
@@ -166,7 +147,7 @@ zero-fields-of-group-zero-fields-of-group-requires : (t : ℕ)
     (zero-fields-of-group-at t) zero-fields-of-group.Post zero-fields-of-group-Inv-loop zero-fields-of-group-μ-loop
 zero-fields-of-group-zero-fields-of-group-requires t c κs =
     let at-if1 = c .before .before .before .before .before .before .before .before .before .before .before .before .before
-    .before .before .before .before .before .before
+    .before .before
     in
     let start = at-if1 .before .before .before .before .before in
     (omega (arith, start .pre .0, at-if1 .if1 .left), tt)
@@ -174,57 +155,66 @@ zero-fields-of-group-zero-fields-of-group-requires t c κs =
 zero-fields-of-group-add-count-2 : (t : ℕ) → zero-fields-of-group-lts.Need-add-count-2 (zero-fields-of-group-calls t)
     (zero-fields-of-group-at t) zero-fields-of-group.Post zero-fields-of-group-Inv-loop zero-fields-of-group-μ-loop
 zero-fields-of-group-add-count-2 t c =
-    let at-q = c .before .before .before .before .before .before .before .before .before in
-    let at-after-field = at-q .before .before in
-    let at-loop = at-after-field .before in
+    let at-line = c .before .before .before .before .before in
+    let at-read-field = at-line .before .before in
+    let at-loop = at-read-field .before in
     let at-first-field = at-loop .before .before .before .before .before in
     let start = at-first-field .before .before .before .before .before .before .before .before .before .before in
-    let walk = came _ _ _ (at-after-field .after-field .ensures) _ (at-q .q .given .1) in
+    let a = start .args in
+    let read = at-read-field .read-field in
     omega (
       arith,
-      count-fits (start .args .s .now) (at-first-field .first-field .result) (at-loop .loop .count) _ _ walk
-          (at-loop .loop .inv .2) (start .good .0 .0),
+      count-fits (a .s .now) _ (read .result) (read .ensures) _ (at-line .line2 .given .1) tt
+          (at-first-field .first-field .result) (at-loop .loop .count) (at-loop .loop .inv .2) (start .good .0 .0),
     )
 
 zero-fields-of-group-loop-less-2 : (t : ℕ) → zero-fields-of-group-lts.Need-loop-less-2 (zero-fields-of-group-calls t)
     (zero-fields-of-group-at t) zero-fields-of-group.Post zero-fields-of-group-Inv-loop zero-fields-of-group-μ-loop
 zero-fields-of-group-loop-less-2 t c =
-    let at-q = c .before .before .before .before .before .before .before .before .before in
-    let at-after-field = at-q .before .before in
-    field-less _ _ (came _ _ _ (at-after-field .after-field .ensures) _ (at-q .q .given .1))
+    let at-line = c .before .before .before .before .before in
+    let at-read-field = at-line .before .before in
+    let at-loop = at-read-field .before in
+    let a = at-loop .before .before .before .before .before .before .before .before .before .before .before .before .before
+    .before .before .args
+    in
+    let read = at-read-field .read-field in
+    fewer (a .s .now) _ (read .result) (read .ensures) _ (at-line .line2 .given .1) tt
 
 zero-fields-of-group-loop-again-2 : (t : ℕ) → zero-fields-of-group-lts.Need-loop-again-2 (zero-fields-of-group-calls t)
     (zero-fields-of-group-at t) zero-fields-of-group.Post zero-fields-of-group-Inv-loop zero-fields-of-group-μ-loop
 zero-fields-of-group-loop-again-2 t c =
     let at-zero-fields-of-group = c .before .before in
-    let at-inner = at-zero-fields-of-group .before .before .before in
-    let at-field-line = at-inner .before .before in
-    let at-q = at-field-line .before .before in
-    let at-after-field = at-q .before .before in
-    let at-loop = at-after-field .before in
+    let at-line = at-zero-fields-of-group .before .before .before in
+    let at-read-field = at-line .before .before in
+    let at-loop = at-read-field .before in
     let at-first-field = at-loop .before .before .before .before .before in
     let start = at-first-field .before .before .before .before .before .before .before .before .before .before in
-    let walk = came _ _ _ (at-after-field .after-field .ensures) _ (at-q .q .given .1) in (
+    let a = start .args in
+    let read = at-read-field .read-field in (
       omega arith,
       at-loop .loop .inv .1,
-      count-more (start .args .s .now) (at-first-field .first-field .result) (at-loop .loop .count) _ _ walk
-          (at-loop .loop .inv .2),
-      λ root ns x. going-group _ _ _ _ _ _ _ _ _ (at-loop .loop .inv .3 root ns x) _ walk (start .args .s .now) _
-          (at-field-line .field-line .ensures) _ _ _ _ _ (at-inner .inner .given .1)
-          (at-zero-fields-of-group .zero-fields-of-group .ensures root ns x) refl,
+      count-more (a .s .now) _ (read .result) (read .ensures) _ (at-line .line2 .given .1) tt
+          (at-first-field .first-field .result) (at-loop .loop .count) (at-loop .loop .inv .2),
+      λ root ns x. going-group _ _ _ _ _ _ _ _ _ (at-loop .loop .inv .3 root ns x) (a .s .now) (read .result) (read .ensures)
+          _ _ _ _ (at-line .line2 .given .1) (at-zero-fields-of-group .zero-fields-of-group .ensures root ns x) refl,
     )
 
-zero-fields-of-group-returns-4 : (t : ℕ) → zero-fields-of-group-lts.Need-returns-4 (zero-fields-of-group-calls t)
+zero-fields-of-group-returns-3 : (t : ℕ) → zero-fields-of-group-lts.Need-returns-3 (zero-fields-of-group-calls t)
     (zero-fields-of-group-at t) zero-fields-of-group.Post zero-fields-of-group-Inv-loop zero-fields-of-group-μ-loop
-zero-fields-of-group-returns-4 t c =
-    let at-field-line = c .before .before in
-    let at-q = at-field-line .before .before in
-    let at-after-field = at-q .before .before in
-    let start = at-after-field .before .before .before .before .before .before .before .before .before .before .before .before
-    .before .before .before .before
-    in
-    never-nothing (start .args .s .now) _ _ _ (came _ _ _ (at-after-field .after-field .ensures) _ (at-q .q .given .1))
-    (at-field-line .field-line .ensures) (c .enum-told3 .given .1)
+zero-fields-of-group-returns-3 t c =
+    let at-read-field = c .before .before in
+    let at-loop = at-read-field .before in
+    let at-tag-line = at-loop .before .before .before in
+    let at-first-field = at-tag-line .before .before in
+    let at-node2 = at-first-field .before .before in
+    let at-node = at-node2 .before .before in
+    let at-if1 = at-node .before in
+    let a = at-if1 .before .before .before .before .before .args in
+    let read = at-read-field .read-field in
+    λ root ns x. group-adds (a .s .now) (sheetOf root ns) (a .ids .now) (a .ats .now) (a .left) (a .id) (at-if1 .if1 .left) _
+    (at-node .node .ensures) x _ (at-node2 .node2 .given .1) _ _ _ _ _ _ (at-tag-line .tag-line .ensures)
+    (λ n w. going-end _ _ _ _ _ _ _ _ _ (at-loop .loop .inv .3 root ns x) (a .s .now) (read .result) (read .ensures)
+    (c .enum-told2 .given .1) (n .fields) n (at-first-field .first-field .ensures n w))
 
 pub +zero-fields-of-group-spec : {M : Type 1} → statement M
 +zero-fields-of-group-spec = close μ-zero-fields-of-group λ t. zero-fields-of-group-lts.spec (zero-fields-of-group-calls t)
@@ -240,11 +230,6 @@ pub +zero-fields-of-group-spec : {M : Type 1} → statement M
     (λ c κs. search needs)
     (λ c. search needs)
     (λ c. search needs)
-    (λ c. search needs)
-    (zero-fields-of-group-returns-3 t)
-    (λ c κs. search needs)
-    (λ c. search needs)
-    (λ c. search needs)
     (λ c κs. search needs)
     (zero-fields-of-group-add-count t)
     (zero-fields-of-group-loop-less t)
@@ -257,4 +242,4 @@ pub +zero-fields-of-group-spec : {M : Type 1} → statement M
     (zero-fields-of-group-loop-again-2 t)
     (λ c. search needs)
     (λ c. search needs)
-    (zero-fields-of-group-returns-4 t)
+    (zero-fields-of-group-returns-3 t)

@@ -3,7 +3,6 @@ use mathlib.Core.Bool.{Bool, true, false}
 use lib.ListN.{drop}
 use borrow.Author.Needs.{needs}
 use Rattle.row.specs.Rows.{rows}
-use Rattle.tree.proofs.WalkLaws.{came, refused}
 use Rattle.zeroing.proofs.RepeatLaws.{Tells, tells-none, tells-end, tells-here, tells-more}
 use Rattle.zeroing.proofs.is_repeat.Statement.{statement}
 use Rattle.zeroing.proofs.is_repeat.Tie as tie
@@ -24,34 +23,36 @@ enum-told c = search needs
 
 returns : tie.Need-returns Inv-loop μ-loop
 returns c =
-    let at-after-field = c .before .before in
-    let at-loop = at-after-field .before .before in
+    let at-read-field = c .before .before in
+    let at-loop = at-read-field .before .before in
+    let a = at-loop .before .before .args in
     at-loop .loop .inv false
-    (tells-end _ _ _ (at-loop .loop .n) _ _ (refused _ _ _ (at-after-field .after-field .ensures) _ _ (c .enum-told .given .1)))
+    (tells-end _ _ _ (at-loop .loop .n) (a .s .now) (at-read-field .read-field .result) (at-read-field .read-field .ensures)
+    (c .enum-told .given .1))
 
 returns-2 : tie.Need-returns-2 Inv-loop μ-loop
 returns-2 c =
     let at-has-line = c .before in
-    let at-q = at-has-line .before .before in
-    let at-after-field = at-q .before .before in
-    let at-loop-test = at-after-field .before in
+    let at-match = at-has-line .before in
+    let at-read-field = at-match .before in
+    let at-loop-test = at-read-field .before in
     let at-loop = at-loop-test .before in
-    let walk = came _ _ _ (at-after-field .after-field .ensures) _ (at-q .q .given .1) in
+    let a = at-loop .before .before .args in
     at-loop .loop .inv true
-    (tells-here _ _ _ (at-loop .loop .n) _ walk (at-loop-test .loop-test .taken) _ (at-has-line .has-line .ensures)
-    (c .if1 .taken))
+    (tells-here _ _ _ (at-loop .loop .n) (a .s .now) (at-read-field .read-field .result) (at-read-field .read-field .ensures)
+    (at-match .match .keys2) (at-loop-test .loop-test .taken) _ (at-has-line .has-line .ensures) (c .if1 .taken))
 
 loop-again : tie.Need-loop-again Inv-loop μ-loop
 loop-again c =
     let at-has-line = c .before in
-    let at-q = at-has-line .before .before in
-    let at-after-field = at-q .before .before in
-    let at-loop-test = at-after-field .before in
+    let at-match = at-has-line .before in
+    let at-read-field = at-match .before in
+    let at-loop-test = at-read-field .before in
     let at-loop = at-loop-test .before in
-    let walk = came _ _ _ (at-after-field .after-field .ensures) _ (at-q .q .given .1) in
+    let a = at-loop .before .before .args in
     λ r x. at-loop .loop .inv r
-    (tells-more _ _ _ (at-loop .loop .n) _ walk (at-loop-test .loop-test .taken) _ (at-has-line .has-line .ensures) r
-    (c .if1 .left) x)
+    (tells-more _ _ _ (at-loop .loop .n) (a .s .now) (at-read-field .read-field .result) (at-read-field .read-field .ensures)
+    (at-match .match .keys2) (at-loop-test .loop-test .taken) _ (at-has-line .has-line .ensures) r (c .if1 .left) x)
 
 returns-3 : tie.Need-returns-3 Inv-loop μ-loop
 returns-3 c =
@@ -65,7 +66,6 @@ is-repeat-spec =
     μ-loop
     loop-holds
     (λ c κs. search needs)
-    (λ c. search needs)
     enum-told
     returns
     (λ c κs. search needs)
