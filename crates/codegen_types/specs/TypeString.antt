@@ -1,6 +1,5 @@
 -- `type_string`, `do_branding` and `get_qualified_module` over the tree of a sheet, in the Rust's names and order of
--- evaluation: the text, or the
--- refusal that is met first. Assumes nothing.
+-- evaluation: the text, or the refusal that is met first. Assumes nothing.
 use Prim.Native.Nat.{ℕ, zero, suc}
 use mathlib.Core.Bool.{Bool, true, false}
 use mathlib.Core.List.{List, [], _∷_, _++_, map}

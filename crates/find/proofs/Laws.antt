@@ -1,6 +1,5 @@
--- Laws of what stands where in a sheet: what a reader reads is pastRows over by counting what is owed, the scope that counts is
--- the last one
--- with its id, and an index finds a sheet's nodes. By induction on levels, counts and rows. Assumes nothing.
+-- Laws of what stands where in a sheet: what a reader reads is passed over by counting what is owed, and of a brand's scopes the
+-- last with an id counts. By induction on levels, counts and rows. Assumes nothing.
 use mathlib.Core.Path.{_≡_, refl, sym, ap, _∙_}
 use mathlib.Core.Bool.{Bool, true, false, not}
 use mathlib.Core.List.{List, [], _∷_}
@@ -138,7 +137,7 @@ after-one : {A : Type 0} (P Q : Rows → Type 0) (g : Reading A) → ((rs : Rows
 after-one P Q (got a rs) f h = f rs h
 after-one P Q (no k rs) f h = tt
 
--- ---- rows that are pastRows over
+-- ---- rows that are passed over
 
 pub past-none : (rs : Rows) → pastRows rs 0 ≡ rs
 unfolding pastRows

@@ -1,4 +1,5 @@
--- `type_parts::primitive` meets its contract. Assumes nothing.
+-- `type_parts::primitive` meets its contract: each arm's number names its text in the table, and in the last arm a number
+-- below 12 that is none of 0 to 10 is 11. Assumes nothing.
 use native.Mathlib.Omega.{arith}
 use Prim.Native.Nat.{_≤_}
 use Rattle.type_parts.proofs.Laws.{above}
