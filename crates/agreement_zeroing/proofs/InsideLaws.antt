@@ -11,7 +11,7 @@ use lib.Dec.{eqb}
 use Rattle.text.specs.Bytes.{Str, cond}
 use Rattle.tree.specs.Tree.{Field, Node, Sheet}
 use Rattle.tree.specs.Read.{sheet, admitted}
-use Rattle.codegen_types.specs.Out.{ok}
+use Rattle.codegen_types.specs.Out.{ok, _then_}
 use Rattle.codegen_types.specs.TypeString.{nodeOf}
 use Rattle.codegen.specs.Zeroing.{zeroLine}
 use Rattle.place.specs.Place.{byId, nth}

@@ -2,7 +2,7 @@
 -- the start equal to what is left from here. Levels fall from a type to its parts, and below a level a type calls scopes, a
 -- scope its bindings, a binding its type. Assumes nothing.
 use mathlib.Core.Path.{_≡_, sym, _∙_}
-use Prim.Native.Nat.{ℕ, _+_, _*_}
+use Prim.Native.Nat.{ℕ, _+_, _*_, _<_}
 use lib.ListN.{drop}
 use borrow.Author.Needs.{needs}
 use borrow.Fn.Kinds.{In}

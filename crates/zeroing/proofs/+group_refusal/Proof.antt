@@ -1,7 +1,7 @@
 -- `zeroing::group_refusal`, which calls itself, meets its contract: the levels left fall, and the rows left fall in its loop.
 -- What the fields from here on meet is what all of them meet. Assumes nothing.
 use native.Mathlib.Omega.{arith}
-use Prim.Native.Nat.{_-_, ℕ}
+use Prim.Native.Nat.{_-_, ℕ, _<_}
 use mathlib.Core.List.{List}
 use mathlib.Core.Path.{refl, sym, _∙_}
 use lib.ListN.{length, drop}

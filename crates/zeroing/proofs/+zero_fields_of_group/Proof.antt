@@ -1,7 +1,7 @@
 -- `zeroing::zero_fields_of_group`, which calls itself, meets its contract: the levels left fall, and the rows left fall in its
 -- loop. Whatever the fields from here on add to the lines so far, all of them add to the start. Assumes nothing.
 use native.Mathlib.Omega.{arith}
-use Prim.Native.Nat.{_+_, _-_, _≤_, ℕ}
+use Prim.Native.Nat.{_+_, _-_, _≤_, ℕ, _<_}
 use mathlib.Core.List.{List}
 use mathlib.Core.Path.{_≡_, refl}
 use lib.ListN.{length, drop, length-set}
