@@ -172,7 +172,7 @@ fn fragment(
     from_pointer(t, buf, root, is_reader, slot.offset, slot.explicit, name)
 }
 
-// is_fallible: whether the result can be an error, that of an enum, of a parameter and of every pointer but AnyPointer.
+// is_fallible, whether the result can be an error: for an enum, a parameter and every pointer but AnyPointer it can.
 fn is_fallible(slot: Slot) -> bool
     ensures { λ r. ⌜ ((s : tree.Slot) → SlotIs slot s → r ≡ isFallible (s .ty)) ⌝ }
 {
