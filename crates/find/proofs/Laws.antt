@@ -15,10 +15,10 @@ use lib.Seq.{drop-cons}
 use package.types.Run.{OneOf, miss}
 use denote.Enum.Declared.{tagOf}
 use Rattle.row.proofs.Line.{the-type}
-use Rattle.row.proofs.Laws.{rows-out}
+use Rattle.row.proofs.Laws.{rows-out, rows-length}
 use Rattle.tree.proofs.OtherLines.{not-scope}
 use Rattle.text.specs.Bytes.{Str, cond}
-use Rattle.row.specs.Rows.{rows, restOf, onto}
+use Rattle.row.specs.Rows.{rows, restOf}
 use Rattle.row.specs.Line.{lineOf, lineAt, textOf, textAt, asParameter, asType, asScope, asUnbound, asNode}
 use Rattle.row.specs.declared.Line.{Line}
 use Rattle.row.specs.declared.Line.the-variants.{Root, Node, Parameter, Field, Group, Typ, Scope, Unbound, Value, Word, Bad}
@@ -252,18 +252,6 @@ past-scope left rs =
     after-one (λ rest. pastRows rs 1 ≡ pastRows rest 0) (λ rest. pastRows (restOf rs) (owed (lineAt rs)) ≡ rest)
     (read.scopeOf (typeOf left) rs)
     (λ rest e. rw add-zero at (sym (past-next rs 0)) ∙ e ∙ past-none rest) (passes-scope (typeOf left) (passes-type left) 0 rs)
-
--- a text has no more rows than bytes
-rows-length : (s : Str) → length (rows s) ≤ length s
-unfolding rows onto
-rows-length [] = omega arith
-rows-length (b ∷ s) = go (eqb b 10) (rows s) (rows-length s)
-  where
-    go : (t : Bool) (rs : Rows) → length rs ≤ length s → length {A = Str} (elim t [ true ↦ (b ∷ []) ∷ rs | false ↦ onto b rs ])
-        ≤ suc (length s)
-    go true rs h = omega arith
-    go false [] h = omega arith
-    go false (r ∷ rs) h = omega arith
 
 -- a row that owes nothing
 pub owed-none : (l : Line) → OneOf (0 ∷ 1 ∷ 2 ∷ 3 ∷ 4 ∷ 7 ∷ 8 ∷ 9 ∷ 10 ∷ []) (tagOf the-type l) → owed l ≡ 0
