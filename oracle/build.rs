@@ -4,8 +4,6 @@
 //! CAPNPC_SRC names the folder that holds capnpc/src; by default it is docs/src of the folder `shared` beside the
 //! project. KITLUBAS_LIB names the archive; by default the one that `rt staticlib exports` writes.
 
-#[path = "build/archive.rs"]
-mod archive;
 #[path = "build/cut.rs"]
 mod cut;
 
@@ -70,7 +68,15 @@ fn main() {
         write(file, cut_items(&read(&sources, file), items, file));
     }
 
-    archive::link(&setting("KITLUBAS_LIB", package.join("../target/staticlib/libexports.a")));
+    link(&setting("KITLUBAS_LIB", package.join("../target/staticlib/libexports.a")));
+}
+
+/// Tells cargo where the archive lies that src/boundary.rs links.
+fn link(archive: &Path) {
+    assert!(archive.exists(), "{}: not there; `rt staticlib exports` writes it", archive.display());
+    println!("cargo:rerun-if-changed={}", archive.display());
+    let folder = archive.parent().expect("the archive lies in a folder");
+    println!("cargo:rustc-link-search=native={}", folder.display());
 }
 
 fn setting(name: &str, default: PathBuf) -> PathBuf {

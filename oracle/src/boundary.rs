@@ -1,7 +1,6 @@
 //! The functions of Kitlubas' static library, as crates/exports has them. Every `unsafe` of this package is here.
 //! A slice passes as its pointer and its length; `at` is a fill count, and the answer is the new one.
 
-#[cfg(has_leaves)]
 pub mod leaves {
     #[link(name = "exports", kind = "static")]
     extern "C" {
@@ -49,7 +48,6 @@ pub mod leaves {
     }
 }
 
-#[cfg(has_admit)]
 pub mod admit {
     use crate::sheet::read::Refusal;
 
@@ -68,7 +66,6 @@ pub mod admit {
     }
 }
 
-#[cfg(has_answer)]
 pub mod answer {
     use crate::answer::Request;
     use crate::sheet::read::Refusal;

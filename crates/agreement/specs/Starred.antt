@@ -16,7 +16,7 @@ use Rattle.names.specs.Keywords.{isKeyword}
 use Rattle.names.specs.Names.{isAscii, taken, snakeFrom, camelToSnakeCase, defaultName, moduleName}
 use Rattle.column.specs.Number.{trimmed, digits, unpadded, columnOf, padded}
 use Rattle.column.specs.Texts.{isWord, isGraphic, all, isName, isGraphicText, endsIn}
-use Rattle.row.specs.Rows.{rows, onto, restOf}
+use Rattle.row.specs.Rows.{rows, joined, onto, restOf}
 use Rattle.row.specs.Line.{rootLine, nodeLine, parameterLine, fieldLine, groupLine}
 use Rattle.row.specs.Line.{typeLine, scopeLine, unboundLine, valueLine, wordLine}
 use Rattle.row.specs.Line.{mostA, mostB, mostC, mostCount, mostBits, reader, lineOf, lineAt, textStart, textOf, textAt}
@@ -27,7 +27,7 @@ use Rattle.tree.specs.Read as read
 use Rattle.tree.specs.Read.{admitted}
 use Rattle.tree.specs.Read.{bindingOf, scopeOf, typeFrom, typeOf, valueOf, wordsUpTo, wordsOf, slotOf}
 use Rattle.tree.specs.Read.{among, overlap, fieldsUpTo, fieldsOf, groupIds, paramsOf, membersOf, nodesOf, sheetOf}
-use Rattle.tree.specs.Print.{scopeCount, typeRows, wordRows, fieldRows, paramRows, nodeRows, sheetRows, joined, printed}
+use Rattle.tree.specs.Print.{scopeCount, typeRows, wordRows, fieldRows, paramRows, nodeRows, sheetRows, printed}
 use Rattle.codegen_types.specs.TypeString as types
 use Rattle.codegen_types.specs.TypeString.{typeString, scopesOf, nodeOf, argumentsOf, accumulate, outermostFirst}
 use Rattle.codegen_types.specs.TypeString.{angled, doBranding}
@@ -211,7 +211,7 @@ unfolding table same keywords.among isKeyword isAscii taken snakeFrom camelToSna
     reader rootLine nodeLine parameterLine fieldLine groupLine typeLine scopeLine unboundLine valueLine wordLine mostA
     mostB mostC mostCount mostBits columnOf unpadded digits trimmed isGraphicText isName all isGraphic isWord endsIn
     leafOf fieldOf byId nth typeText requestText typeString scopesOf nodeOf types.scopeOf argumentsOf accumulate
-    outermostFirst types.joined angled doBranding toLines flatMap join stringify ended signed getDataField setDataField
+    outermostFirst angled doBranding toLines flatMap join stringify ended signed getDataField setDataField
     primDefault getterMask getterText getterRequest generateHaser haserRequest generateSetter setterRequest zeroLine
     contains zeroFields zeroFieldsOfGroup zeroingRequest found stored getBits putBits typeName truth getMaskOf setMaskOf
     dataArg writes gets getsIn runOp runLine runLines runSetter runGetter

@@ -76,6 +76,7 @@ fn get_bool_head(t: Text, buf: &mut [u8], is_reader: bool, masked: bool) -> Text
     t.bytes(buf, b"self.builder.get_bool_field(")
 }
 
+// The get of a Bool, with its mask.
 pub fn get_bool_field(t: Text, buf: &mut [u8], is_reader: bool, offset: u64, mask: Mask) -> Text
     ensures { λ r. ⌜ Wrote (now (buf .entry)) t (getBoolField «is_reader» offset (maskText mask)) (now (buf .exit)) r ⌝ }
 {
@@ -101,6 +102,7 @@ fn get_data_head(t: Text, buf: &mut [u8], is_reader: bool, masked: bool) -> Text
     t.bytes(buf, b"self.builder.get_data_field::<")
 }
 
+// The get of a number of a type, with its mask.
 pub fn get_data_field(
     t: Text,
     buf: &mut [u8],
@@ -121,6 +123,7 @@ pub fn get_data_field(
     t.bytes(buf, b")")
 }
 
+// The get of an enum: its number, turned into the enum.
 pub fn get_enum_field(t: Text, buf: &mut [u8], is_reader: bool, offset: u64, mask: Mask) -> Text
     ensures { λ r. ⌜ Wrote (now (buf .entry)) t (getEnumField «is_reader» offset (maskText mask)) (now (buf .exit)) r ⌝ }
 {
@@ -138,6 +141,7 @@ fn set_bool_head(t: Text, buf: &mut [u8], masked: bool) -> Text
     t.bytes(buf, b"self.builder.set_bool_field(")
 }
 
+// A setter's line that writes a Bool, with its mask.
 pub fn set_bool_field(t: Text, buf: &mut [u8], offset: u64, value: &[u8], mask: Mask) -> Text
     ensures { λ r. ⌜ Wrote (now (buf .entry)) t (setBoolField offset (now (value .entry)) (maskText mask)) (now (buf .exit)) r ⌝ }
 {
@@ -159,6 +163,7 @@ fn set_data_head(t: Text, buf: &mut [u8], masked: bool) -> Text
     t.bytes(buf, b"self.builder.set_data_field::<")
 }
 
+// A setter's line that writes a number of a type, or an enum's number, with its mask.
 pub fn set_data_field(
     t: Text,
     buf: &mut [u8],
@@ -181,6 +186,7 @@ pub fn set_data_field(
     t.bytes(buf, b");")
 }
 
+// A setter's line that writes the union's tag.
 pub fn set_tag(t: Text, buf: &mut [u8], offset: u64, discriminant: u64) -> Text
     ensures { λ r. ⌜ Wrote (now (buf .entry)) t (setTag offset discriminant) (now (buf .exit)) r ⌝ }
 {
@@ -191,6 +197,7 @@ pub fn set_tag(t: Text, buf: &mut [u8], offset: u64, discriminant: u64) -> Text
     t.bytes(buf, b");")
 }
 
+// The lines that zero a Bool, a number or an enum by its type, a union's tag and a pointer.
 pub fn zero_bool(t: Text, buf: &mut [u8], offset: u64) -> Text
     ensures { λ r. ⌜ Wrote (now (buf .entry)) t (zeroBool offset) (now (buf .exit)) r ⌝ }
 {
@@ -227,6 +234,7 @@ pub fn clear_pointer(t: Text, buf: &mut [u8], offset: u64) -> Text
     t.bytes(buf, b").clear();")
 }
 
+// A haser's test of its pointer.
 pub fn not_null(t: Text, buf: &mut [u8], is_reader: bool, offset: u64) -> Text
     ensures { λ r. ⌜ Wrote (now (buf .entry)) t (notNull «is_reader» offset) (now (buf .exit)) r ⌝ }
 {
@@ -249,6 +257,7 @@ fn tag_test_head(t: Text, buf: &mut [u8], is_reader: bool) -> Text
     t.bytes(buf, b"if self.builder.get_data_field::<u16>(")
 }
 
+// A haser's line that answers false where the union has another member.
 pub fn tag_test(t: Text, buf: &mut [u8], is_reader: bool, offset: u64, discriminant: u64) -> Text
     ensures { λ r. ⌜ Wrote (now (buf .entry)) t (tagTest «is_reader» offset discriminant) (now (buf .exit)) r ⌝ }
 {

@@ -1,4 +1,4 @@
-// The code of a slot's getter, and the declaration of its default: what `getter_text` of codegen.rs writes after the result type.
+// The code of a slot's getter: what `getter_text` of codegen.rs gives beside the result type and the default's declaration.
 use slot::Slot;
 use text::Text;
 ghost use mathlib.Core.Path.{_≡_};
@@ -172,7 +172,7 @@ fn fragment(
     from_pointer(t, buf, root, is_reader, slot.offset, slot.explicit, name)
 }
 
-// is_fallible, of a slot with an option: only AnyPointer is not, and a parameter is.
+// is_fallible, whether the result can be an error: for an enum, a parameter and every pointer but AnyPointer it can.
 fn is_fallible(slot: Slot) -> bool
     ensures { λ r. ⌜ ((s : tree.Slot) → SlotIs slot s → r ≡ isFallible (s .ty)) ⌝ }
 {

@@ -70,6 +70,7 @@ pub fn initn_open(t: Text, buf: &mut [u8], name: Snake) -> Text
     t.bytes(buf, b"(self, length: u32) -> ")
 }
 
+// The call that sets a pointer to the value that is given.
 pub fn set_pointer(t: Text, buf: &mut [u8], root: &[u8], offset: u64) -> Text
     ensures { λ r. ⌜ Wrote (now (buf .entry)) t (setPointer (now (root .entry)) offset) (now (buf .exit)) r ⌝ }
 {
@@ -82,6 +83,7 @@ pub fn set_pointer(t: Text, buf: &mut [u8], root: &[u8], offset: u64) -> Text
     t.bytes(buf, b"), value, false)")
 }
 
+// The call that puts a new object behind a pointer: a list with as many elements as `size` says, or a struct, for which it is 0.
 pub fn init_pointer(t: Text, buf: &mut [u8], root: &[u8], offset: u64, size: &[u8]) -> Text
     ensures { λ r. ⌜ Wrote (now (buf .entry)) t
         (initPointer (now (root .entry)) offset (now (size .entry))) (now (buf .exit)) r ⌝ }
@@ -97,6 +99,7 @@ pub fn init_pointer(t: Text, buf: &mut [u8], root: &[u8], offset: u64, size: &[u
     t.bytes(buf, b")")
 }
 
+// The AnyPointer builder of a pointer, by which any object can be put there.
 pub fn new_pointer(t: Text, buf: &mut [u8], root: &[u8], offset: u64) -> Text
     ensures { λ r. ⌜ Wrote (now (buf .entry)) t (newPointer (now (root .entry)) offset) (now (buf .exit)) r ⌝ }
 {

@@ -1,4 +1,4 @@
--- Laws of `do_branding`: one step along the chain of a node's parents. Assumes nothing.
+-- Laws of refusals, and of `do_branding`: one step along the chain of a node's parents. Assumes nothing.
 use mathlib.Core.Path.{_≡_, refl}
 use mathlib.Core.List.{List, [], _∷_}
 use Prim.Native.Nat.{ℕ, zero, suc, _-_}
@@ -6,8 +6,13 @@ use native.Mathlib.Numerals.{sub-one}
 use lib.Dec.{eqb}
 use Rattle.text.specs.Bytes.{cond}
 use Rattle.tree.specs.Tree.{Sheet}
-use Rattle.codegen_types.specs.Out.{ok, refused, _then_}
+use Rattle.codegen_types.specs.Out.{Out, ok, refused, _then_, refusalOf}
 use Rattle.codegen_types.specs.TypeString.{Scope, nodeOf, scopeOf, argumentsOf, accumulate}
+
+-- what only builds something of a text is refused where the text is
+pub refusal-then : {A B : Type 0} (o : Out A) (f : A → B) → refusalOf (o then λ a. ok (f a)) ≡ refusalOf o
+refusal-then (ok a) f = refl
+refusal-then (refused k) f = refl
 
 pub accumulate-none : (sheet : Sheet) (scopes : List (ℕ × Scope)) (n id : ℕ) → n ≡ 0 → accumulate sheet scopes n id ≡ refused 4
 unfolding accumulate

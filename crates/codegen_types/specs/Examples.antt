@@ -4,11 +4,12 @@ use mathlib.Core.Path.{_≡_, refl}
 use mathlib.Core.List.{List, [], _∷_, map}
 use Prim.Native.Nat.{ℕ, zero, suc, _+_}
 use Rattle.text.specs.Bytes.{Str, ascii}
+use Rattle.text.specs.Lines.{join}
 use Rattle.tree.specs.Tree.{Ty, plain, list, enum, struct, interface, anyPointer, parameter, Scopes, end, inherit, bind, Binds}
 use Rattle.tree.specs.Tree.{stop, unbound, bound, Node, Sheet}
 use Rattle.codegen_types.specs.Out.{Out, ok, refused}
 use Rattle.codegen_types.specs.TypeString.{typeString, scopesOf, bindingsOf, nodeOf, scopeOf, allOf, argumentsOf}
-use Rattle.codegen_types.specs.TypeString.{accumulate, outermostFirst, joined, angled, doBranding, listString}
+use Rattle.codegen_types.specs.TypeString.{accumulate, outermostFirst, angled, doBranding, listString}
 use Rattle.codegen_types.specs.TypeString.{parameterName, parameterString}
 use Rattle.codegen_types.specs.declared.Leaf.{Leaf}
 use Rattle.codegen_types.specs.declared.Leaf.the-variants.{Reader, Builder, Owned, Client, ServerDispatch, Pipeline}
@@ -106,6 +107,6 @@ table =
     ∷ []
 
 worked : map (λ (r : Row). typeString (r .type) sheet (r .leaf)) table ≡ map (λ (r : Row). r .answer) table
-unfolding table chained typeString scopesOf bindingsOf nodeOf scopeOf allOf argumentsOf accumulate outermostFirst joined angled
+unfolding table chained typeString scopesOf bindingsOf nodeOf scopeOf allOf argumentsOf accumulate outermostFirst join angled
     doBranding listString parameterName parameterString
 worked = refl

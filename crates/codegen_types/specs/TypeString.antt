@@ -1,6 +1,5 @@
 -- `type_string`, `do_branding` and `get_qualified_module` over the tree of a sheet, in the Rust's names and order of
--- evaluation: the text, or the
--- refusal that is met first. Assumes nothing.
+-- evaluation: the text, or the refusal that is met first. Assumes nothing.
 use Prim.Native.Nat.{ℕ, zero, suc}
 use mathlib.Core.Bool.{Bool, true, false}
 use mathlib.Core.List.{List, [], _∷_, _++_, map}
@@ -8,6 +7,7 @@ use mathlib.Core.Option.{Option, none, some}
 use lib.Dec.{eqb, leb}
 use lib.ListN.{length, getD}
 use Rattle.text.specs.Bytes.{Str, ascii, cond, both}
+use Rattle.text.specs.Lines.{join}
 use Rattle.tree.specs.Tree.{Ty, plain, list, enum, struct, interface, anyPointer, parameter, Scopes, end, inherit, bind, Binds}
 use Rattle.tree.specs.Tree.{stop, unbound, bound, kind, Node, Sheet}
 use Rattle.codegen_types.specs.Out.{Out, ok, refused, _then_}
@@ -97,15 +97,9 @@ unfoldable pub outermostFirst : List (List Str) → List Str
 outermostFirst [] = []
 outermostFirst (arguments ∷ outer) = outermostFirst outer ++ arguments
 
--- join(",")
-unfoldable pub joined : List Str → Str
-joined [] = []
-joined (a ∷ []) = a
-joined (a ∷ b ∷ more) = a ++ ascii "," ++ joined (b ∷ more)
-
 unfoldable pub angled : List Str → Str
 angled [] = []
-angled (a ∷ more) = ascii "<" ++ joined (a ∷ more) ++ ascii ">"
+angled (a ∷ more) = ascii "<" ++ join (ascii ",") (a ∷ more) ++ ascii ">"
 
 unfoldable pub doBranding : Sheet → ℕ → List (ℕ × Scope) → Leaf → Str → Out Str
 doBranding sheet id scopes leaf theMod =

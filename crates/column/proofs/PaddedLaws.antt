@@ -4,7 +4,7 @@ use mathlib.Core.Path.{_≡_, refl, sym, ap, _∙_}
 use mathlib.Core.Bool.{Bool, true, false}
 use mathlib.Core.List.{[], _∷_, _++_, append-assoc, append-nil}
 use Prim.Native.Nat.{ℕ, zero, suc, _+_, _-_, _*_, _/_, _%_, _^_, _≤_, _<_}
-use native.Mathlib.Nat.{add-zero, pow-suc, div-lt-iff-lt-mul}
+use native.Mathlib.Nat.{add-zero}
 use native.Mathlib.Decide.{decLt}
 use native.Mathlib.Numerals.{add-one}
 use native.Mathlib.Omega.{arith}
@@ -15,7 +15,7 @@ use lib.Seq.{drop-cons, drop-drop, getD-drop, take-append-seam, length-take-le}
 use borrow.Author.Tests.{eq-eqb, ne-eqb, lt-ltb, le-ltb, ltb-true, ltb-false, eqb-true, eqb-false}
 use Rattle.text.specs.Bytes.{Str, cond, unit}
 use Rattle.text.specs.Decimal.{decimal}
-use Rattle.text.proofs.DecimalLaws.{decimal-low, decimal-high}
+use Rattle.text.proofs.DecimalLaws.{decimal-low, decimal-high, decimal-length}
 use Rattle.column.specs.Number.{trimmed, digits, lone, unpadded, number, within, columnOf, padded}
 use Rattle.column.specs.Texts.{endsIn}
 use Rattle.column.specs.declared.Number.{Number}
@@ -130,17 +130,6 @@ number-padded n s =
     rw (trimmed-spaces (21 - length (decimal n)) (decimal n) (decimal-no-space n)) (unpadded-decimal n s)
 
 -- ---- how many columns it takes
-
-decimal-length : (d n : ℕ) → n < 10 ^ suc d → length (decimal n) ≤ suc d
-decimal-length zero n h = rw (decimal-low n h) (omega arith)
-decimal-length (suc d) n h = go (decimal-length d (n / 10)) (ltb n 10) refl
-  where
-    go : (n / 10 < 10 ^ suc d → length (decimal (n / 10)) ≤ suc d) → (b : Bool) → ltb n 10 ≡ b → length (decimal n) ≤ suc (suc d)
-    go f true e = let l = ltb-true n 10 e in rw (decimal-low n l) (omega arith)
-    go f false e =
-        let l = ltb-false n 10 e in
-        let m = div-lt-iff-lt-mul {k = 10} {x = n} {y = 10 ^ suc d} (omega arith) .1 (rw (pow-suc 10 (suc d)) at h) in
-        rw (decimal-high n l, length-append) (omega (arith, f m))
 
 pub padded-length : (n : ℕ) → n < 2 ^ 64 → length (padded n) ≡ 21
 unfolding padded

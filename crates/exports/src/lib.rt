@@ -25,6 +25,7 @@ ghost use Rattle.requests.specs.declared.Request.the-variants.{Getter, Haser};
 ghost use Rattle.exports.specs.Boundary.{Filled, Named, Signed, Told, Asked, ask, requestOf};
 ghost use mathlib.Core.Path.{_≡_};
 
+// The number in decimal.
 #[no_mangle]
 pub extern "C" fn kitlubas_number(at: usize, buf: &mut [u8], n: u64) -> usize
     ensures { λ r. ⌜ Filled (now (buf .entry)) at (decimal n) (now (buf .exit)) r ⌝ }
@@ -33,7 +34,7 @@ pub extern "C" fn kitlubas_number(at: usize, buf: &mut [u8], n: u64) -> usize
     t.fill()
 }
 
-// Bits past the width are dropped. A width is taken that is 8, 16, 32 or 64.
+// The number with these bits in two's complement. Bits past the width are dropped; a width is taken that is 8, 16, 32 or 64.
 #[no_mangle]
 pub extern "C" fn kitlubas_signed(at: usize, buf: &mut [u8], width: u32, n: u64) -> usize
     ensures { λ r. ⌜ Signed (now (buf .entry)) at width n (now (buf .exit)) r ⌝ }
@@ -48,6 +49,7 @@ pub extern "C" fn kitlubas_signed(at: usize, buf: &mut [u8], width: u32, n: u64)
     }
 }
 
+// A line at a level of indentation; an empty line; what `stringify` makes of no lines.
 #[no_mangle]
 pub extern "C" fn kitlubas_line(at: usize, buf: &mut [u8], indent: usize, line: &[u8]) -> usize
     ensures { λ r. ⌜ Filled (now (buf .entry)) at (ended (toLines (Line (now (line .entry))) indent)) (now (buf .exit)) r ⌝ }
@@ -72,6 +74,8 @@ pub extern "C" fn kitlubas_no_lines(at: usize, buf: &mut [u8]) -> usize
     t.fill()
 }
 
+// The names made of a name: `camel_to_snake_case`, the name of its default's constant, `module_name`. A name is taken that has
+// at most 64 bytes, all of them ASCII.
 #[no_mangle]
 pub extern "C" fn kitlubas_snake(at: usize, buf: &mut [u8], name: &[u8]) -> usize
     ensures { λ r. ⌜ Named (now (buf .entry)) at camelToSnakeCase (now (name .entry)) (now (buf .exit)) r ⌝ }
@@ -154,6 +158,7 @@ fn ask(
     }
 }
 
+// The request for a getter, of the reader or the builder, as a function or not; and for a haser.
 fn getter(is_reader: bool, is_fn: bool) -> Request
     ensures { λ r. ⌜ r ≡ Getter «is_reader» «is_fn» ⌝ }
 {

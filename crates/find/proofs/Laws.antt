@@ -1,6 +1,5 @@
--- Laws of what stands where in a sheet: what a reader reads is pastRows over by counting what is owed, the scope that counts is
--- the last one
--- with its id, and an index finds a sheet's nodes. By induction on levels, counts and rows. Assumes nothing.
+-- Laws of what stands where in a sheet: what a reader reads is passed over by counting what is owed, and of a brand's scopes the
+-- last with an id counts. By induction on levels, counts and rows. Assumes nothing.
 use mathlib.Core.Path.{_≡_, refl, sym, ap, _∙_}
 use mathlib.Core.Bool.{Bool, true, false, not}
 use mathlib.Core.List.{List, [], _∷_}
@@ -16,10 +15,10 @@ use lib.Seq.{drop-cons}
 use package.types.Run.{OneOf, miss}
 use denote.Enum.Declared.{tagOf}
 use Rattle.row.proofs.Line.{the-type}
-use Rattle.row.proofs.Laws.{rows-out}
+use Rattle.row.proofs.Laws.{rows-out, rows-length}
 use Rattle.tree.proofs.OtherLines.{not-scope}
 use Rattle.text.specs.Bytes.{Str, cond}
-use Rattle.row.specs.Rows.{rows, restOf, onto}
+use Rattle.row.specs.Rows.{rows, restOf}
 use Rattle.row.specs.Line.{lineOf, lineAt, textOf, textAt, asParameter, asType, asScope, asUnbound, asNode}
 use Rattle.row.specs.declared.Line.{Line}
 use Rattle.row.specs.declared.Line.the-variants.{Root, Node, Parameter, Field, Group, Typ, Scope, Unbound, Value, Word, Bad}
@@ -138,7 +137,7 @@ after-one : {A : Type 0} (P Q : Rows → Type 0) (g : Reading A) → ((rs : Rows
 after-one P Q (got a rs) f h = f rs h
 after-one P Q (no k rs) f h = tt
 
--- ---- rows that are pastRows over
+-- ---- rows that are passed over
 
 pub past-none : (rs : Rows) → pastRows rs 0 ≡ rs
 unfolding pastRows
@@ -253,18 +252,6 @@ past-scope left rs =
     after-one (λ rest. pastRows rs 1 ≡ pastRows rest 0) (λ rest. pastRows (restOf rs) (owed (lineAt rs)) ≡ rest)
     (read.scopeOf (typeOf left) rs)
     (λ rest e. rw add-zero at (sym (past-next rs 0)) ∙ e ∙ past-none rest) (passes-scope (typeOf left) (passes-type left) 0 rs)
-
--- a text has no more rows than bytes
-rows-length : (s : Str) → length (rows s) ≤ length s
-unfolding rows onto
-rows-length [] = omega arith
-rows-length (b ∷ s) = go (eqb b 10) (rows s) (rows-length s)
-  where
-    go : (t : Bool) (rs : Rows) → length rs ≤ length s → length {A = Str} (elim t [ true ↦ (b ∷ []) ∷ rs | false ↦ onto b rs ])
-        ≤ suc (length s)
-    go true rs h = omega arith
-    go false [] h = omega arith
-    go false (r ∷ rs) h = omega arith
 
 -- a row that owes nothing
 pub owed-none : (l : Line) → OneOf (0 ∷ 1 ∷ 2 ∷ 3 ∷ 4 ∷ 7 ∷ 8 ∷ 9 ∷ 10 ∷ []) (tagOf the-type l) → owed l ≡ 0

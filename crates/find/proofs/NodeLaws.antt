@@ -1,6 +1,5 @@
 -- A node that is looked up by its id: a claim `Q` of what the Rust gives for its module or a parameter follows from the same
--- claim of what stands
--- in its rows. Assumes nothing.
+-- claim of what stands in its rows. Assumes nothing.
 use mathlib.Core.Path.{_≡_, refl}
 use mathlib.Core.List.{List, [], _∷_}
 use mathlib.Core.Option.{Option, none, some}

@@ -1,6 +1,5 @@
 -- What is read of a type by its row, of scopes and of bindings: one law for each way that a walk over types can go. A claim `P`
--- of
--- the type that is read follows from a claim of its parts. Assumes nothing.
+-- of the type that is read follows from a claim of its parts. Assumes nothing.
 use mathlib.Core.Path.{_≡_, refl, sym, ap, _∙_, subst}
 use mathlib.Core.Bool.{Bool, true, false}
 use mathlib.Core.List.{[], _∷_}

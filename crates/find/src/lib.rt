@@ -55,6 +55,7 @@ pub struct NodeRow {
     pub params: usize,
 }
 
+// The N row at a position. Of another row the parent is 0.
 pub fn node_row(s: &[u8], at: usize) -> NodeRow
     ensures { λ r. ⌜ (r .parent ≡ parentAt (rows (drop at (now (s .entry))))) ×
         (rows (drop (r .params) (now (s .entry))) ≡ restOf (rows (drop at (now (s .entry))))) ⌝ }

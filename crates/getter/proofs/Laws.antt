@@ -13,8 +13,9 @@ use Rattle.tree.specs.Tree as tree
 use Rattle.tree.specs.Tree.{Ty, plain, list, enum, struct, interface, anyPointer, parameter, kind, Scopes, Sheet}
 use Rattle.tree.specs.Reader.{Rows}
 use Rattle.tree.specs.Read.{typeOf}
-use Rattle.codegen_types.specs.Out.{Out, ok, refused, _then_, refusalOf}
+use Rattle.codegen_types.specs.Out.{Out, ok, refused, refusalOf}
 use Rattle.codegen_types.specs.TypeString.{typeString}
+use Rattle.codegen_types.proofs.Laws.{refusal-then}
 use Rattle.codegen_types.specs.declared.Leaf.{Leaf}
 use Rattle.codegen_types.specs.declared.Leaf.the-variants.{Client}
 use Rattle.codegen_types.specs.declared.Refusal.{Refusal}
@@ -32,10 +33,6 @@ client-same : (sheet : Sheet) (id : ℕ) (ss : Scopes) (leaf : Leaf)
     → refusalOf (typeString (interface id ss) sheet leaf) ≡ refusalOf (typeString (interface id ss) sheet Client)
 unfolding typeString
 client-same sheet id ss leaf = sym (brand-chain sheet leaf id ss) ∙ brand-chain sheet Client id ss
-
-refusal-then : {A B : Type 0} (o : Out A) (f : A → B) → refusalOf (o then λ a. ok (f a)) ≡ refusalOf o
-refusal-then (ok a) f = refl
-refusal-then (refused k) f = refl
 
 -- the result type refuses nothing that the type did not
 result-ok : (sheet : Sheet) (t : Ty) (a : ℕ) (leaf : Leaf) (typ : Str) → HasId t a → refusalOf (typeString t sheet leaf) ≡ None

@@ -1,14 +1,13 @@
 -- Laws of a text at the start of a buffer that holds it, of its length, and of what stands under a header. Assumes nothing.
 use mathlib.Core.Path.{_≡_, refl, ap, _∙_}
 use mathlib.Core.Bool.{Bool, true, false}
-use Prim.Native.Nat.{ℕ, zero, suc, _+_, _/_, _%_, _^_, _≤_, _<_, min}
-use native.Mathlib.Nat.{pow-suc, div-lt-iff-lt-mul}
+use Prim.Native.Nat.{ℕ, _+_, _^_, _≤_, _<_, min}
 use native.Mathlib.Omega.{arith}
-use borrow.Author.Tests.{ltb-true, ltb-false}
-use lib.Dec.{ltb, lit<}
+use borrow.Author.Tests.{ltb-false}
+use lib.Dec.{ltb}
 use lib.ListN.{length, take, drop, length-append}
 use lib.Seq.{take-at}
-use Rattle.text.specs.Bytes.{Str, unit, cond}
+use Rattle.text.specs.Bytes.{Str, cond}
 use Rattle.text.specs.Decimal.{decimal}
 use Rattle.text.specs.Text.{textAt, Wrote}
 use Rattle.text.specs.Answer as text
@@ -16,7 +15,7 @@ use Rattle.text.specs.Answer.{placed}
 use Rattle.text.specs.declared.Text.{Text}
 use Rattle.text.proofs.Laws.{kept}
 use Rattle.text.proofs.Places.{adv-fits, put-placed}
-use Rattle.text.proofs.DecimalLaws.{decimal-low, decimal-high}
+use Rattle.text.proofs.DecimalLaws.{decimal-length}
 use Rattle.tree.proofs.OtherLines.{never}
 use Rattle.codegen_types.specs.Out.{Out, ok, refused}
 use Rattle.requests.specs.Requests.{given}
@@ -40,16 +39,6 @@ at-start l w l′ t₀ t r b h z e c =
     rw (g, e .bytes, z, put-placed l 0 w (omega arith) b) (placed-first l w)
 
 -- a number of 64 bits has at most 20 digits
-decimal-length : (k n : ℕ) → n < 10 ^ suc k → length (decimal n) ≤ suc k
-decimal-length zero n h = rw (decimal-low n h) (omega arith)
-decimal-length (suc k) n h = go (decimal-length k (n / 10)) (ltb n 10) refl
-  where
-    go : (n / 10 < 10 ^ suc k → length (decimal (n / 10)) ≤ suc k) → (b : Bool) → ltb n 10 ≡ b → length (decimal n) ≤ suc (suc k)
-    go f true e = rw (decimal-low n (ltb-true n 10 e)) (omega arith)
-    go f false e =
-        let g = f (div-lt-iff-lt-mul (lit< tt) .1 (rw (pow-suc 10 (suc k)) at h)) in
-        rw (decimal-high n (ltb-false n 10 e), length-append (decimal (n / 10)) (unit (48 + n % 10))) (omega arith)
-
 short : (n : ℕ) → n < 2 ^ 64 → length (decimal n) ≤ 20
 short n h = decimal-length 19 n (omega arith)
 

@@ -25,7 +25,8 @@ use Rattle.tree.proofs.FieldLaws.{fields-here}
 use Rattle.printed.proofs.Reading.{line-here, text-here, Reads, reads-none, reads-line, reads-both, reads-then, reads-map}
 use Rattle.printed.proofs.Reading.{Tells, told, nothing, tells-then, tells-map, tells-cond}
 use Rattle.printed.proofs.Lines.{tells-field, tells-group, tells-value, tells-word}
-use Rattle.printed.proofs.Tests.{both-true, holds, _and_, fits-most, most-fits, not-true, true-not, id-most, most-id}
+use Rattle.text.proofs.BytesLaws.{both-true}
+use Rattle.printed.proofs.Tests.{holds, _and_, fits-most, most-fits, not-true, true-not, id-most, most-id}
 use Rattle.printed.proofs.Types.{Room, room-rest, room-type, read-type, tell-type}
 use Rattle.printed.proofs.Fresh.{fresh, fresh-append, fresh-arm}
 use Rattle.row.specs.declared.Line.the-variants as line

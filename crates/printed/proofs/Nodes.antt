@@ -20,7 +20,8 @@ use Rattle.tree.specs.WellFormed.{fits, isId, isFlag, every, fieldFits, nodeFit
 use Rattle.printed.proofs.Reading.{line-here, text-here, Reads, reads-none, reads-line, reads-then, reads-map}
 use Rattle.printed.proofs.Reading.{Tells, told, nothing, tells-then, tells-map, tells-cond}
 use Rattle.printed.proofs.Lines.{tells-node, tells-parameter}
-use Rattle.printed.proofs.Tests.{both-true, holds, _and_, fits-most, most-fits, not-true, true-not, id-most, most-id}
+use Rattle.text.proofs.BytesLaws.{both-true}
+use Rattle.printed.proofs.Tests.{holds, _and_, fits-most, most-fits, not-true, true-not, id-most, most-id}
 use Rattle.printed.proofs.Types.{Room, room-rest}
 use Rattle.printed.proofs.Fresh.{fresh, fresh-append}
 use Rattle.printed.proofs.Fields.{AfterField, AfterFields, room-fields, fields-follow, read-fields}

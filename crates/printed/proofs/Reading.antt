@@ -5,13 +5,12 @@ use mathlib.Core.Bool.{Bool, true, false}
 use mathlib.Core.List.{[], _∷_}
 use Prim.Native.Nat.{ℕ, zero, suc}
 use Rattle.text.specs.Bytes.{Str, cond}
-use Rattle.row.specs.Rows.{rows}
+use Rattle.row.specs.Rows.{rows, joined}
 use Rattle.row.specs.Line.{lineAt, textAt}
 use Rattle.row.specs.Print.{printLine, Fits}
 use Rattle.row.specs.declared.Line.{Line}
 use Rattle.row.proofs.PrintLaws.{read-printed, text-printed, rows-printed}
 use Rattle.tree.specs.Reader.{Rows, Reading, got, no, Reader, _then_, times}
-use Rattle.tree.specs.Print.{joined}
 
 -- a line printed within its bounds is read as that line with its text
 module _ (l : Line) (text : Str) (rs : Rows) (fits : Fits l text) where

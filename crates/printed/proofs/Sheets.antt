@@ -2,7 +2,7 @@
 -- the same bytes. The rows of a sheet come back when their bytes are joined and cut again. Assumes nothing.
 use mathlib.Core.Path.{_≡_, refl, sym, ap, _∙_}
 use mathlib.Core.Bool.{Bool, true, false}
-use mathlib.Core.List.{List, [], _∷_, _++_}
+use mathlib.Core.List.{List, [], _∷_}
 use Prim.Native.Nat.{ℕ, _+_, _≤_, _<_}
 use native.Mathlib.Omega.{arith}
 use borrow.Author.Tests.{ltb-true, ltb-false, lt-ltb, le-ltb, leb-true, le-leb}
@@ -10,14 +10,14 @@ use lib.Dec.{ltb, leb}
 use lib.ListN.{length, length-append}
 use Rattle.text.specs.Bytes.{Str}
 use Rattle.column.specs.Texts.{isGraphicText}
-use Rattle.row.specs.Rows.{rows, restOf, size, joined as joinedRows}
+use Rattle.row.specs.Rows.{rows, joined, restOf, size}
 use Rattle.row.specs.Line.{textAt}
 use Rattle.row.specs.Print.{printRoot}
 use Rattle.row.proofs.Laws.{joined-rows}
 use Rattle.tree.specs.Tree.{Node, Sheet}
 use Rattle.tree.specs.Reader.{Rows, Reading, no, mapR}
 use Rattle.tree.specs.Read.{nodesOf, sheetOf, Admitted, sheet, refused, numbered, admitted}
-use Rattle.tree.specs.Print.{nodeRows, sheetRows, joined, printed}
+use Rattle.tree.specs.Print.{nodeRows, sheetRows, printed}
 use Rattle.tree.specs.WellFormed.{every, distinct, nodeFits, nodeIds, allGroupIds, wellFormed}
 use Rattle.printed.specs.Claims.{ReadsPrinted, PrintsRead}
 use Rattle.printed.proofs.Reading.{line-here, text-here, Reads, reads-back, reads-line, reads-map}
@@ -34,11 +34,6 @@ joined-size : (rs : Rows) → length (joined rs) ≡ size rs
 unfolding joined size
 joined-size [] = refl
 joined-size (r ∷ rs) = length-append r (joined rs) ∙ ap (λ (n : ℕ). length r + n) (joined-size rs)
-
-joined-same : (rs : Rows) → joined rs ≡ joinedRows rs
-unfolding joined joinedRows
-joined-same [] = refl
-joined-same (r ∷ rs) = ap (r ++_) (joined-same rs)
 
 -- what holds of a well-formed tree; nodes and groups have ids that are new one after the other
 record Formed (sh : Sheet) : Type 0 where
@@ -121,7 +116,7 @@ tree-printed :
     (s : Str) (sh : Sheet) (rest : Rows) → length s ≤ 65536 → SheetAt (rows s) sh rest → (printed sh ≡ s) × (wellFormed sh ≡ true)
 unfolding printed
 tree-printed s sh rest l h =
-    let e : printed sh ≡ s = ap joined (sym (h .is)) ∙ joined-same (rows s) ∙ joined-rows s in
+    let e : printed sh ≡ s = ap joined (sym (h .is)) ∙ joined-rows s in
     let few = h .nodes .few in (
       e,
       well-formed sh (record {

@@ -8,13 +8,9 @@ use borrow.Author.Tests.{ltb-true, lt-ltb}
 use lib.ListN.{getD}
 use lib.Pow.{pow-pos}
 use Rattle.text.specs.Bytes.{cond, both}
+use Rattle.text.proofs.BytesLaws.{both-true}
 use Rattle.column.specs.Number.{most}
 use Rattle.tree.specs.WellFormed.{fits, isId, allOf}
-
--- two tests that both hold
-pub both-true : (a b : Bool) → both a b ≡ true → (a ≡ true) × (b ≡ true)
-both-true true b e = (refl, e)
-both-true false b e = (e, cc)
 
 -- each of some tests that all hold
 pub holds : (ts : List Bool) → allOf ts ≡ true → (k : ℕ) → getD ts k true ≡ true

@@ -25,7 +25,8 @@ use Rattle.tree.specs.WellFormed.{fits, typeFits, scopesFit, bindsFit}
 use Rattle.printed.proofs.Reading.{line-here, Reads, reads-none, reads-line, reads-map, reads-times}
 use Rattle.printed.proofs.Reading.{Tells, told, nothing, tells-map, tells-cond, tells-times}
 use Rattle.printed.proofs.Lines.{Says, tells-type, tells-scope, tells-unbound}
-use Rattle.printed.proofs.Tests.{both-true, _and_, fits-most, most-fits}
+use Rattle.text.proofs.BytesLaws.{both-true}
+use Rattle.printed.proofs.Tests.{_and_, fits-most, most-fits}
 
 -- ---- how many bytes: each part has a row of its own
 

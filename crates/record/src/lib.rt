@@ -53,6 +53,7 @@ pub enum Test {
 }
 
 impl Width {
+    // The width in bytes.
     pub fn bytes(self) -> usize
         ensures { λ r. ⌜ r ≡ bytesOf self ⌝ }
     {
@@ -65,6 +66,7 @@ impl Width {
     }
 }
 
+// The byte and the bit of a Bool.
 pub fn bit_address(o: BitOffset) -> BitAddress
     ensures { λ r. ⌜ r ≡ bitAddress o ⌝ }
 {
@@ -74,6 +76,7 @@ pub fn bit_address(o: BitOffset) -> BitAddress
     }
 }
 
+// The first byte of a number or an enum.
 pub fn element_address(width: Width, o: ElementOffset) -> usize
     ensures { λ r. ⌜ r ≡ elementAddress width o ⌝ }
 {
@@ -86,6 +89,7 @@ pub fn element_address(width: Width, o: ElementOffset) -> usize
     }
 }
 
+// The byte of a pointer, among those that say whether pointers are null.
 pub fn pointer_address(o: PointerOffset) -> usize
     ensures { λ r. ⌜ r ≡ pointerAddress o ⌝ }
 {
@@ -172,6 +176,7 @@ fn flag(b: bool) -> u64
 
 // ---- Bools
 
+// The bit there, exclusive or with the mask.
 pub fn get_bool_field_mask(section: &[u8], o: BitOffset, mask: bool) -> Get
     ensures { λ r. ⌜ r ≡ getAnswer (getBits (boolAt o) (bit mask) (sectionBits (now (section .entry)))) ⌝ }
 {
@@ -184,12 +189,14 @@ pub fn get_bool_field_mask(section: &[u8], o: BitOffset, mask: bool) -> Get
     }
 }
 
+// The bit there.
 pub fn get_bool_field(section: &[u8], o: BitOffset) -> Get
     ensures { λ r. ⌜ r ≡ getAnswer (getBits (boolAt o) 0 (sectionBits (now (section .entry)))) ⌝ }
 {
     get_bool_field_mask(section, o, false)
 }
 
+// Writes the value, exclusive or with the mask.
 pub fn set_bool_field_mask(section: &mut [u8], o: BitOffset, value: bool, mask: bool) -> Set
     ensures { λ r. ⌜ Put (boolAt o) (bit value) (bit mask) (now (section .entry)) (now (section .exit)) r ⌝ }
 {
@@ -203,6 +210,7 @@ pub fn set_bool_field_mask(section: &mut [u8], o: BitOffset, value: bool, mask: 
     }
 }
 
+// Writes the value as it is.
 pub fn set_bool_field(section: &mut [u8], o: BitOffset, value: bool) -> Set
     ensures { λ r. ⌜ Put (boolAt o) (bit value) 0 (now (section .entry)) (now (section .exit)) r ⌝ }
 {
@@ -211,6 +219,7 @@ pub fn set_bool_field(section: &mut [u8], o: BitOffset, value: bool) -> Set
 
 // ---- numbers and enums, by their bits
 
+// The bits there as a number, exclusive or with the mask's low bits, as many as the width has.
 pub fn get_data_field_mask(section: &[u8], width: Width, o: ElementOffset, mask: u64) -> Get
     ensures { λ r. ⌜ r ≡ getAnswer (getBits (dataAt width o) mask (sectionBits (now (section .entry)))) ⌝ }
 {
@@ -223,12 +232,14 @@ pub fn get_data_field_mask(section: &[u8], width: Width, o: ElementOffset, mask:
     }
 }
 
+// The bits there as a number.
 pub fn get_data_field(section: &[u8], width: Width, o: ElementOffset) -> Get
     ensures { λ r. ⌜ r ≡ getAnswer (getBits (dataAt width o) 0 (sectionBits (now (section .entry)))) ⌝ }
 {
     get_data_field_mask(section, width, o, 0)
 }
 
+// Writes the value's low bits, as many as the width has, exclusive or with the mask.
 pub fn set_data_field_mask(
     section: &mut [u8],
     width: Width,
@@ -248,6 +259,7 @@ pub fn set_data_field_mask(
     }
 }
 
+// Writes the value's low bits as they are.
 pub fn set_data_field(section: &mut [u8], width: Width, o: ElementOffset, value: u64) -> Set
     ensures { λ r. ⌜ Put (dataAt width o) value 0 (now (section .entry)) (now (section .exit)) r ⌝ }
 {
@@ -272,6 +284,7 @@ pub fn tag_is(section: &[u8], o: ElementOffset, member: u16) -> Test
 
 // ---- pointers
 
+// Whether a pointer is null: its byte is 0.
 pub fn is_pointer_field_null(pointers: &[u8], o: PointerOffset) -> Test
     ensures { λ r. ⌜ r ≡ testAnswer (nullFlag o (flags (now (pointers .entry)))) ⌝ }
 {
@@ -287,6 +300,7 @@ pub fn is_pointer_field_null(pointers: &[u8], o: PointerOffset) -> Test
     }
 }
 
+// Makes a pointer null.
 pub fn clear(pointers: &mut [u8], o: PointerOffset) -> Set
     ensures { λ r. ⌜ Cleared o (now (pointers .entry)) (now (pointers .exit)) r ⌝ }
 {

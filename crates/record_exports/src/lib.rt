@@ -36,6 +36,7 @@ enum Bytes {
     No,
 }
 
+// The width of so many bytes, if there is one.
 fn width_of(width: u32) -> Bytes
     ensures { λ r. ⌜ r ≡ widthOf width ⌝ }
 {
@@ -58,6 +59,7 @@ fn done(s: Set) -> bool
     }
 }
 
+// What a test found, as a number.
 fn number(t: Test) -> u8
     ensures { λ r. ⌜ r ≡ numberOf t ⌝ }
 {
@@ -68,6 +70,7 @@ fn number(t: Test) -> u8
     }
 }
 
+// Bools: got and set with a mask and without.
 #[no_mangle]
 pub extern "C" fn kitlubas_get_bool_mask(
     section: &[u8],
@@ -120,6 +123,7 @@ pub extern "C" fn kitlubas_set_bool(section: &mut [u8], offset: u32, value: bool
     done(record::set_bool_field(section, BitOffset(offset), value))
 }
 
+// Numbers and enums by their bits: got and set with a mask and without.
 #[no_mangle]
 pub extern "C" fn kitlubas_get_data_mask(
     section: &[u8],
@@ -193,6 +197,7 @@ pub extern "C" fn kitlubas_set_data(section: &mut [u8], width: u32, offset: u32,
     done(record::set_data_field(section, w, ElementOffset(offset), value))
 }
 
+// Whether a union has the member with this number.
 #[no_mangle]
 pub extern "C" fn kitlubas_tag_is(section: &[u8], offset: u32, member: u16) -> u8
     ensures { λ r. ⌜ r ≡ testNumber (tagIs (elements offset) member (sectionBits (now (section .entry)))) ⌝ }
@@ -200,6 +205,7 @@ pub extern "C" fn kitlubas_tag_is(section: &[u8], offset: u32, member: u16) -> u
     number(record::tag_is(section, ElementOffset(offset), member))
 }
 
+// Whether a pointer is null.
 #[no_mangle]
 pub extern "C" fn kitlubas_is_pointer_null(pointers: &[u8], offset: u32) -> u8
     ensures { λ r. ⌜ r ≡ testNumber (nullFlag (pointerAt offset) (flags (now (pointers .entry)))) ⌝ }
@@ -207,6 +213,7 @@ pub extern "C" fn kitlubas_is_pointer_null(pointers: &[u8], offset: u32) -> u8
     number(record::is_pointer_field_null(pointers, PointerOffset(offset)))
 }
 
+// Makes a pointer null.
 #[no_mangle]
 pub extern "C" fn kitlubas_clear(pointers: &mut [u8], offset: u32) -> bool
     ensures answer { λ r. ⌜ Left (clearFlag (pointerAt offset) (flags (now (pointers .entry))))

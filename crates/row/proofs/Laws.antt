@@ -155,6 +155,18 @@ size-rows (b ∷ s) = go (size-rows s) (eqb b 10) refl
     go h true e = rw (rows, e) (omega (arith, h))
     go h false e = rw (rows, e) (size-onto b (rows s) ∙ ap suc h)
 
+-- there are no more rows than bytes
+pub rows-length : (s : Str) → length (rows s) ≤ length s
+unfolding rows onto
+rows-length [] = omega arith
+rows-length (b ∷ s) = go (eqb b 10) (rows s) (rows-length s)
+  where
+    go : (t : Bool) (rs : List Str) → length rs ≤ length s
+        → length {A = Str} (elim t [ true ↦ (b ∷ []) ∷ rs | false ↦ onto b rs ]) ≤ suc (length s)
+    go true rs h = omega arith
+    go false [] h = omega arith
+    go false (r ∷ rs) h = omega arith
+
 -- rows joined are the bytes again
 pub joined-rows : (s : Str) → joined (rows s) ≡ s
 unfolding joined rows onto

@@ -22,6 +22,7 @@ use Rattle.codegen_types.specs.Out.{Out, ok, refused, _then_, refusalOf}
 use Rattle.codegen_types.specs.Leaf.{display, bareName, lifetimeComma}
 use Rattle.codegen_types.specs.TypeString.{listModule, plainString, typeString, listString, parameterString, parameterName}
 use Rattle.codegen_types.specs.TypeString.{nodeOf, getQualifiedModule, elementLeaf}
+use Rattle.codegen_types.proofs.Laws.{refusal-then}
 use Rattle.codegen_types.specs.declared.Leaf.{Leaf}
 use Rattle.codegen_types.specs.declared.Leaf.the-variants.{Reader, Builder, Owned, Client, Server, ServerDispatch, Pipeline}
 use Rattle.codegen_types.specs.declared.Leaf.the-variants.{GetType}
@@ -52,11 +53,6 @@ Sound Server = ⊥
 Sound ServerDispatch = ⊥
 Sound Pipeline = ⊥
 Sound GetType = ⊥
-
--- a text that is written in some way is refused where it is
-refusal-then : {X Y : Type 0} (o : Out X) (f : X → Y) → refusalOf (o then λ a. ok (f a)) ≡ refusalOf o
-refusal-then (ok a) f = refl
-refusal-then (refused k) f = refl
 
 list-refusal : ℕ → Out Str → Refusal
 list-refusal k o = cond (eqb k 12) None (cond (eqb k 13) None (cond (eqb k 18) (Number 6) (refusalOf o)))

@@ -25,6 +25,7 @@ pub enum Answer {
     Refused { number: u64, line: usize },
 }
 
+// The answer for a sheet; its index is that of all nodes where the sheet is admitted.
 pub struct Admission {
     pub answer: Answer,
     pub index: Index,

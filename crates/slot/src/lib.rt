@@ -4,6 +4,7 @@ ghost use lib.ListN.{drop};
 ghost use Rattle.row.specs.Rows.{rows};
 ghost use Rattle.slot.specs.Slot.{TypeRowIs, SlotOn};
 
+// A slot's numbers as the sheet has them. The first four are those of the F row.
 pub struct Slot {
     pub offset: u64,
     pub discriminant: u64,

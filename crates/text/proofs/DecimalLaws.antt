@@ -8,7 +8,7 @@ use native.Mathlib.Numerals.{add-one}
 use native.Mathlib.Omega.{arith}
 use borrow.Author.Tests.{lt-ltb, le-ltb, ltb-true, ltb-false}
 use lib.Dec.{ltb, lit<}
-use lib.ListN.{length, drop, set, length-set, drop-of-length-le}
+use lib.ListN.{length, drop, set, length-append, length-set, drop-of-length-le}
 use lib.Seq.{drop-cons, getD-set-same, drop-set-lt}
 use Rattle.text.specs.Bytes.{unit}
 use Rattle.text.specs.Decimal.{digits, decimal, signed}
@@ -43,6 +43,17 @@ unfolding decimal
 decimal-high n h =
     fuel n (suc n) n (omega arith) (omega arith) ∙ digits-high n n h
     ∙ ap (λ (x : List ℕ). x ++ unit (48 + n % 10)) (fuel n (n / 10) (n / 10) (omega arith) (omega arith))
+
+-- how many digits it has at most
+pub decimal-length : (d n : ℕ) → n < 10 ^ suc d → length (decimal n) ≤ suc d
+decimal-length zero n h = rw (decimal-low n h) (omega arith)
+decimal-length (suc d) n h = go (decimal-length d (n / 10)) (ltb n 10) refl
+  where
+    go : (n / 10 < 10 ^ suc d → length (decimal (n / 10)) ≤ suc d) → (b : Bool) → ltb n 10 ≡ b → length (decimal n) ≤ suc (suc d)
+    go f true e = rw (decimal-low n (ltb-true n 10 e)) (omega arith)
+    go f false e =
+        let g = f (div-lt-iff-lt-mul (lit< tt) .1 (rw (pow-suc 10 (suc d)) at h)) in
+        rw (decimal-high n (ltb-false n 10 e), length-append (decimal (n / 10)) (unit (48 + n % 10))) (omega arith)
 
 pub signed-low : (half n : ℕ) → n < half → signed half n ≡ decimal n
 unfolding signed

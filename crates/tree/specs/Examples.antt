@@ -8,7 +8,7 @@ use Rattle.text.specs.Bytes.{Str, ascii, unit}
 use Rattle.text.specs.Decimal.{decimal}
 use Rattle.column.specs.Number.{trimmed, digits, unpadded, columnOf, padded}
 use Rattle.column.specs.Texts.{isWord, isGraphic, all, isName, isGraphicText, endsIn}
-use Rattle.row.specs.Rows.{rows, onto, restOf, newlines, size, lineNo}
+use Rattle.row.specs.Rows.{rows, joined, onto, restOf, newlines, size, lineNo}
 use Rattle.row.specs.Line.{rootLine, nodeLine, parameterLine, fieldLine, groupLine}
 use Rattle.row.specs.Line.{typeLine, scopeLine, unboundLine, valueLine, wordLine}
 use Rattle.row.specs.Line.{mostA, mostB, mostC, mostCount, mostBits, reader, lineOf, lineAt, textStart, textOf, textAt}
@@ -23,7 +23,7 @@ use Rattle.tree.specs.Read.{bindingOf, scopeOf, typeFrom, typeOf, valueO
 use Rattle.tree.specs.Read.{among, overlap, fieldOf, fieldsUpTo, fieldsOf, groupIds, paramsOf, membersOf, nodeOf}
 use Rattle.tree.specs.Read.{nodesOf, sheetOf}
 use Rattle.tree.specs.Print.{scopeCount, bindCount, typeRows, wordRows, fieldRows, paramRows, nodeRows, sheetRows}
-use Rattle.tree.specs.Print.{joined, printed}
+use Rattle.tree.specs.Print.{printed}
 use Rattle.tree.specs.WellFormed.{every, distinct, typeFits, nodeIds, allGroupIds, wellFormed}
 
 -- R ::capnp, N 7 0 0 1 0 0 0 bed

@@ -1,7 +1,8 @@
 -- A tree printed as a sheet: for each part its rows, in front of the rows that follow. Assumes nothing.
-use mathlib.Core.List.{List, [], _∷_, _++_}
+use mathlib.Core.List.{List, [], _∷_}
 use Prim.Native.Nat.{ℕ, suc}
 use Rattle.text.specs.Bytes.{Str}
+use Rattle.row.specs.Rows.{joined}
 use Rattle.row.specs.Print.{printRoot, printNode, printParameter, printField, printGroup}
 use Rattle.row.specs.Print.{printType, printScope, printUnbound, printValue, printWord}
 use Rattle.tree.specs.Tree.{Ty, plain, list, enum, struct, interface, anyPointer, parameter}
@@ -66,11 +67,6 @@ nodeRows (n ∷ ns) =
 
 unfoldable pub sheetRows : Sheet → Rows
 sheetRows sh = printRoot (sh .root) ∷ nodeRows (sh .nodes)
-
--- rows joined
-unfoldable pub joined : Rows → Str
-joined [] = []
-joined (r ∷ rs) = r ++ joined rs
 
 unfoldable pub printed : Sheet → Str
 printed sh = joined (sheetRows sh)

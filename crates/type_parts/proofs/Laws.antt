@@ -9,6 +9,7 @@ use package.types.Run.{OneOf, miss}
 use denote.Enum.Declared.{tagOf}
 use Rattle.codegen_types.proofs.Leaf.{the-type}
 use Rattle.text.specs.Bytes.{Str, ascii, unit}
+use Rattle.text.specs.Lines.{join}
 use Rattle.text.specs.Text.{put, adv, Wrote}
 use Rattle.text.specs.declared.Text.{Text}
 use Rattle.text.proofs.Laws.{_⨾_}
@@ -16,7 +17,7 @@ use Rattle.row.specs.Rows.{restOf}
 use Rattle.row.specs.Line.{lineAt, textAt, asParameter}
 use Rattle.row.specs.declared.Line.{Line}
 use Rattle.tree.specs.Reader.{Rows}
-use Rattle.codegen_types.specs.TypeString.{parameterString, joined, angled}
+use Rattle.codegen_types.specs.TypeString.{parameterString, angled}
 use Rattle.codegen_types.specs.Leaf.{bareName, maybeColons, leafArguments}
 use Rattle.codegen_types.specs.declared.Leaf.{Leaf}
 use Rattle.codegen_types.specs.declared.Leaf.the-variants.{Reader, Builder, Owned, Client, Server, ServerDispatch, Pipeline}
@@ -119,10 +120,10 @@ _⨟_ {p = p} {x = x} {y = y} a b = record {
 }
 
 -- arguments in angle brackets
-joined-listed : (w : Str) (ws : List Str) → joined (w ∷ ws) ≡ w ++ listed 44 ws
-unfolding joined listed
-joined-listed w [] = sym (append-nil w)
-joined-listed w (v ∷ ws) = rw (joined-listed v ws) (lemma w (ascii ",") v (listed 44 ws))
+join-listed : (w : Str) (ws : List Str) → join (ascii ",") (w ∷ ws) ≡ w ++ listed 44 ws
+unfolding join listed
+join-listed w [] = sym (append-nil w)
+join-listed w (v ∷ ws) = rw (join-listed v ws) (lemma w (ascii ",") v (listed 44 ws))
   where
     lemma : (a b c d : Str) → a ++ b ++ (c ++ d) ≡ a ++ (b ++ c ++ d)
     lemma a b c d = simp append-assoc
@@ -130,7 +131,7 @@ joined-listed w (v ∷ ws) = rw (joined-listed v ws) (lemma w (ascii ",") v (lis
 angled-listed : (ws : List Str) → angled ws ≡ listed 60 ws ++ closer (sepAfter 60 ws)
 unfolding angled listed sepAfter
 angled-listed [] = refl
-angled-listed (w ∷ ws) = rw (joined-listed w ws) (lemma (ascii "<") w (listed 44 ws) (ascii ">"))
+angled-listed (w ∷ ws) = rw (join-listed w ws) (lemma (ascii "<") w (listed 44 ws) (ascii ">"))
   where
     lemma : (a b c d : Str) → a ++ (b ++ c) ++ d ≡ a ++ b ++ c ++ d
     lemma a b c d = simp append-assoc

@@ -81,7 +81,7 @@ pub fn any_owned(root: &[u8], t: Text, buf: &mut [u8]) -> Text
     t.bytes(buf, b"::any_pointer::Owned")
 }
 
-// What a parameter's trait names.
+// An associated type of a parameter, as `<T as ::capnp::traits::Owned>::Reader<'a>`.
 fn projected(root: &[u8], name: &[u8], tail: &[u8], t: Text, buf: &mut [u8]) -> Text
     ensures { λ r. ⌜ Wrote (now (buf .entry)) t (ascii "<" ++ now (name .entry) ++ ascii " as " ++ now (root .entry) ++ now
         (tail .entry)) (now (buf .exit)) r ⌝ }

@@ -21,13 +21,14 @@ use Rattle.row.specs.declared.Line.{Line}
 use Rattle.row.specs.declared.Line.the-variants.{Scope, Unbound}
 use Rattle.tree.specs.Tree.{list, struct, Scopes, end, Binds, stop, bound, Node, Sheet}
 use Rattle.tree.specs.Reader.{Rows, Reading, got, no, times}
+use Rattle.tree.proofs.OtherLines.{never}
 use Rattle.tree.specs.Read as read
 use Rattle.tree.specs.Read.{typeOf, bindingOf, among, pointer}
 use Rattle.codegen_types.specs.Out.{Out, ok, refused, _then_, refusalOf}
 use Rattle.codegen_types.specs.TypeString as typeString
 use Rattle.codegen_types.specs.TypeString.{typeString, doBranding, nodeOf, scopeOf, scopesOf, bindingsOf, allOf, argumentsOf}
 use Rattle.codegen_types.specs.TypeString.{accumulate, listString, elementLeaf}
-use Rattle.codegen_types.proofs.Laws.{accumulate-none, accumulate-more}
+use Rattle.codegen_types.proofs.Laws.{refusal-then, accumulate-none, accumulate-more}
 use Rattle.codegen_types.specs.declared.Leaf.{Leaf}
 use Rattle.codegen_types.specs.declared.Refusal.{Refusal}
 use Rattle.codegen_types.specs.declared.Refusal.the-variants.{None, Number}
@@ -41,15 +42,6 @@ use Rattle.find.proofs.Laws.{on-one, on-two, on-all, scope-counts}
 use Rattle.find.proofs.TypeLaws as read-law
 use Rattle.find.proofs.TypeLaws.{of-kind, times-none, binds-more, binds-length, scope-inherit, scope-binds, scope-not}
 use Rattle.type_refusal.specs.Told.{ownOf, Sound}
-
--- ---- refusals
-
-refusal-then : {A B : Type 0} (o : Out A) (f : A → B) → refusalOf (o then λ a. ok (f a)) ≡ refusalOf o
-refusal-then (ok a) f = refl
-refusal-then (refused k) f = refl
-
-never : {A : Type 0} → _≡_ {A = ℕ} 0 1 → A
-never z = let y : ⊥ = omega arith in absurd y
 
 -- ---- types of one row
 

@@ -115,8 +115,8 @@ fn list_refusal(s: &[u8], ids: &[u64], ats: &[usize], at: usize, left: usize, le
     refusal(s, ids, ats, at, left, codegen_types::element_leaf(kind))
 }
 
-// The refusal of do_branding for n scopes from a position on: the first along the chain of parents, innermost node first. A
-// node that was seen on the chain is not evaluated again: parents may form a cycle.
+// The refusal of do_branding for n scopes from a position on: the first along the chain of parents, innermost node first.
+// A node that was seen on the chain is not evaluated again: parents may form a cycle.
 fn brand_refusal(
     s: &[u8],
     ids: &[u64],

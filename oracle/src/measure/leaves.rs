@@ -1,6 +1,7 @@
 //! Names, numbers and lines as measured cases.
 
 use super::{discard, Round, Side};
+use crate::boundary::leaves::{line, module_name, number, signed, snake};
 use crate::codegen::exact;
 use crate::codegen::FormattedText::{Indent, Line};
 use std::hint::black_box;
@@ -32,9 +33,7 @@ fn rust(name: &str) -> Option<Round> {
     })
 }
 
-#[cfg(has_leaves)]
 fn kitlubas(name: &str) -> Option<Round> {
-    use crate::boundary::leaves::{line, module_name, number, signed, snake};
     let mut buf = [0; 256];
     Some(match name {
         "snake-short" => Box::new(move || discard(snake(0, black_box(&mut buf), black_box(b"bedId")))),
@@ -45,9 +44,4 @@ fn kitlubas(name: &str) -> Option<Round> {
         "line" => Box::new(move || discard(line(0, black_box(&mut buf), 1, black_box(LINE.as_bytes())))),
         _ => return None,
     })
-}
-
-#[cfg(not(has_leaves))]
-fn kitlubas(_name: &str) -> Option<Round> {
-    None
 }

@@ -5,6 +5,7 @@ mod leaves;
 mod sheets;
 
 use crate::answer::{answer, text_of_field, Request};
+use crate::boundary;
 use crate::context::context;
 use crate::generate::corners::{node, slot, Corner};
 use crate::generate::hostile;
@@ -85,7 +86,7 @@ pub fn names() -> Vec<String> {
     names
 }
 
-/// What one round of a case does; none where there is no such case or its side is not built.
+/// What one round of a case does; none where there is no such case or its side has no such work.
 pub fn work(name: &str, side: Side) -> Option<Round> {
     match name.split_once(' ')? {
         ("leaf", name) => leaves::work(name, side),
@@ -158,7 +159,10 @@ fn request(sheet: Sheet, at: FieldAt, request: Request, side: Side) -> Option<Ro
         Side::RustFromBytes => {
             Some(Box::new(move || discard(answer(black_box(&bytes), at.0, at.1 as u64, request, 0, &mut buffer))))
         }
-        Side::Kitlubas => kitlubas_answer(bytes, at, request),
+        Side::Kitlubas => Some(Box::new(move || {
+            let mut fill = 0;
+            discard(boundary::answer::answer(black_box(&bytes), at.0, at.1 as u64, request, &mut fill, &mut buffer));
+        })),
     }
 }
 
@@ -167,7 +171,7 @@ fn admission(bytes: Vec<u8>, side: Side) -> Option<Round> {
     match side {
         Side::Rust => None,
         Side::RustFromBytes => Some(Box::new(move || discard(read(black_box(&bytes))))),
-        Side::Kitlubas => kitlubas_admit(bytes),
+        Side::Kitlubas => Some(Box::new(move || discard(boundary::admit::admit(black_box(&bytes))))),
     }
 }
 
@@ -195,29 +199,4 @@ pub fn nanoseconds(mut round: Round) -> f64 {
 pub fn sheet(name: &str) -> Option<Vec<u8>> {
     let (_, size) = sheets::WHOLE.iter().find(|(known, _)| *known == name)?;
     Some(print(&sheets::ordinary(*size)))
-}
-
-#[cfg(has_admit)]
-fn kitlubas_admit(bytes: Vec<u8>) -> Option<Round> {
-    Some(Box::new(move || discard(crate::boundary::admit::admit(black_box(&bytes)))))
-}
-
-#[cfg(not(has_admit))]
-fn kitlubas_admit(_bytes: Vec<u8>) -> Option<Round> {
-    None
-}
-
-#[cfg(has_answer)]
-fn kitlubas_answer(bytes: Vec<u8>, at: FieldAt, request: Request) -> Option<Round> {
-    use crate::boundary::answer::answer;
-    let mut buffer = vec![0; BUFFER];
-    Some(Box::new(move || {
-        let mut fill = 0;
-        discard(answer(black_box(&bytes), at.0, at.1 as u64, request, &mut fill, &mut buffer));
-    }))
-}
-
-#[cfg(not(has_answer))]
-fn kitlubas_answer(_bytes: Vec<u8>, _at: FieldAt, _request: Request) -> Option<Round> {
-    None
 }

@@ -68,7 +68,7 @@ fn groups(count: usize) -> Vec<Node> {
 
 /// Groups whose ids all fall on one of the 2,048 marks by which `sheet::known` tells new ids.
 fn groups_one_mark(count: usize) -> Vec<Node> {
-    vec![(1..=count as u64).fold(node(1, 0, "bed", &[]), |node, id| node.group(group("g", id * 8_192)))]
+    vec![(1..=count as u64).fold(node(1, 0, "bed", &[]), |node, id| node.group(group("g", id * 2_048)))]
 }
 
 /// As many lines as a sheet can have: unbound bindings.

@@ -1,4 +1,5 @@
--- `find::owed` meets its contract. Assumes nothing.
+-- `find::owed` meets its contract: the row's letter and what each test showed decide the tests of the definition; rows that
+-- are no type and no scope owe nothing. Assumes nothing.
 use mathlib.Core.Path.{sym}
 use Rattle.find.proofs.Laws.{owed-none}
 use Rattle.find.specs.Find.{owed}

@@ -1,4 +1,5 @@
--- `setter::default_refusal` meets its contract. Assumes nothing.
+-- `setter::default_refusal` meets its contract: what each test of the kinds showed decides the same test of the definition.
+-- Assumes nothing.
 use borrow.Author.Tests.{le-leb, lt-leb, eq-eqb, ne-eqb}
 use Rattle.setter.proofs.default_refusal.Statement.{statement}
 use Rattle.setter.proofs.default_refusal.Tie as tie

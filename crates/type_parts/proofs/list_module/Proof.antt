@@ -1,4 +1,5 @@
--- `type_parts::list_module` meets its contract. Assumes nothing.
+-- `type_parts::list_module` meets its contract: what each test showed decides the same test of the definition.
+-- Assumes nothing.
 use borrow.Author.Tests.{eq-eqb, ne-eqb}
 use borrow.Author.Needs.{needs}
 use Rattle.type_parts.proofs.list_module.Statement.{statement}

@@ -1,4 +1,5 @@
--- `type_parts::parameter` meets its contract. Assumes nothing.
+-- `type_parts::parameter` meets its contract: each arm's leaf chooses its clause of the definition, whose three last parts are
+-- one constant in the code; the leaves that are left are refused. Assumes nothing.
 use Rattle.codegen_types.specs.TypeString.{parameterString}
 use Rattle.text.specs.Bytes.{ascii}
 use mathlib.Core.List.{_++_}

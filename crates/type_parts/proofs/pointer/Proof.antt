@@ -1,4 +1,5 @@
--- `type_parts::pointer` meets its contract. Assumes nothing.
+-- `type_parts::pointer` meets its contract: an AnyPointer's text computes, and of a parameter each return is a law of NodeLaws
+-- for a node that is looked up, missing or found, with the parameter's name from its P row. Assumes nothing.
 use Rattle.find.specs.Find.{sheetOf}
 use Rattle.type_parts.specs.Parts.{Writes}
 use Rattle.find.proofs.NodeLaws.{pointer-none, pointer-at}

@@ -1,4 +1,5 @@
--- `type_refusal::leaf_refusal` meets its contract. Assumes nothing.
+-- `type_refusal::leaf_refusal` meets its contract: each arm's leaf chooses its clause of the definition, whose refusal
+-- computes. Assumes nothing.
 use Rattle.codegen_types.specs.TypeString.{parameterString}
 use mathlib.Core.Path.{refl}
 use borrow.Author.Needs.{needs}

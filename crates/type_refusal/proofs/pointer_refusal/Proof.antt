@@ -1,4 +1,5 @@
--- `type_refusal::pointer_refusal` meets its contract. Assumes nothing.
+-- `type_refusal::pointer_refusal` meets its contract: an AnyPointer is not refused, and of a parameter each return is a law of
+-- NodeLaws for a node that is looked up, missing or found, with a claim of the refusal alone. Assumes nothing.
 use Rattle.find.specs.Find.{sheetOf}
 use Rattle.text.specs.Bytes.{Str}
 use Rattle.codegen_types.specs.Out.{Out, refusalOf}
