@@ -64,7 +64,7 @@ fn is_float_zero(sign: u64, bits: u64) -> bool
 }
 
 // The mask of a setter of a Bool or a number.
-pub fn prim_default(kind: u64, bits: u64) -> Mask
+fn prim_default(kind: u64, bits: u64) -> Mask
     ensures { λ r. ⌜ Given (primDefault (value kind bits)) (λ mask. maskText r ≡ mask) ⌝ }
 {
     if kind == 10 {

@@ -124,7 +124,7 @@ impl Snake {
     }
 
     // the name in capitals
-    pub fn write_capitals(self, t: Text, buf: &mut [u8]) -> Text
+    fn write_capitals(self, t: Text, buf: &mut [u8]) -> Text
         ensures { λ r. ⌜ Wrote (now (buf .entry)) t (map toAsciiUppercase (nameOf self)) (now (buf .exit)) r ⌝ }
     {
         let len = self.size();
@@ -133,7 +133,7 @@ impl Snake {
     }
 
     // whether the name is one of `RUST_KEYWORDS`
-    pub fn is_keyword(self) -> bool
+    fn is_keyword(self) -> bool
         ensures { λ r. ⌜ r ≡ isKeyword (nameOf self) ⌝ }
     {
         let len = self.size();

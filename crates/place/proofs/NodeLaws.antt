@@ -7,12 +7,11 @@ use Prim.Native.Nat.{ℕ, zero, suc, _-_, _≤_, _<_}
 use native.Mathlib.Omega.{arith}
 use native.Mathlib.Numerals.{sub-one}
 use lib.Dec.{eqb}
-use lib.ListN.{length}
 use types.Run.{OneOf}
 use denote.Enum.Declared.{tagOf}
 use Rattle.text.specs.Bytes.{Str, cond}
 use Rattle.row.proofs.Line.{the-type}
-use Rattle.row.specs.Rows.{rows, restOf, onto}
+use Rattle.row.specs.Rows.{restOf}
 use Rattle.row.specs.Line.{lineAt, textAt}
 use Rattle.row.specs.declared.Line.{Line}
 use Rattle.tree.specs.Tree.{Field, Node}
@@ -146,18 +145,3 @@ module _ (rs : Rows) where
       → On (nodeHere rs) P
   unfolding nodeOf
   node-not l P here o = rw (← here, not-node {A = Reader _} l _ _ o) tt
-
--- there are no more rows than bytes
-onto-length : (b : ℕ) (rs : Rows) → length (onto b rs) ≤ suc (length rs)
-unfolding onto
-onto-length b [] = omega arith
-onto-length b (r ∷ rs) = omega arith
-
-pub rows-length : (s : Str) → length (rows s) ≤ length s
-unfolding rows
-rows-length [] = omega arith
-rows-length (b ∷ s) = go (rows-length s) (eqb b 10) refl
-  where
-    go : length (rows s) ≤ length s → (t : Bool) → eqb b 10 ≡ t → length (rows (b ∷ s)) ≤ suc (length s)
-    go h true e = rw (rows, e) (omega arith)
-    go h false e = rw (rows, e) (omega (arith, onto-length b (rows s)))

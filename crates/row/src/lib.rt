@@ -150,7 +150,7 @@ fn past_eights(s: &[u8], from: usize) -> usize
 }
 
 // The position after the first byte 10 at or after `from`, or the end where there is none: by eights, and the last few singly.
-pub fn row_end(s: &[u8], from: usize) -> usize
+fn row_end(s: &[u8], from: usize) -> usize
     ensures { λ r. ⌜ r ≡ from + rowLen (drop from (now (s .entry))) ⌝ }
 {
     let mut i = past_eights(s, from);

@@ -137,7 +137,7 @@ impl Text {
     }
 
     // the start of a line: four spaces for each step of its indent
-    pub fn indent(self, buf: &mut [u8], indent: usize) -> Text
+    fn indent(self, buf: &mut [u8], indent: usize) -> Text
         ensures { λ r. ⌜ Wrote (now (buf .entry)) self (spaces (indent * 4)) (now (buf .exit)) r ⌝ }
     {
         let mut t = self;

@@ -17,7 +17,7 @@ pub enum Walk {
 }
 
 // One type with so many levels left: a T row, and what belongs to it.
-pub fn typ(s: &[u8], at: usize, left: usize) -> Walk
+fn typ(s: &[u8], at: usize, left: usize) -> Walk
     ensures { λ r. ⌜ walked (now (s .entry)) r ≡ passed (typeOf left (rows (drop at (now (s .entry))))) ⌝ }
 {
     let g = row::next(s, at);
@@ -49,7 +49,7 @@ pub fn typ(s: &[u8], at: usize, left: usize) -> Walk
 }
 
 // So many scopes, whose bindings have so many levels left.
-pub fn scopes(s: &[u8], from: usize, left: usize, count: u64) -> Walk
+fn scopes(s: &[u8], from: usize, left: usize, count: u64) -> Walk
     ensures { λ r. ⌜ walked (now (s .entry)) r
         ≡ passed (times (scopeOf (typeOf left)) end count (rows (drop from (now (s .entry))))) ⌝ }
 {
@@ -70,7 +70,7 @@ pub fn scopes(s: &[u8], from: usize, left: usize, count: u64) -> Walk
 }
 
 // One scope: an S row and its bindings.
-pub fn scope(s: &[u8], at: usize, left: usize) -> Walk
+fn scope(s: &[u8], at: usize, left: usize) -> Walk
     ensures { λ r. ⌜ walked (now (s .entry)) r ≡ passed (scopeOf (typeOf left) (rows (drop at (now (s .entry))))) ⌝ }
 {
     let g = row::next(s, at);
@@ -88,7 +88,7 @@ pub fn scope(s: &[u8], at: usize, left: usize) -> Walk
 }
 
 // So many bindings, whose types have so many levels left.
-pub fn binds(s: &[u8], from: usize, left: usize, count: u64) -> Walk
+fn binds(s: &[u8], from: usize, left: usize, count: u64) -> Walk
     ensures { λ r. ⌜ walked (now (s .entry)) r
         ≡ passed (times (bindingOf (typeOf left)) stop count (rows (drop from (now (s .entry))))) ⌝ }
 {
@@ -109,7 +109,7 @@ pub fn binds(s: &[u8], from: usize, left: usize, count: u64) -> Walk
 }
 
 // One binding: a U row, or a type.
-pub fn binding(s: &[u8], at: usize, left: usize) -> Walk
+fn binding(s: &[u8], at: usize, left: usize) -> Walk
     ensures { λ r. ⌜ walked (now (s .entry)) r ≡ passed (bindingOf (typeOf left) (rows (drop at (now (s .entry))))) ⌝ }
 {
     let g = row::next(s, at);
@@ -122,7 +122,7 @@ pub fn binding(s: &[u8], at: usize, left: usize) -> Walk
 }
 
 // The W rows that stand there, up to so many.
-pub fn words_up_to(s: &[u8], from: usize, count: u64) -> Walk
+fn words_up_to(s: &[u8], from: usize, count: u64) -> Walk
     ensures { λ r. ⌜ walked (now (s .entry)) r ≡ passed (wordsUpTo count (rows (drop from (now (s .entry))))) ⌝ }
 {
     let mut at = from;
@@ -160,7 +160,7 @@ pub fn has_words(explicit: u64, kind: u64) -> bool
 }
 
 // The W rows of a slot: 1 to 255 where they belong, else none.
-pub fn words(s: &[u8], at: usize, has: bool) -> Walk
+fn words(s: &[u8], at: usize, has: bool) -> Walk
     ensures { λ r. ⌜ walked (now (s .entry)) r ≡ passed (wordsOf has (rows (drop at (now (s .entry))))) ⌝ }
 {
     if has {

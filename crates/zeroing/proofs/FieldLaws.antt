@@ -13,7 +13,7 @@ use Rattle.tree.specs.Read.{fieldOf}
 use Rattle.tree.specs.Walked.{passed}
 use Rattle.tree.proofs.OtherLines.{never}
 use Rattle.place.specs.Fields.{FieldsHere, none}
-use Rattle.place.proofs.NodeLaws.{rows-length}
+use Rattle.row.proofs.Laws.{rows-length}
 use Rattle.place.specs.Place.{SaysArm, ReadsField}
 use Rattle.place.specs.declared.FieldLine.{FieldLine}
 use Rattle.place.specs.declared.FieldLine.the-variants as says
