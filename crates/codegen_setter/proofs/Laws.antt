@@ -236,6 +236,11 @@ pub field-line : (x root b c tag sp p o q u e : Str)
     ≡ x ++ (root ++ b) ++ c ++ tag ++ sp ++ (p ++ o ++ q ++ u) ++ e
 field-line x root b c tag sp p o q u e = simp append-assoc
 
+pub sized-line : (x root b c tag sp p o q u e : Str)
+    → x ++ root ++ b ++ c ++ tag ++ (sp ++ p) ++ o ++ q ++ u ++ e
+    ≡ x ++ (root ++ b) ++ c ++ tag ++ sp ++ (p ++ o ++ q ++ u) ++ e
+sized-line x root b c tag sp p o q u e = simp append-assoc
+
 pub text-line : (x a root b c g e tag sp p u z : Str)
     → x ++ a ++ root ++ b ++ root ++ (c ++ g ++ e) ++ tag ++ sp ++ p ++ (u ++ z)
     ≡ x ++ (a ++ root ++ b ++ (root ++ c) ++ g) ++ e ++ tag ++ sp ++ (p ++ u) ++ z

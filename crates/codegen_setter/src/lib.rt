@@ -203,7 +203,8 @@ fn set_text(
     t.bytes(buf, b".unwrap()\n}\n")
 }
 
-fn init_text(
+// The initializer of a Text or Data: its builder's type below the root, and the call that makes one of a size.
+fn init_sized(
     t: Text,
     buf: &mut [u8],
     root: &[u8],
@@ -211,18 +212,23 @@ fn init_text(
     tag: u64,
     discriminant: u64,
     offset: u64,
+    typ: &[u8],
+    call: &[u8],
 ) -> Text
     ensures { λ r. ⌜ Wrote (now (buf .entry)) t
-        (initText (nameOf name) true (now (root .entry) ++ ascii "::text::Builder<'a>")
-        (tagLine tag discriminant) (pointerField offset ++ ascii ".init_text(size)")) (now (buf .exit)) r ⌝ }
+        (initText (nameOf name) true (now (root .entry) ++ now (typ .entry))
+        (tagLine tag discriminant) (pointerField offset ++ now (call .entry))) (now (buf .exit)) r ⌝ }
 {
     let t = init_open(t, buf, name, true);
     let t = t.bytes(buf, root);
-    let t = t.bytes(buf, b"::text::Builder<'a> {\n");
+    let t = t.bytes(buf, typ);
+    let t = t.bytes(buf, b" {\n");
     let t = tag_line(t, buf, tag, discriminant);
     let t = t.bytes(buf, b"    self.builder.get_pointer_field(");
     let t = t.number(buf, offset);
-    t.bytes(buf, b").init_text(size)\n}\n")
+    let t = t.byte(buf, b')');
+    let t = t.bytes(buf, call);
+    t.bytes(buf, b"\n}\n")
 }
 
 // Text.
@@ -240,7 +246,17 @@ pub fn text(
         (now (buf .exit)) r ⌝ }
 {
     let t = set_text(t, buf, root, name, tag, discriminant, offset);
-    init_text(t, buf, root, name, tag, discriminant, offset)
+    init_sized(
+        t,
+        buf,
+        root,
+        name,
+        tag,
+        discriminant,
+        offset,
+        b"::text::Builder<'a>",
+        b".init_text(size)",
+    )
 }
 
 fn set_data(
@@ -265,28 +281,6 @@ fn set_data(
     t.bytes(buf, b").set_data(value);\n}\n")
 }
 
-fn init_data(
-    t: Text,
-    buf: &mut [u8],
-    root: &[u8],
-    name: Snake,
-    tag: u64,
-    discriminant: u64,
-    offset: u64,
-) -> Text
-    ensures { λ r. ⌜ Wrote (now (buf .entry)) t
-        (initText (nameOf name) true (now (root .entry) ++ ascii "::data::Builder<'a>")
-        (tagLine tag discriminant) (pointerField offset ++ ascii ".init_data(size)")) (now (buf .exit)) r ⌝ }
-{
-    let t = init_open(t, buf, name, true);
-    let t = t.bytes(buf, root);
-    let t = t.bytes(buf, b"::data::Builder<'a> {\n");
-    let t = tag_line(t, buf, tag, discriminant);
-    let t = t.bytes(buf, b"    self.builder.get_pointer_field(");
-    let t = t.number(buf, offset);
-    t.bytes(buf, b").init_data(size)\n}\n")
-}
-
 // Data.
 pub fn data(
     t: Text,
@@ -302,7 +296,17 @@ pub fn data(
         (now (buf .exit)) r ⌝ }
 {
     let t = set_data(t, buf, root, name, tag, discriminant, offset);
-    init_data(t, buf, root, name, tag, discriminant, offset)
+    init_sized(
+        t,
+        buf,
+        root,
+        name,
+        tag,
+        discriminant,
+        offset,
+        b"::data::Builder<'a>",
+        b".init_data(size)",
+    )
 }
 
 // AnyPointer that is no parameter: an initializer alone.

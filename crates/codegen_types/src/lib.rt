@@ -1,5 +1,6 @@
-// `Leaf` of codegen_types.rs of capnpc and the texts that depend on it alone, and the names of the primitive types. The definitions of `type_string` and `do_branding`
-// stand in specs/; the code that meets them is in the crates type_refusal and type_string.
+// `Leaf` of codegen_types.rs of capnpc and the texts that depend on it alone, and the names of the primitive types. The
+// definitions of `type_string` and `do_branding` stand in specs/; the code that meets them is in the crates type_refusal and
+// type_string.
 use text::Text;
 ghost use mathlib.Core.List.{_++_};
 ghost use Rattle.text.specs.Bytes.{ascii};

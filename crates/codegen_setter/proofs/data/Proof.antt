@@ -9,8 +9,16 @@ use Rattle.codegen_setter.proofs.data.Tie as tie
 returns : tie.Need-returns
 returns c =
     let c2 = c .before .before in
-    let c1 = c2 .before .before .before .before in
-    rw (← both-text _ _ _ _ _ _ false true _ _) (c1 .set-data .ensures ⨾ c2 .init-data .ensures)
+    let c1 = c2 .before .before .before .before .before .before in
+    rw (← both-text _ _ _ _ _ _ false true _ _) (c1 .set-data .ensures ⨾ c2 .init-sized .ensures)
 
 pub data-spec : {M : Type 1} → statement M
-data-spec = tie.close (tie.spec (λ c κs. search needs) (λ c κs. search needs) (λ c. search needs) returns)
+data-spec =
+    tie.close
+    (tie.spec
+    (λ c κs. search needs)
+    (λ c. search needs)
+    (λ c. search needs)
+    (λ c κs. search needs)
+    (λ c. search needs)
+    returns)

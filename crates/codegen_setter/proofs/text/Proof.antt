@@ -9,8 +9,16 @@ use Rattle.codegen_setter.proofs.text.Tie as tie
 returns : tie.Need-returns
 returns c =
     let c2 = c .before .before in
-    let c1 = c2 .before .before .before .before in
-    rw (← both-text _ _ _ _ _ _ false true _ _) (c1 .set-text .ensures ⨾ c2 .init-text .ensures)
+    let c1 = c2 .before .before .before .before .before .before in
+    rw (← both-text _ _ _ _ _ _ false true _ _) (c1 .set-text .ensures ⨾ c2 .init-sized .ensures)
 
 pub text-spec : {M : Type 1} → statement M
-text-spec = tie.close (tie.spec (λ c κs. search needs) (λ c κs. search needs) (λ c. search needs) returns)
+text-spec =
+    tie.close
+    (tie.spec
+    (λ c κs. search needs)
+    (λ c. search needs)
+    (λ c. search needs)
+    (λ c κs. search needs)
+    (λ c. search needs)
+    returns)

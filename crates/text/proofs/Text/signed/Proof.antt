@@ -1,5 +1,5 @@
--- `text::Text::signed` meets its contract: below the sign's bit the number itself, from there on a minus and what is left to twice
--- that bit. Assumes nothing.
+-- `text::Text::signed` meets its contract: below the sign's bit the number itself, from there on a minus and what is left to
+-- twice that bit. Assumes nothing.
 use mathlib.Core.Path.{_≡_}
 use Prim.Native.Nat.{ℕ, _+_, _-_, _≤_, _<_}
 use native.Mathlib.Omega.{arith}
