@@ -15,7 +15,8 @@ use Rattle.requests.specs.Requests.{requestText, gives, given}
 use Rattle.requests.specs.declared.Request.{Request}
 use Rattle.requests.specs.declared.Request.the-variants.{Getter, Setter, Haser}
 use Rattle.agreement.specs.Slots.{Gives, SlotAt, tagAt}
-use Rattle.agreement.specs.Claims.{SetGetHolds, VoidSetHolds, HaserHolds, NoHaserHolds}
+use Rattle.agreement.specs.Claims.{SetGetHolds, VoidSetHolds, HaserHolds, NoHaserHolds, AnsweredSetGetHolds}
+use Rattle.agreement.proofs.AnsweredLaws.{answered-holds}
 use Rattle.agreement.proofs.HaserLaws.{openingOf, whole-opening, haser-given, no-haser}
 use Rattle.agreement.proofs.OutLaws.{ok-is}
 use Rattle.agreement.proofs.SetGetLaws.{tag-fits, set-get}
@@ -85,3 +86,16 @@ pub no-haser-holds : NoHaserHolds
 no-haser-holds s id place a isReader h p hs =
     sym (haser-text a isReader h hs)
     ∙ no-haser (a .node .tagOffset) (a .field .name) (a .field .discriminant) (a .slot) isReader p
+
+-- both texts as they stand in the buffers
+pub answered-set-get-holds : AnsweredSetGetHolds
+answered-set-get-holds s id place a k isReader isFn l t l′ t′ m u m′ u′ v r set got bits value long tag-long clear =
+    set-get-holds s id place a k _ isReader isFn _ v r (record {
+      has-bits = bits;
+      setter = answered-holds s id place Setter l t l′ t′ set;
+      getter = answered-holds s id place (Getter isReader isFn) m u m′ u′ got;
+      value = value;
+      long = long;
+      tag-long = tag-long;
+      clear = clear;
+    })

@@ -90,3 +90,14 @@ AnsweredHolds =
     (s : Str) (id place : ℕ) (request : Request) (l : Str) (t : Text) (l′ : Str) (t′ : Text)
     → Answered l t (outcomeOf (admitted s) id place request) l′ (Done t′)
     → Gives s id place request (between (t .at) (t′ .at) l′)
+
+-- set and get of the bytes that two runs of the entry left, whatever buffers they were given; the other claims follow likewise
+abbrev pub AnsweredSetGetHolds : Type 0
+AnsweredSetGetHolds =
+    (s : Str) (id place : ℕ) (a : SlotAt s id place) (k : Kind) (isReader isFn : Bool)
+    (l : Str) (t : Text) (l′ : Str) (t′ : Text) (m : Str) (u : Text) (m′ : Str) (u′ : Text) (v : ℕ) (r : Record)
+    → Answered l t (outcomeOf (admitted s) id place Setter) l′ (Done t′)
+    → Answered m u (outcomeOf (admitted s) id place (Getter isReader isFn)) m′ (Done u′)
+    → kindOf (kindAt a) ≡ some k → v < 2 ^ slotBits k
+    → Holds (placeAt a k) r → TagHolds (tagAt a) r → TagClear (tagAt a) (placeAt a k)
+    → SetGet a k (between (t .at) (t′ .at) l′) (between (u .at) (u′ .at) m′) v r
