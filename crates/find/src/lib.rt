@@ -1,5 +1,6 @@
 // Where things stand in a sheet, by position: a node by its id, the scope of a brand that counts, a node's parameters, and what
 // follows a type or a scope. Positions past the end, or of other rows, have an answer too.
+use codegen_types::Refusal;
 use row::Line;
 ghost use mathlib.Core.Bool.{true, false};
 ghost use mathlib.Core.Option.{none};
@@ -10,7 +11,7 @@ ghost use Rattle.row.specs.Line.{asParameter};
 ghost use Rattle.row.specs.Rows.{rows, restOf};
 ghost use Rattle.tree.specs.Read.{among};
 ghost use Rattle.find.specs.Find.{kindAt, owed, pastRows, lastScope, rowsFound};
-ghost use Rattle.find.specs.Find.{namesOf, nameAt, textFound, parentAt, lookup};
+ghost use Rattle.find.specs.Find.{namesOf, nameAt, textFound, parentAt, lookup, ChainOf, Placed, Noted};
 
 // A position in the sheet, or none.
 pub enum Found {
@@ -151,7 +152,7 @@ pub fn kind(s: &[u8], at: usize) -> u64
 }
 
 // How many types, scopes or bindings follow a row that belong to it.
-fn owed(line: Line) -> u64
+pub fn owed(line: Line) -> u64
     ensures { λ r. ⌜ r ≡ owed line ⌝ }
 {
     match line {
@@ -232,4 +233,97 @@ pub fn scope(s: &[u8], from: usize, count: u64, id: u64) -> Found
         n -= 1;
     }
     found
+}
+
+// The chain of a node's parents, innermost first: the ids of its nodes, where their P rows begin, and the refusal at its end.
+pub struct Links {
+    pub ids: [u64; 16],
+    pub params: [usize; 16],
+    pub count: usize,
+    pub refusal: Refusal,
+}
+
+// The chain of parents from a node on: 4 after 16 nodes, 5 at a node that is not there.
+pub fn chain(s: &[u8], ids: &[u64], ats: &[usize], id: u64) -> Links
+    ensures { λ r. ⌜ ChainOf (now (s .entry)) (now (ids .entry)) (now (ats .entry)) id r ⌝ }
+{
+    let mut nodes = [0u64; 16];
+    let mut params = [0usize; 16];
+    let mut k: usize = 0;
+    let mut current = id;
+    while k < 16 {
+        let Found::At(at) = node(ids, ats, current) else {
+            return Links {
+                ids: nodes,
+                params,
+                count: k,
+                refusal: Refusal::Number(5),
+            };
+        };
+        let row = node_row(s, at);
+        nodes[k] = current;
+        params[k] = row.params;
+        k += 1;
+        if row.parent == 0 {
+            return Links {
+                ids: nodes,
+                params,
+                count: k,
+                refusal: Refusal::None,
+            };
+        }
+        current = row.parent;
+    }
+    Links {
+        ids: nodes,
+        params,
+        count: k,
+        refusal: Refusal::Number(4),
+    }
+}
+
+// Notes a position at the place of each of at most 16 ids that is this one.
+fn note(ids: &[u64], places: &mut [usize; 16], id: u64, at: usize)
+    requires { ⌜ length (now places) ≡ 16 ⌝ }
+    ensures { λ r. ⌜ Noted (now (ids .entry)) id at (now (places .entry)) (now (places .exit)) ⌝ }
+{
+    let mut k: usize = 0;
+    while k < 16 {
+        if ids.len() <= k {
+            return;
+        }
+        if id == ids[k] {
+            places[k] = at;
+        }
+        k += 1;
+    }
+}
+
+// The positions of the last of so many scopes with each of at most 16 ids; the sheet's end where there is none.
+pub fn scopes(s: &[u8], from: usize, count: u64, ids: &[u64]) -> [usize; 16]
+    ensures { λ r. ⌜ Placed (now (s .entry)) from count (now (ids .entry)) r ⌝ }
+{
+    let nowhere = s.len();
+    let mut places = [nowhere; 16];
+    let mut at = from;
+    let mut n = count;
+    while 0 < n {
+        let g = row::next(s, at);
+        let line = g.line;
+        let Line::Scope {
+            id,
+            bind: _,
+            count: _,
+        } = line
+        else {
+            return places;
+        };
+        note(ids, &mut places, id, at);
+        if n == 1 {
+            return places;
+        }
+        at = past(s, g.next, owed(line));
+        n -= 1;
+    }
+    places
 }

@@ -1,16 +1,15 @@
 -- Laws of the walk that looks for a refusal: one for each turn of the code, over what is read, the sheet and the numbers met.
 -- A refusal's number passes through `?` and through everything that only builds a text. Assumes nothing.
-use mathlib.Core.Path.{_≡_, refl, sym, _∙_}
+use mathlib.Core.Path.{_≡_, refl, sym, ap, _∙_}
 use mathlib.Core.Bool.{Bool, true, false}
 use mathlib.Core.List.{List, [], _∷_, _++_}
 use mathlib.Core.Option.{Option, none, some}
-use Prim.Native.Nat.{ℕ, _+_, _-_, _<_, _≤_}
+use Prim.Native.Nat.{ℕ, suc, _+_, _-_, _<_, _≤_}
 use native.Mathlib.Omega.{arith}
-use native.Mathlib.Numerals.{add-one}
-use borrow.Author.Tests.{eq-eqb, ne-eqb, eqb-true}
+use borrow.Author.Tests.{eq-eqb, ne-eqb, eqb-true, eqb-false}
 use lib.Dec.{eqb}
-use lib.ListN.{length, drop, take, set}
-use lib.Seq.{take-suc-set}
+use lib.ListN.{length, drop, take, getD}
+use lib.Seq.{length-take-le, getD-take}
 use package.types.Run.{OneOf}
 use denote.Enum.Declared.{tagOf}
 use Rattle.row.proofs.Line.{the-type}
@@ -28,20 +27,18 @@ use Rattle.codegen_types.specs.Out.{Out, ok, refused, _then_, refusalOf}
 use Rattle.codegen_types.specs.TypeString as typeString
 use Rattle.codegen_types.specs.TypeString.{typeString, doBranding, nodeOf, scopeOf, scopesOf, bindingsOf, allOf, argumentsOf}
 use Rattle.codegen_types.specs.TypeString.{accumulate, listString, elementLeaf}
-use Rattle.codegen_types.proofs.Laws.{refusal-then, accumulate-none, accumulate-more}
+use Rattle.codegen_types.proofs.Laws.{refusal-then, accumulate-more}
 use Rattle.codegen_types.specs.declared.Leaf.{Leaf}
 use Rattle.codegen_types.specs.declared.Refusal.{Refusal}
 use Rattle.codegen_types.specs.declared.Refusal.the-variants.{None, Number}
 use Rattle.codegen_types.specs.declared.Leaf.the-variants as leaf
 use Rattle.tree.specs.Index.{On, Has, Indexed}
-use Rattle.find.specs.Find.{kindAt, pastRows, ScopeIs, lastScope, namesOf, parentAt, NodeHere, lookup, sheetOf}
-use Rattle.find.specs.declared.Found.{Found}
-use Rattle.find.specs.declared.Found.the-variants.{At, Nothing}
-use Rattle.find.proofs.IndexLaws.{NodeIs, node-found}
-use Rattle.find.proofs.Laws.{on-one, on-two, on-all, scope-counts}
+use Rattle.find.specs.Find.{kindAt, pastRows, ScopeHere, ScopeAt, namesOf, namesFor, sheetOf, before, endOf, ChainOf, Placed}
+use Rattle.find.specs.declared.Links.{Links}
+use Rattle.find.proofs.ChainLaws.{before-step, before-out, placed, scope-there}
+use Rattle.find.proofs.Laws.{on-one, on-two, on-all}
 use Rattle.find.proofs.TypeLaws as read-law
 use Rattle.find.proofs.TypeLaws.{of-kind, times-none, binds-more, binds-length, scope-inherit, scope-binds, scope-not}
-use Rattle.type_refusal.specs.Told.{ownOf, Sound}
 
 -- ---- types of one row
 
@@ -101,223 +98,201 @@ brand-told sheet leaf G id r h =
     on-one (λ ss. r ≡ refusalOf (accumulate sheet (scopesOf ss sheet) 16 id))
     (λ ss. r ≡ refusalOf (typeString (struct id ss) sheet leaf)) G (λ ss e. e ∙ brand-chain sheet leaf id ss) h
 
--- one node's own refusal
-own-of : (sheet : Sheet) (scopes : List (ℕ × typeString.Scope)) (id : ℕ) (x : Node) → nodeOf (sheet .nodes) id ≡ ok x
-    → ownOf sheet scopes id ≡ argumentsOf (sheet .root) (x .params) (scopeOf id scopes)
-unfolding ownOf
-own-of sheet scopes id x e = rw e
+-- one node's own arguments: those of the k-th node of a chain
+abbrev pub ownAt : Str → Sheet → List (ℕ × typeString.Scope) → List ℕ → List ℕ → ℕ → Out (List Str)
+ownAt s sheet scopes nodes params k = argumentsOf (sheet .root) (namesOf (rows (drop (getD params k 0) s)))
+    (scopeOf (getD nodes k 0) scopes)
 
--- the way along the chain: k nodes are passed, none of them with a refusal of its own, and what is met from the current node on
--- is met by the whole
-pub record Chained (sheet : Sheet) (scopes : List (ℕ × typeString.Scope)) (id current k : ℕ) (seen : List ℕ) : Type 0 where
-  pub sound : Sound sheet scopes (take k seen)
-  pub from : refusalOf (accumulate sheet scopes 16 id) ≡ refusalOf (accumulate sheet scopes (16 - k) current)
+-- the way along the chain: none of the first k nodes has a refusal of its own, and what is met from there on is met by the whole
+pub record Chained (s : Str) (sheet : Sheet) (scopes : List (ℕ × typeString.Scope)) (id : ℕ) (c : Links) (k : ℕ) : Type 0 where
+  pub sound : (j : ℕ) → j < k → None ≡ refusalOf (ownAt s sheet scopes (c .ids) (c .params) j)
+  pub from : refusalOf (accumulate sheet scopes 16 id) ≡ refusalOf (before (sheet .root) s scopes
+      (drop k (take (c .count) (c .ids))) (drop k (take (c .count) (c .params))) (endOf (c .refusal)))
 
-pub chain-start : (sheet : Sheet) (scopes : List (ℕ × typeString.Scope)) (id : ℕ) (seen : List ℕ)
-    → Chained sheet scopes id id 0 seen
-unfolding Sound
-chain-start sheet scopes id seen = record { sound = tt; from = refl }
+ended : (r : Refusal) → refusalOf (endOf r) ≡ r
+ended None = refl
+ended (Number k) = refl
 
-pub chain-4 : (sheet : Sheet) (scopes : List (ℕ × typeString.Scope)) (id current k : ℕ) (seen : List ℕ) → 16 ≤ k
-    → Chained sheet scopes id current k seen → Number 4 ≡ refusalOf (accumulate sheet scopes 16 id)
-chain-4 sheet scopes id current k seen h c = rw (c .from, accumulate-none sheet scopes (16 - k) current (omega arith)) refl
+-- an id among some is one of them
+among-one : (ids : List ℕ) (id : ℕ) → among id ids ≡ true → (P : Type 0)
+    → ((j : ℕ) → j < length ids → getD ids j 0 ≡ id → P) → P
+unfolding among
+among-one [] id a P f = let z : _≡_ {A = ℕ} 0 1 = cc in never z
+among-one (i ∷ ids) id a P f = go (eqb i id) refl (among-one ids id) a
+  where
+    go : (t : Bool) → eqb i id ≡ t → (among id ids ≡ true → (P : Type 0)
+        → ((j : ℕ) → j < length ids → getD ids j 0 ≡ id → P) → P) → either t (among id ids) ≡ true → P
+    go true e ih b = f 0 (omega arith) (eqb-true i id e)
+    go false e ih b = ih b P (λ j h x. f (suc j) (omega arith) x)
 
-pub chain-5 : (sheet : Sheet) (scopes : List (ℕ × typeString.Scope)) (id current k : ℕ) (seen : List ℕ) → k < 16
-    → nodeOf (sheet .nodes) current ≡ refused 5 → Chained sheet scopes id current k seen
-    → Number 5 ≡ refusalOf (accumulate sheet scopes 16 id)
-chain-5 sheet scopes id current k seen h e c = rw (c .from, accumulate-more sheet scopes (16 - k) current (λ z. omega arith), e)
-    refl
+abbrev given : Out (List Str) → List Str
+given (ok a) = a
+given (refused k) = []
 
-sound-more : (sheet : Sheet) (scopes : List (ℕ × typeString.Scope)) (ids : List ℕ) (id : ℕ) → Sound sheet scopes ids
-    → refusalOf (ownOf sheet scopes id) ≡ None → Sound sheet scopes (ids ++ (id ∷ []))
-unfolding Sound
-sound-more sheet scopes [] id h e = (e, tt)
-sound-more sheet scopes (i ∷ ids) id h e = (h .0, sound-more sheet scopes ids id (h .1) e)
-
-module _ (sheet : Sheet) (scopes : List (ℕ × typeString.Scope)) (id current k : ℕ) (seen : List ℕ) (h : k < 16) (x : Node)
-    (e : nodeOf (sheet .nodes) current ≡ ok x)
-    (c : Chained sheet scopes id current k seen) (r : Refusal)
-    (own : Sound sheet scopes (take k seen) → r ≡ refusalOf (ownOf sheet scopes current)) where
-  abbrev onward : Out (List Str) → Out (List (List Str))
-  onward o = o then λ arguments. cond (eqb (x .parent) 0) (ok (arguments ∷ []))
-      (accumulate sheet scopes (16 - k - 1) (x .parent) then λ outer. ok (arguments ∷ outer))
-
-  whole : refusalOf (accumulate sheet scopes 16 id) ≡ refusalOf (onward (ownOf sheet scopes current))
-  whole = c .from ∙ rw (accumulate-more sheet scopes (16 - k) current (λ z. omega arith), e, own-of sheet scopes current x e)
-      refl
-
-  pub chain-own : (j : ℕ) → r ≡ Number j → r ≡ refusalOf (accumulate sheet scopes 16 id)
-  chain-own j z = rw whole (go (ownOf sheet scopes current) (own (c .sound)))
-    where
-      go : (o : Out (List Str)) → r ≡ refusalOf o → r ≡ refusalOf (onward o)
-      go (ok a) w = let y : _≡_ {A = Refusal} None (Number j) = sym w ∙ z in never (cc)
-      go (refused i) w = w
-
-  pub chain-top : r ≡ None → x .parent ≡ 0 → None ≡ refusalOf (accumulate sheet scopes 16 id)
-  chain-top z p = rw whole (go (ownOf sheet scopes current) (sym z ∙ own (c .sound)))
-    where
-      go : (o : Out (List Str)) → None ≡ refusalOf o → None ≡ refusalOf (onward o)
-      go (ok a) w = rw (eq-eqb (x .parent) 0 p) refl
-      go (refused i) w = never (cc)
-
-  pub chain-next : length seen ≡ 16 → r ≡ None → (x .parent ≡ 0 → ⊥)
-      → Chained sheet scopes id (x .parent) (k + 1) (set seen k current)
-  chain-next n z p = record {
-    sound = rw (add-one, take-suc-set seen k current (omega arith))
-        (sound-more sheet scopes (take k seen) current (c .sound) (sym (own (c .sound)) ∙ z));
-    from = whole ∙ go (ownOf sheet scopes current) (sym z ∙ own (c .sound));
-  }
-    where
-      go : (o : Out (List Str)) → None ≡ refusalOf o → refusalOf (onward o) ≡ refusalOf
-          (accumulate sheet scopes (16 - (k + 1)) (x .parent))
-      go (ok a) w = let y : 16 - k - 1 ≡ 16 - (k + 1) = omega arith in rw (ne-eqb (x .parent) 0 p, ← y)
-          (refusal-then (accumulate sheet scopes (16 - k - 1) (x .parent)) _)
-      go (refused i) w = never (cc)
-
--- the same for what is read of a brand, with the node found in the index
-pub brand-start : (sheet : Sheet) (G : Reading Scopes) (id : ℕ) (seen : List ℕ)
-    → On G (λ ss. Chained sheet (scopesOf ss sheet) id id 0 seen)
-brand-start sheet G id seen = on-all {P = λ ss. Chained sheet (scopesOf ss sheet) id id 0 seen}
-    (λ ss. chain-start sheet (scopesOf ss sheet) id seen) G
-
-pub brand-4 : (sheet : Sheet) (G : Reading Scopes) (id current k : ℕ) (seen : List ℕ) → 16 ≤ k
-    → On G (λ ss. Chained sheet (scopesOf ss sheet) id current k seen)
-    → On G (λ ss. Number 4 ≡ refusalOf (accumulate sheet (scopesOf ss sheet) 16 id))
-brand-4 sheet G id current k seen h c =
-    on-one (λ ss. Chained sheet (scopesOf ss sheet) id current k seen)
-    (λ ss. Number 4 ≡ refusalOf (accumulate sheet (scopesOf ss sheet) 16 id)) G
-    (λ ss w. chain-4 sheet (scopesOf ss sheet) id current k seen h w) c
-
-module _ (s : Str) (ns : List Node) (ids ats : List ℕ) (root : Str) (G : Reading Scopes) (id current k : ℕ) (seen : List ℕ)
-    (h : k < 16) (f : Found) (e : f ≡ lookup current ids ats) (i : Indexed s ns ids ats)
-    (c : On G (λ ss. Chained (sheetOf root ns) (scopesOf ss (sheetOf root ns)) id current k seen)) where
+module _ (s : Str) (ns : List Node) (ids ats : List ℕ) (root : Str) (x : Indexed s ns ids ats) (id : ℕ) (c : Links)
+    (w : ChainOf s ids ats id c) (scopes : List (ℕ × typeString.Scope)) where
   abbrev sheet : Sheet
   sheet = sheetOf root ns
 
-  pub brand-5 : f ≡ Nothing → On G (λ ss. Number 5 ≡ refusalOf
+  chain-start : Chained s sheet scopes id c 0
+  chain-start = record {
+    sound = λ j h. let z : ⊥ = omega arith in absurd z;
+    from = ap refusalOf ((w .all) root ns x scopes);
+  }
+
+  module _ (k : ℕ) (v : Chained s sheet scopes id c k) where
+    chain-end : c .count ≤ k → c .refusal ≡ refusalOf (accumulate sheet scopes 16 id)
+    chain-end h = sym (v .from ∙ rw (before-out root s scopes (c .ids) (c .params) (c .count) k (endOf (c .refusal)) h
+        (omega (arith, w .few, w .ids-size))) (ended (c .refusal)))
+
+    module _ (h : k < c .count) where
+      abbrev out : Out (List (List Str))
+      out = before root s scopes (drop (k + 1) (take (c .count) (c .ids))) (drop (k + 1) (take (c .count) (c .params)))
+          (endOf (c .refusal))
+
+      whole : refusalOf (accumulate sheet scopes 16 id) ≡ refusalOf (ownAt s sheet scopes (c .ids) (c .params) k then λ a. out
+          then λ outer. ok (a ∷ outer))
+      whole = v .from ∙ rw (before-step root s scopes (c .ids) (c .params) (c .count) k (endOf (c .refusal)) h
+          (omega (arith, w .few, w .ids-size)) (omega (arith, w .few, w .params-size))) refl
+
+      chain-own : (r : Refusal) (j : ℕ) → r ≡ refusalOf (ownAt s sheet scopes (c .ids) (c .params) k) → r ≡ Number j
+          → r ≡ refusalOf (accumulate sheet scopes 16 id)
+      chain-own r j e z = rw whole (go (ownAt s sheet scopes (c .ids) (c .params) k) e)
+        where
+          go : (o : Out (List Str)) → r ≡ refusalOf o → r ≡ refusalOf (o then λ a. out then λ outer. ok (a ∷ outer))
+          go (ok a) w = let y : _≡_ {A = Refusal} None (Number j) = sym w ∙ z in never (cc)
+          go (refused i) w = w
+
+      chain-next : None ≡ refusalOf (ownAt s sheet scopes (c .ids) (c .params) k) → Chained s sheet scopes id c (k + 1)
+      chain-next e = record {
+        sound = λ j y. more j y (eqb j k) refl;
+        from = whole ∙ go (ownAt s sheet scopes (c .ids) (c .params) k) e;
+      }
+        where
+          more : (j : ℕ) → j < k + 1 → (t : Bool) → eqb j k ≡ t
+              → None ≡ refusalOf (ownAt s sheet scopes (c .ids) (c .params) j)
+          more j y true z = rw (eqb-true j k z) e
+          more j y false z = let u : j ≡ k → ⊥ = eqb-false j k z in (v .sound) j (omega arith)
+
+          go : (o : Out (List Str)) → None ≡ refusalOf o
+              → refusalOf (o then λ a. out then λ outer. ok (a ∷ outer)) ≡ refusalOf out
+          go (ok a) w = refusal-then out (λ outer. a ∷ outer)
+          go (refused i) w = never (cc)
+
+      chain-seen : among (getD (c .ids) k 0) (take k (c .ids)) ≡ true → Chained s sheet scopes id c (k + 1)
+      chain-seen a =
+          among-one (take k (c .ids)) (getD (c .ids) k 0) a (Chained s sheet scopes id c (k + 1))
+          (λ j y e. same j (rw (length-take-le k (c .ids) (omega (arith, w .few, w .ids-size))) at y) e)
+        where
+          same : (j : ℕ) → j < k → getD (take k (c .ids)) j 0 ≡ getD (c .ids) k 0 → Chained s sheet scopes id c (k + 1)
+          same j y e =
+              let i : getD (c .ids) j 0 ≡ getD (c .ids) k 0 = sym (getD-take k (c .ids) j 0 y) ∙ e in
+              let n : namesOf (rows (drop (getD (c .params) j 0) s)) ≡ namesOf (rows (drop (getD (c .params) k 0) s)) =
+              ap given (sym ((w .each) ns x j (omega arith)) ∙ ap (namesFor ns) i ∙ (w .each) ns x k h) in
+              chain-next (rw (i, n) at ((v .sound) j y))
+
+-- the same for what is read of a brand
+module _ (s : Str) (ns : List Node) (ids ats : List ℕ) (root : Str) (x : Indexed s ns ids ats) (id : ℕ) (c : Links)
+    (w : ChainOf s ids ats id c) (G : Reading Scopes) where
+  abbrev all : ℕ → Type 0
+  all k = On G (λ ss. Chained s (sheetOf root ns) (scopesOf ss (sheetOf root ns)) id c k)
+
+  abbrev met : Refusal → Type 0
+  met r = On G (λ ss. r ≡ refusalOf (accumulate (sheetOf root ns) (scopesOf ss (sheetOf root ns)) 16 id))
+
+  pub brand-start : all 0
+  brand-start = on-all {P = λ ss. Chained s (sheetOf root ns) (scopesOf ss (sheetOf root ns)) id c 0}
+      (λ ss. chain-start s ns ids ats root x id c w (scopesOf ss (sheetOf root ns))) G
+
+  module _ (k : ℕ) (v : all k) where
+    pub brand-end : c .count ≤ k → met (c .refusal)
+    brand-end h =
+        on-one (λ ss. Chained s (sheetOf root ns) (scopesOf ss (sheetOf root ns)) id c k)
+        (λ ss. c .refusal ≡ refusalOf (accumulate (sheetOf root ns) (scopesOf ss (sheetOf root ns)) 16 id)) G
+        (λ ss y. chain-end s ns ids ats root x id c w (scopesOf ss (sheetOf root ns)) k y h) v
+
+    module _ (h : k < c .count) where
+      pub brand-seen : (b : Bool) → b ≡ among (getD (c .ids) k 0) (take k (c .ids)) → b ≡ true → all (k + 1)
+      brand-seen b e z =
+          on-one (λ ss. Chained s (sheetOf root ns) (scopesOf ss (sheetOf root ns)) id c k)
+          (λ ss. Chained s (sheetOf root ns) (scopesOf ss (sheetOf root ns)) id c (k + 1)) G
+          (λ ss y. chain-seen s ns ids ats root x id c w (scopesOf ss (sheetOf root ns)) k y h (sym e ∙ z)) v
+
+-- the node's own refusal, with the scope at its place
+module _ (s : Str) (ns : List Node) (ids ats : List ℕ) (root : Str) (x : Indexed s ns ids ats) (id : ℕ) (c : Links)
+    (w : ChainOf s ids ats id c) (left at n : ℕ) (places : List ℕ) (there : Placed s at n (take (c .count) (c .ids)) places)
+    (k : ℕ) (v : On (times (read.scopeOf (typeOf left)) end n (rows (drop at s)))
+    (λ ss. Chained s (sheetOf root ns) (scopesOf ss (sheetOf root ns)) id c k)) (h : k < c .count) (r : Refusal)
+    (own : (o : Option typeString.Scope) → ScopeAt left (sheetOf root ns) (rows (drop (getD places k 0) s)) o
+    → r ≡ refusalOf (argumentsOf root (namesOf (rows (drop (getD (c .params) k 0) s))) o)) where
+  abbrev G : Reading Scopes
+  G = times (read.scopeOf (typeOf left)) end n (rows (drop at s))
+
+  by-place : (Q : Scopes → Type 0) → ((ss : Scopes) → Chained s (sheetOf root ns) (scopesOf ss (sheetOf root ns)) id c k
+      → r ≡ refusalOf (ownAt s (sheetOf root ns) (scopesOf ss (sheetOf root ns)) (c .ids) (c .params) k) → Q ss) → On G Q
+  by-place Q law =
+      on-two (λ ss. Chained s (sheetOf root ns) (scopesOf ss (sheetOf root ns)) id c k)
+      (λ ss. ScopeAt left (sheetOf root ns) (rows (drop (getD places k 0) s))
+      (scopeOf (getD (c .ids) k 0) (scopesOf ss (sheetOf root ns)))) Q G
+      (λ ss y u. law ss y (own (scopeOf (getD (c .ids) k 0) (scopesOf ss (sheetOf root ns))) u)) v
+      (placed left (sheetOf root ns) s at n (c .ids) places (c .count) k there h (w .few) (omega (arith, w .few, w .ids-size)))
+
+  pub brand-own : (j : ℕ) → r ≡ Number j → On G (λ ss. r ≡ refusalOf
       (accumulate (sheetOf root ns) (scopesOf ss (sheetOf root ns)) 16 id))
-  brand-5 z =
-      let w : nodeOf ns current ≡ refused 5 = rw (← e, z) at (node-found s ns ids ats current i) in
-      on-one (λ ss. Chained sheet (scopesOf ss sheet) id current k seen)
-      (λ ss. Number 5 ≡ refusalOf (accumulate sheet (scopesOf ss sheet) 16 id)) G
-      (λ ss v. chain-5 sheet (scopesOf ss sheet) id current k seen h w v) c
+  brand-own j z = by-place (λ ss. r ≡ refusalOf (accumulate (sheetOf root ns) (scopesOf ss (sheetOf root ns)) 16 id))
+      (λ ss y u. chain-own s ns ids ats root x id c w (scopesOf ss (sheetOf root ns)) k y h r j u z)
 
-  module _ (node : ℕ) (here : f ≡ At node) (ps : Rows) (params : ps ≡ restOf (rows (drop node s))) (r : Refusal)
-      (own : (x : Node) → nodeOf ns current ≡ ok x → namesOf ps ≡ x .params
-      → On G (λ ss. Sound (sheetOf root ns) (scopesOf ss (sheetOf root ns)) (take k seen)
-      → r ≡ refusalOf (ownOf (sheetOf root ns) (scopesOf ss (sheetOf root ns)) current))) where
-    by-node : (Q : Scopes → Type 0)
-        → ((x : Node) → nodeOf ns current ≡ ok x → NodeHere (rows (drop node s)) x → (ss : Scopes)
-        → Chained sheet (scopesOf ss sheet) id current k seen
-        → (Sound sheet (scopesOf ss sheet) (take k seen) → r ≡ refusalOf (ownOf sheet (scopesOf ss sheet) current)) → Q ss)
-        → On G Q
-    by-node Q law = go (nodeOf ns current) refl (rw (← e, here) at (node-found s ns ids ats current i))
-      where
-        go : (o : Out Node) → nodeOf ns current ≡ o → NodeIs s (At node) o → On G Q
-        go (ok x) y w = on-two (λ ss. Chained sheet (scopesOf ss sheet) id current k seen)
-            (λ ss. Sound sheet (scopesOf ss sheet) (take k seen) → r ≡ refusalOf (ownOf sheet (scopesOf ss sheet) current)) Q G
-            (law x y w) c (own x y (rw params (w .params)))
-        go (refused j) y w = absurd w
-
-    pub brand-own : (j : ℕ) → r ≡ Number j → On G (λ ss. r ≡ refusalOf
-        (accumulate (sheetOf root ns) (scopesOf ss (sheetOf root ns)) 16 id))
-    brand-own j z = by-node (λ ss. r ≡ refusalOf (accumulate sheet (scopesOf ss sheet) 16 id))
-        (λ x y w ss v o. chain-own sheet (scopesOf ss sheet) id current k seen h x y v r o j z)
-
-    module _ (p : ℕ) (parent : p ≡ parentAt (rows (drop node s))) (z : r ≡ None) where
-      up : (x : Node) → NodeHere (rows (drop node s)) x → p ≡ x .parent
-      up x w = parent ∙ rw (w .line) refl
-
-      pub brand-top : p ≡ 0 → On G (λ ss. None ≡ refusalOf (accumulate (sheetOf root ns) (scopesOf ss (sheetOf root ns)) 16 id))
-      brand-top q = by-node (λ ss. None ≡ refusalOf (accumulate sheet (scopesOf ss sheet) 16 id))
-          (λ x y w ss v o. chain-top sheet (scopesOf ss sheet) id current k seen h x y v r o z (sym (up x w) ∙ q))
-
-      pub brand-next : length seen ≡ 16 → (p ≡ 0 → ⊥) → On G (λ ss. Chained (sheetOf root ns) (scopesOf ss (sheetOf root ns)) id
-          p (k + 1) (set seen k current))
-      brand-next n q =
-          by-node (λ ss. Chained sheet (scopesOf ss sheet) id p (k + 1) (set seen k current))
-          (λ x y w ss v o. rw (up x w) (chain-next sheet (scopesOf ss sheet) id current k seen h x y v r o n z
-          (λ u. q (up x w ∙ u))))
+  pub brand-next : r ≡ None → On G (λ ss. Chained s (sheetOf root ns) (scopesOf ss (sheetOf root ns)) id c (k + 1))
+  brand-next z = by-place (λ ss. Chained s (sheetOf root ns) (scopesOf ss (sheetOf root ns)) id c (k + 1))
+      (λ ss y u. chain-next s ns ids ats root x id c w (scopesOf ss (sheetOf root ns)) k y h (sym z ∙ u))
 
 -- ---- one node's own arguments
 
-sound-among : (sheet : Sheet) (scopes : List (ℕ × typeString.Scope)) (ids : List ℕ) (id : ℕ) → among id ids ≡ true
-    → Sound sheet scopes ids → None ≡ refusalOf (ownOf sheet scopes id)
-unfolding among Sound
-sound-among sheet scopes [] id a h = let z : _≡_ {A = ℕ} 0 1 = cc in never z
-sound-among sheet scopes (i ∷ ids) id a h = go (eqb i id) refl (sound-among sheet scopes ids id) a
-  where
-    go : (t : Bool) → eqb i id ≡ t → (among id ids ≡ true → Sound sheet scopes ids → None ≡ refusalOf (ownOf sheet scopes id))
-        → either t (among id ids) ≡ true → None ≡ refusalOf (ownOf sheet scopes id)
-    go true e ih b = rw (← eqb-true i id e) (sym (h .0))
-    go false e ih b = ih b (h .1)
-
-pub own-seen : (sheet : Sheet) (G : Reading Scopes) (seen : List ℕ) (id : ℕ) (b : Bool) → b ≡ among id seen → b ≡ true
-    → On G (λ ss. Sound sheet (scopesOf ss sheet) seen → None ≡ refusalOf (ownOf sheet (scopesOf ss sheet) id))
-own-seen sheet G seen id b e h =
-    on-all {P = λ ss. Sound sheet (scopesOf ss sheet) seen → None ≡ refusalOf (ownOf sheet (scopesOf ss sheet) id)}
-    (λ ss w. sound-among sheet (scopesOf ss sheet) seen id (sym e ∙ h) w) G
-
-module _ (left : ℕ) (sheet : Sheet) (seen : List ℕ) (id n : ℕ) (rs : Rows) (x : Node) (e : nodeOf (sheet .nodes) id ≡ ok x)
-    (f : Option Rows) (counts : f ≡ lastScope id n rs none) where
-  -- by the scope that counts
-  by-scope : (r : Refusal) → ((o : Option typeString.Scope) → ScopeIs left sheet f o
-      → r ≡ refusalOf (argumentsOf (sheet .root) (x .params) o))
-      → On (times (read.scopeOf (typeOf left)) end n rs) (λ ss. Sound sheet (scopesOf ss sheet) seen
-      → r ≡ refusalOf (ownOf sheet (scopesOf ss sheet) id))
-  by-scope r h =
-      on-one (λ ss. ScopeIs left sheet (lastScope id n rs none) (scopeOf id (scopesOf ss sheet)))
-      (λ ss. Sound sheet (scopesOf ss sheet) seen → r ≡ refusalOf (ownOf sheet (scopesOf ss sheet) id))
-      (times (read.scopeOf (typeOf left)) end n rs)
-      (λ ss w s. rw (own-of sheet (scopesOf ss sheet) id x e) (h (scopeOf id (scopesOf ss sheet)) (rw counts w)))
-      (scope-counts left id sheet n rs)
-
-  pub own-none : f ≡ none → On (times (read.scopeOf (typeOf left)) end n rs)
-      (λ ss. Sound sheet (scopesOf ss sheet) seen → None ≡ refusalOf (ownOf sheet (scopesOf ss sheet) id))
+module _ (left : ℕ) (sheet : Sheet) (q ps : Rows) (l : Line) (line : l ≡ lineAt q) (o : Option typeString.Scope)
+    (here : ScopeAt left sheet q o) where
+  pub own-other : OneOf (0 ∷ 1 ∷ 2 ∷ 3 ∷ 4 ∷ 5 ∷ 7 ∷ 8 ∷ 9 ∷ 10 ∷ []) (tagOf the-type l)
+      → None ≡ refusalOf (argumentsOf (sheet .root) (namesOf ps) o)
   unfolding argumentsOf
-  own-none z = by-scope None (λ o h. let w : o ≡ none = rw z at h in rw w refl)
+  own-other other = go q line here
+    where
+      go : (q : Rows) → l ≡ lineAt q → ScopeAt left sheet q o → None ≡ refusalOf (argumentsOf (sheet .root) (namesOf ps) o)
+      go [] e h = rw h refl
+      go (r ∷ rs) e h = absurd (scope-not left sheet (r ∷ rs) o l e other h)
 
-  module _ (q : Rows) (here : f ≡ some q) (l : Line) (line : l ≡ lineAt q) where
-    pub own-other : (r : Refusal) → OneOf (0 ∷ 1 ∷ 2 ∷ 3 ∷ 4 ∷ 5 ∷ 7 ∷ 8 ∷ 9 ∷ 10 ∷ []) (tagOf the-type l)
-        → On (times (read.scopeOf (typeOf left)) end n rs) (λ ss. Sound sheet (scopesOf ss sheet) seen
-        → r ≡ refusalOf (ownOf sheet (scopesOf ss sheet) id))
-    own-other r other = by-scope r (λ o h. absurd (scope-not left sheet q o l line other (rw here at h)))
+  module _ (i b m : ℕ) (is : l ≡ Scope i b m) where
+    scope-here : ScopeHere left sheet q o
+    scope-here = scope-there left sheet q o l i b m line is here
 
-    module _ (i b m : ℕ) (is : l ≡ Scope i b m) where
-      pub own-inherit : b ≡ 0 → On (times (read.scopeOf (typeOf left)) end n rs)
-          (λ ss. Sound sheet (scopesOf ss sheet) seen → None ≡ refusalOf (ownOf sheet (scopesOf ss sheet) id))
+    pub own-inherit : b ≡ 0 → None ≡ refusalOf (argumentsOf (sheet .root) (namesOf ps) o)
+    unfolding argumentsOf
+    own-inherit z =
+        let w : o ≡ some typeString.inherited = scope-inherit left sheet q o l i b m line is z scope-here in rw w refl
+
+    module _ (z : b ≡ 0 → ⊥) (rest : Rows) (next : rest ≡ restOf q) (same : Bool)
+        (count : same ≡ eqb m (length (namesOf ps))) where
+      by-binds : (r : Refusal) → On (times (bindingOf (typeOf left)) stop m rest)
+          (λ bs. r ≡ refusalOf (cond same (allOf (bindingsOf bs sheet)) (refused 8)))
+          → r ≡ refusalOf (argumentsOf (sheet .root) (namesOf ps) o)
       unfolding argumentsOf
-      own-inherit z = by-scope None (λ o h. let w : o ≡ some typeString.inherited = scope-inherit left sheet q o l i b m line is
-          z (rw here at h) in rw w refl)
+      by-binds r u = go (times (bindingOf (typeOf left)) stop m rest) o
+          (scope-binds left sheet q rest o l i b m line is next z scope-here) u (binds-length left sheet m rest)
+        where
+          go : (g : Reading Binds) (o : Option typeString.Scope)
+              → Has g (λ bs. o ≡ some (typeString.binds (bindingsOf bs sheet)))
+              → On g (λ bs. r ≡ refusalOf (cond same (allOf (bindingsOf bs sheet)) (refused 8)))
+              → On g (λ bs. length (bindingsOf bs sheet) ≡ m) → r ≡ refusalOf (argumentsOf (sheet .root) (namesOf ps) o)
+          go (got bs k) o w v y = rw (w, y, ← count) v
+          go (no j k) o w v y = absurd w
 
-      module _ (z : b ≡ 0 → ⊥) (rest : Rows) (next : rest ≡ restOf q) (ps : Rows) (params : namesOf ps ≡ x .params)
-          (same : Bool) (count : same ≡ eqb m (length (namesOf ps))) where
-        by-binds : (r : Refusal) → On (times (bindingOf (typeOf left)) stop m rest)
-            (λ bs. r ≡ refusalOf (cond same (allOf (bindingsOf bs sheet)) (refused 8)))
-            → On (times (read.scopeOf (typeOf left)) end n rs) (λ ss. Sound sheet (scopesOf ss sheet) seen
-            → r ≡ refusalOf (ownOf sheet (scopesOf ss sheet) id))
-        unfolding argumentsOf
-        by-binds r u = by-scope r (λ o h. go (times (bindingOf (typeOf left)) stop m rest) o
-            (scope-binds left sheet q rest o l i b m line is next z (rw here at h)) u (binds-length left sheet m rest))
-          where
-            go : (g : Reading Binds) (o : Option typeString.Scope)
-                → Has g (λ bs. o ≡ some (typeString.binds (bindingsOf bs sheet)))
-                → On g (λ bs. r ≡ refusalOf (cond same (allOf (bindingsOf bs sheet)) (refused 8)))
-                → On g (λ bs. length (bindingsOf bs sheet) ≡ m) → r ≡ refusalOf (argumentsOf (sheet .root) (x .params) o)
-            go (got bs k) o w v y = rw (w, y, ← params, ← count) v
-            go (no j k) o w v y = absurd w
+      pub own-8 : same ≡ false → Number 8 ≡ refusalOf (argumentsOf (sheet .root) (namesOf ps) o)
+      own-8 y = by-binds (Number 8) (on-all {P = λ bs. Number 8 ≡ refusalOf
+          (cond same (allOf (bindingsOf bs sheet)) (refused 8))} (λ bs. rw y refl)
+          (times (bindingOf (typeOf left)) stop m rest))
 
-        pub own-8 : same ≡ false → On (times (read.scopeOf (typeOf left)) end n rs)
-            (λ ss. Sound sheet (scopesOf ss sheet) seen → Number 8 ≡ refusalOf (ownOf sheet (scopesOf ss sheet) id))
-        own-8 y = by-binds (Number 8) (on-all {P = λ bs. Number 8 ≡ refusalOf
-            (cond same (allOf (bindingsOf bs sheet)) (refused 8))} (λ bs. rw y refl)
-            (times (bindingOf (typeOf left)) stop m rest))
-
-        pub own-binds : (r : Refusal) → same ≡ true → On (times (bindingOf (typeOf left)) stop m rest)
-            (λ bs. r ≡ refusalOf (allOf (bindingsOf bs sheet)))
-            → On (times (read.scopeOf (typeOf left)) end n rs) (λ ss. Sound sheet (scopesOf ss sheet) seen
-            → r ≡ refusalOf (ownOf sheet (scopesOf ss sheet) id))
-        own-binds r y u = by-binds r (rw y u)
+      pub own-binds : (r : Refusal) → same ≡ true → On (times (bindingOf (typeOf left)) stop m rest)
+          (λ bs. r ≡ refusalOf (allOf (bindingsOf bs sheet)))
+          → r ≡ refusalOf (argumentsOf (sheet .root) (namesOf ps) o)
+      own-binds r y u = by-binds r (rw y u)
 
 -- ---- bindings
 

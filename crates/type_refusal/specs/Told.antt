@@ -1,7 +1,8 @@
 -- What the walk that looks for a type's refusal tells: the refusal that `type_string` gives for whatever type is read at a
 -- position, in every sheet whose nodes the index has. Assumes nothing.
 use mathlib.Core.Path.{_≡_}
-use mathlib.Core.List.{List, [], _∷_}
+use mathlib.Core.List.{List}
+use mathlib.Core.Option.{Option}
 use Prim.Native.Nat.{ℕ}
 use lib.ListN.{drop}
 use Rattle.text.specs.Bytes.{Str}
@@ -10,23 +11,13 @@ use Rattle.tree.specs.Tree.{list, end, stop, Node, Sheet}
 use Rattle.tree.specs.Reader.{times}
 use Rattle.tree.specs.Read as read
 use Rattle.tree.specs.Read.{typeOf, bindingOf}
-use Rattle.codegen_types.specs.Out.{Out, ok, _then_, refusalOf}
-use Rattle.codegen_types.specs.TypeString.{typeString, Scope, scopeOf, scopesOf, bindingsOf, nodeOf, allOf, argumentsOf}
+use Rattle.codegen_types.specs.Out.{refusalOf}
+use Rattle.codegen_types.specs.TypeString.{typeString, Scope, scopesOf, bindingsOf, allOf, argumentsOf}
 use Rattle.codegen_types.specs.TypeString.{accumulate}
 use Rattle.codegen_types.specs.declared.Leaf.{Leaf}
 use Rattle.codegen_types.specs.declared.Refusal.{Refusal}
-use Rattle.codegen_types.specs.declared.Refusal.the-variants.{None}
 use Rattle.tree.specs.Index.{On, Indexed}
-use Rattle.find.specs.Find.{namesOf, sheetOf}
-
--- the arguments of the node with an id
-unfoldable pub ownOf : Sheet → List (ℕ × Scope) → ℕ → Out (List Str)
-ownOf sheet scopes id = nodeOf (sheet .nodes) id then λ n. argumentsOf (sheet .root) (n .params) (scopeOf id scopes)
-
--- the nodes with these ids have no refusal of their own
-unfoldable pub Sound : Sheet → List (ℕ × Scope) → List ℕ → Type 0
-Sound sheet scopes [] = Unit {0}
-Sound sheet scopes (id ∷ ids) = (refusalOf (ownOf sheet scopes id) ≡ None) × Sound sheet scopes ids
+use Rattle.find.specs.Find.{namesOf, sheetOf, ScopeAt}
 
 -- the contracts, over the sheet's bytes and its index: the refusal r of what is read at a position
 module _ (s ids ats : List ℕ) where
@@ -46,12 +37,11 @@ module _ (s ids ats : List ℕ) where
       ForAll (λ sheet. On (times (read.scopeOf (typeOf left)) end n (rows (drop at s)))
       (λ ss. r ≡ refusalOf (accumulate sheet (scopesOf ss sheet) 16 id)))
 
-  -- of a node whose P rows begin at `params`, on a chain on which the nodes `seen` have no refusal
-  abbrev pub OwnTold : List ℕ → ℕ → ℕ → ℕ → ℕ → ℕ → Refusal → Type 0
-  OwnTold seen params id at n left r =
-      ForAll (λ sheet. (x : Node) → nodeOf (sheet .nodes) id ≡ ok x → namesOf (rows (drop params s)) ≡ x .params
-      → On (times (read.scopeOf (typeOf left)) end n (rows (drop at s)))
-      (λ ss. Sound sheet (scopesOf ss sheet) seen → r ≡ refusalOf (ownOf sheet (scopesOf ss sheet) id)))
+  -- of a node whose P rows begin at `params`, with the scope that stands at `place`, or none
+  abbrev pub OwnTold : ℕ → ℕ → ℕ → Refusal → Type 0
+  OwnTold params place left r =
+      ForAll (λ sheet. (o : Option Scope) → ScopeAt left sheet (rows (drop place s)) o
+      → r ≡ refusalOf (argumentsOf (sheet .root) (namesOf (rows (drop params s))) o))
 
   abbrev pub BindsTold : ℕ → ℕ → ℕ → Refusal → Type 0
   BindsTold at n left r =

@@ -115,8 +115,8 @@ fn list_refusal(s: &[u8], ids: &[u64], ats: &[usize], at: usize, left: usize, le
     refusal(s, ids, ats, at, left, codegen_types::element_leaf(kind))
 }
 
-// The refusal of do_branding for n scopes from a position on: the first along the chain of parents, innermost node first.
-// A node that was seen on the chain is not evaluated again: parents may form a cycle.
+// The refusal of do_branding for n scopes from a position on: the first along the chain of parents, innermost node first, and
+// then the chain's own. A node that was seen on the chain is not evaluated again: parents may form a cycle.
 fn brand_refusal(
     s: &[u8],
     ids: &[u64],
@@ -128,51 +128,41 @@ fn brand_refusal(
 ) -> Refusal
     ensures { λ r. ⌜ BrandTold (now (s .entry)) (now (ids .entry)) (now (ats .entry)) id at n left r ⌝ }
 {
-    let mut seen = [0u64; 16];
+    let chain = find::chain(s, ids, ats, id);
+    let nodes = chain.ids;
+    let params = chain.params;
+    let count = chain.count;
+    let last = chain.refusal;
+    let places = find::scopes(s, at, n, &nodes[..count]);
     let mut k: usize = 0;
-    let mut current = id;
-    while k < 16 {
-        let Found::At(node) = find::node(ids, ats, current) else {
-            return Refusal::Number(5);
-        };
-        let row = find::node_row(s, node);
-        let own = own_refusal(s, ids, ats, &seen[..k], row.params, current, at, n, left);
+    while k < count {
+        let node = nodes[k];
+        if find::among(&nodes[..k], node) {
+            k += 1;
+            continue;
+        }
+        let own = own_refusal(s, ids, ats, params[k], places[k], left);
         let Refusal::None = own else {
             return own;
         };
-        if row.parent == 0 {
-            return Refusal::None;
-        }
-        seen[k] = current;
         k += 1;
-        current = row.parent;
     }
-    Refusal::Number(4)
+    last
 }
 
 // The refusal of one node's own arguments: bindings that are not as many as its parameters, or the first of theirs. Its P
-// rows begin at `params`.
+// rows begin at `params`, and its scope stands at `place`, where there is one.
 fn own_refusal(
     s: &[u8],
     ids: &[u64],
     ats: &[usize],
-    seen: &[u64],
     params: usize,
-    id: u64,
-    at: usize,
-    n: u64,
+    place: usize,
     left: usize,
 ) -> Refusal
-    ensures { λ r. ⌜ OwnTold (now (s .entry)) (now (ids .entry)) (now (ats .entry)) (now (seen .entry)) params id at n left
-        r ⌝ }
+    ensures { λ r. ⌜ OwnTold (now (s .entry)) (now (ids .entry)) (now (ats .entry)) params place left r ⌝ }
 {
-    if find::among(seen, id) {
-        return Refusal::None;
-    }
-    let Found::At(scope) = find::scope(s, at, n, id) else {
-        return Refusal::None;
-    };
-    let g = row::next(s, scope);
+    let g = row::next(s, place);
     let line = g.line;
     let Line::Scope { id: _, bind, count } = line else {
         return Refusal::None;

@@ -4,10 +4,11 @@ use mathlib.Core.Path.{_≡_, refl, sym, _∙_}
 use mathlib.Core.Bool.{Bool, true, false}
 use mathlib.Core.List.{List, [], _∷_, _++_, map}
 use mathlib.Core.Option.{Option, none, some}
-use Prim.Native.Nat.{ℕ, _-_, _<_, _≤_}
+use Prim.Native.Nat.{ℕ, _+_, _-_, _<_, _≤_}
+use native.Mathlib.Omega.{arith}
 use borrow.Author.Tests.{eq-eqb, ne-eqb}
 use lib.Dec.{eqb}
-use lib.ListN.{length, drop}
+use lib.ListN.{length, drop, take, getD}
 use package.types.Run.{OneOf}
 use denote.Enum.Declared.{tagOf}
 use Rattle.row.proofs.Line.{the-type}
@@ -28,14 +29,17 @@ use Rattle.codegen_types.specs.Leaf.{bareName, display, lifetimeComma, maybeCol
 use Rattle.codegen_types.specs.TypeString as typeString
 use Rattle.codegen_types.specs.TypeString.{typeString, doBranding, nodeOf, scopeOf, scopesOf, bindingsOf, allOf, argumentsOf}
 use Rattle.codegen_types.specs.TypeString.{accumulate, outermostFirst, angled, anyOwned, listString, listModule, elementLeaf}
-use Rattle.codegen_types.proofs.Laws.{accumulate-none, accumulate-more}
+use Rattle.codegen_types.specs.declared.Refusal.{Refusal}
+use Rattle.codegen_types.specs.declared.Refusal.the-variants.{None, Number}
 use Rattle.codegen_types.specs.declared.Leaf.{Leaf}
 use Rattle.codegen_types.specs.declared.Leaf.the-variants.{Owned}
 use Rattle.tree.specs.Index.{On, Has, Indexed}
-use Rattle.find.specs.Find.{kindAt, pastRows, ScopeIs, lastScope, namesOf, parentAt, lookup}
+use Rattle.find.specs.Find.{kindAt, pastRows, ScopeAt, namesOf, lookup, sheetOf, before, endOf, ChainOf, Placed}
+use Rattle.find.specs.declared.Links.{Links}
+use Rattle.find.proofs.ChainLaws.{before-step, before-out, placed, scope-there}
 use Rattle.find.specs.declared.Found.{Found}
 use Rattle.find.specs.declared.Found.the-variants.{At, Nothing}
-use Rattle.find.proofs.Laws.{on-one, on-two, on-all, scope-counts}
+use Rattle.find.proofs.Laws.{on-one, on-two, on-all}
 use Rattle.find.proofs.TypeLaws as read-law
 use Rattle.find.proofs.TypeLaws.{of-kind, times-none, binds-more, scope-inherit, scope-binds, scope-not}
 use Rattle.find.proofs.NodeLaws.{node-missing, node-there}
@@ -43,7 +47,7 @@ use Rattle.type_parts.specs.Parts.{Writes, Lists, Listed, Opened, closer}
 use Rattle.type_parts.specs.declared.Arguments.{Arguments}
 use Rattle.type_parts.proofs.Laws as parts
 use Rattle.type_parts.proofs.Laws.{listed-none, listed-cons, _⨟_}
-use Rattle.type_string.specs.Told.{outward, onlyOf}
+use Rattle.type_string.specs.Told.{outward, onlyOf, ChainTold, OwnTold}
 
 -- ---- lists
 
@@ -85,62 +89,143 @@ module _ (sheet : Sheet) (leaf : Leaf) (left : ℕ) (rs : Rows) (k : ℕ) (at : 
 
 -- ---- the chain of a node's parents
 
-pub chain-zero : (sheet : Sheet) (G : Reading Scopes) (nodes id : ℕ) (l : List ℕ) (p : Arguments) (l′ : List ℕ) (p′ : Arguments)
-    → nodes ≡ 0 → On G (λ ss. Lists (outward (accumulate sheet (scopesOf ss sheet) nodes id)) l p l′ p′)
-chain-zero sheet G nodes id l p l′ p′ z = on-all {P = λ ss. Lists (outward (accumulate sheet (scopesOf ss sheet) nodes id)) l p
-    l′ p′} (λ ss. rw (accumulate-none sheet (scopesOf ss sheet) nodes id z) tt) G
+abbrev Refuses : Out (List (List Str)) → Type 0
+Refuses (ok a) = ⊥
+Refuses (refused k) = Unit {0}
 
-module _ (s : Str) (sheet : Sheet) (ids ats : List ℕ) (G : Reading Scopes) (nodes id : ℕ) (z : nodes ≡ 0 → ⊥) (f : Found)
-    (e : f ≡ lookup id ids ats) (i : Indexed s (sheet .nodes) ids ats) where
-  pub chain-none : (l : List ℕ) (p : Arguments) (l′ : List ℕ) (p′ : Arguments) → f ≡ Nothing
-      → On G (λ ss. Lists (outward (accumulate sheet (scopesOf ss sheet) nodes id)) l p l′ p′)
-  chain-none l p l′ p′ h =
-      on-all {P = λ ss. Lists (outward (accumulate sheet (scopesOf ss sheet) nodes id)) l p l′ p′}
-      (λ ss. rw (accumulate-more sheet (scopesOf ss sheet) nodes id z, node-missing s sheet ids ats id f e i h) tt) G
-
-  module _ (node : ℕ) (here : f ≡ At node) (parent : ℕ) (up : parent ≡ parentAt (rows (drop node s))) (ps : Rows)
-      (params : ps ≡ restOf (rows (drop node s))) where
-    by-node : (Q : Scopes → Type 0) → ((x : Node) → nodeOf (sheet .nodes) id ≡ ok x → namesOf ps ≡ x .params
-        → parent ≡ x .parent → On G Q) → On G Q
-    by-node Q law = node-there s sheet ids ats id f e i node here (λ o. On G Q)
-        (λ x y w. law x y (rw params (w .params)) (up ∙ rw (w .line) refl))
-
-    pub chain-top : (l : List ℕ) (p : Arguments) (l′ : List ℕ) (p′ : Arguments) → parent ≡ 0
-        → ((x : Node) → namesOf ps ≡ x .params → On G
-        (λ ss. Lists (argumentsOf (sheet .root) (x .params) (scopeOf id (scopesOf ss sheet))) l p l′ p′))
-        → On G (λ ss. Lists (outward (accumulate sheet (scopesOf ss sheet) nodes id)) l p l′ p′)
-    unfolding outermostFirst
-    chain-top l p l′ p′ y own =
-        by-node (λ ss. Lists (outward (accumulate sheet (scopesOf ss sheet) nodes id)) l p l′ p′)
-        (λ x n w u. on-one (λ ss. Lists (argumentsOf (sheet .root) (x .params) (scopeOf id (scopesOf ss sheet))) l p l′ p′)
-        (λ ss. Lists (outward (accumulate sheet (scopesOf ss sheet) nodes id)) l p l′ p′) G
-        (λ ss g. rw (accumulate-more sheet (scopesOf ss sheet) nodes id z, n, eq-eqb (x .parent) 0 (sym u ∙ y))
-        (go (argumentsOf (sheet .root) (x .params) (scopeOf id (scopesOf ss sheet))) g)) (own x w))
+-- what is further out is refused: nothing is said
+before-refused : (root s : Str) (scopes : List (ℕ × typeString.Scope)) (is ps : List ℕ) (j : ℕ) (l : List ℕ) (p : Arguments)
+    (l′ : List ℕ) (p′ : Arguments) → Lists (outward (before root s scopes is ps (refused j))) l p l′ p′
+unfolding before
+before-refused root s scopes [] ps j l p l′ p′ = tt
+before-refused root s scopes (i ∷ is) [] j l p l′ p′ = tt
+before-refused root s scopes (i ∷ is) (q ∷ ps) j l p l′ p′ =
+    go (argumentsOf root (namesOf (rows (drop q s))) (scopeOf i scopes)) (before root s scopes is ps (refused j)) (out is ps)
+  where
+    out : (is ps : List ℕ) → Refuses (before root s scopes is ps (refused j))
+    out [] ps = tt
+    out (i ∷ is) [] = tt
+    out (i ∷ is) (q ∷ ps) = more (argumentsOf root (namesOf (rows (drop q s))) (scopeOf i scopes))
+        (before root s scopes is ps (refused j)) (out is ps)
       where
-        go : (o : Out (List Str)) → Lists o l p l′ p′ → Lists (outward (o then λ arguments. ok (arguments ∷ []))) l p l′ p′
-        go (ok ws) g = g
-        go (refused k) g = tt
+        more : (o : Out (List Str)) (a : Out (List (List Str))) → Refuses a → Refuses (o then λ arguments. a then λ outer. ok
+            (arguments ∷ outer))
+        more (ok ws) (ok a) h = h
+        more (ok ws) (refused k) h = tt
+        more (refused k) a h = tt
 
-    pub chain-next : (l : List ℕ) (p : Arguments) (l₁ : List ℕ) (q : Arguments) (l₂ : List ℕ) (r : Arguments) → (parent ≡ 0 → ⊥)
-        → On G (λ ss. Lists (outward (accumulate sheet (scopesOf ss sheet) (nodes - 1) parent)) l p l₁ q)
-        → ((x : Node) → namesOf ps ≡ x .params → On G
-        (λ ss. Lists (argumentsOf (sheet .root) (x .params) (scopeOf id (scopesOf ss sheet))) l₁ q l₂ r))
-        → On G (λ ss. Lists (outward (accumulate sheet (scopesOf ss sheet) nodes id)) l p l₂ r)
-    unfolding outermostFirst
-    chain-next l p l₁ q l₂ r y outer own =
-        by-node (λ ss. Lists (outward (accumulate sheet (scopesOf ss sheet) nodes id)) l p l₂ r)
-        (λ x n w u. on-two (λ ss. Lists (outward (accumulate sheet (scopesOf ss sheet) (nodes - 1) parent)) l p l₁ q)
-        (λ ss. Lists (argumentsOf (sheet .root) (x .params) (scopeOf id (scopesOf ss sheet))) l₁ q l₂ r)
-        (λ ss. Lists (outward (accumulate sheet (scopesOf ss sheet) nodes id)) l p l₂ r) G
-        (λ ss g h. rw (accumulate-more sheet (scopesOf ss sheet) nodes id z, n, ne-eqb (x .parent) 0 (λ v. y (u ∙ v)), ← u)
-        (go (argumentsOf (sheet .root) (x .params) (scopeOf id (scopesOf ss sheet)))
-        (accumulate sheet (scopesOf ss sheet) (nodes - 1) parent) g h)) outer (own x w))
-      where
-        go : (o : Out (List Str)) (a : Out (List (List Str))) → Lists (outward a) l p l₁ q → Lists o l₁ q l₂ r
-            → Lists (outward (o then λ arguments. a then λ outer. ok (arguments ∷ outer))) l p l₂ r
-        go (ok ws) (ok a) g h = g ⨟ h
-        go (ok ws) (refused k) g h = tt
-        go (refused k) a g h = tt
+    go : (o : Out (List Str)) (a : Out (List (List Str))) → Refuses a
+        → Lists (outward (o then λ arguments. a then λ outer. ok (arguments ∷ outer))) l p l′ p′
+    go (ok ws) (ok a) h = absurd h
+    go (ok ws) (refused k) h = tt
+    go (refused k) a h = tt
+
+-- the nodes of a chain from the k-th on are written
+abbrev pub Outer : Str → Str → List Node → Links → ℕ → List ℕ → Arguments → List ℕ → Arguments → Scopes → Type 0
+Outer root s ns c k l p l′ p′ ss = Lists (outward (before root s (scopesOf ss (sheetOf root ns))
+    (drop k (take (c .count) (c .ids))) (drop k (take (c .count) (c .params))) (ok []))) l p l′ p′
+
+module _ (s : Str) (ns : List Node) (ids ats : List ℕ) (root : Str) (x : Indexed s ns ids ats) (id : ℕ) (c : Links)
+    (w : ChainOf s ids ats id c) (left at n : ℕ) where
+  abbrev G : Reading Scopes
+  G = times (read.scopeOf (typeOf left)) end n (rows (drop at s))
+
+  chain-start : (l : List ℕ) (p : Arguments) → On G (Outer root s ns c (c .count) l p l p)
+  unfolding outermostFirst
+  chain-start l p = on-all {P = Outer root s ns c (c .count) l p l p}
+      (λ ss. rw (before-out root s (scopesOf ss (sheetOf root ns)) (c .ids) (c .params) (c .count) (c .count) (ok [])
+      (omega arith) (omega (arith, w .few, w .ids-size))) (listed-none l p)) G
+
+  chain-end : (k : ℕ) (l : List ℕ) (p : Arguments) (l′ : List ℕ) (p′ : Arguments) → k ≤ 0 → On G (Outer root s ns c k l p l′ p′)
+      → On G (λ ss. Lists (outward (accumulate (sheetOf root ns) (scopesOf ss (sheetOf root ns)) 16 id)) l p l′ p′)
+  chain-end k l p l′ p′ h v =
+      on-one (Outer root s ns c k l p l′ p′)
+      (λ ss. Lists (outward (accumulate (sheetOf root ns) (scopesOf ss (sheetOf root ns)) 16 id)) l p l′ p′) G
+      (λ ss y. rw ((w .all) root ns x (scopesOf ss (sheetOf root ns))) (go ss (c .refusal) (rw zero at y))) v
+    where
+      zero : k ≡ 0
+      zero = omega arith
+
+      go : (ss : Scopes) (r : Refusal) → Outer root s ns c 0 l p l′ p′ ss
+          → Lists (outward (before root s (scopesOf ss (sheetOf root ns)) (take (c .count) (c .ids))
+          (take (c .count) (c .params)) (endOf r))) l p l′ p′
+      go ss None y = y
+      go ss (Number j) y = before-refused root s (scopesOf ss (sheetOf root ns)) (take (c .count) (c .ids))
+          (take (c .count) (c .params)) j l p l′ p′
+
+  chain-next : (places : List ℕ) → Placed s at n (take (c .count) (c .ids)) places → (k : ℕ) → 0 < k → k ≤ c .count
+      → (l : List ℕ) (p : Arguments) (l₁ : List ℕ) (q : Arguments) (l₂ : List ℕ) (r : Arguments) → On G (Outer root s ns c k l p l₁ q)
+      → ((o : Option typeString.Scope) → ScopeAt left (sheetOf root ns) (rows (drop (getD places (k - 1) 0) s)) o
+      → Lists (argumentsOf root (namesOf (rows (drop (getD (c .params) (k - 1) 0) s))) o) l₁ q l₂ r)
+      → On G (Outer root s ns c (k - 1) l p l₂ r)
+  unfolding outermostFirst
+  chain-next places there k h f l p l₁ q l₂ r v own =
+      on-two (Outer root s ns c k l p l₁ q)
+      (λ ss. ScopeAt left (sheetOf root ns) (rows (drop (getD places (k - 1) 0) s))
+      (scopeOf (getD (c .ids) (k - 1) 0) (scopesOf ss (sheetOf root ns)))) (Outer root s ns c (k - 1) l p l₂ r) G
+      (λ ss y u. rw (
+        before-step root s (scopesOf ss (sheetOf root ns)) (c .ids) (c .params) (c .count) (k - 1) (ok [])
+            (omega arith) (omega (arith, w .few, w .ids-size)) (omega (arith, w .few, w .params-size)),
+        back,
+      )
+      (go (argumentsOf root (namesOf (rows (drop (getD (c .params) (k - 1) 0) s)))
+      (scopeOf (getD (c .ids) (k - 1) 0) (scopesOf ss (sheetOf root ns))))
+      (before root s (scopesOf ss (sheetOf root ns)) (drop k (take (c .count) (c .ids))) (drop k (take (c .count) (c .params)))
+      (ok [])) y
+      (own (scopeOf (getD (c .ids) (k - 1) 0) (scopesOf ss (sheetOf root ns))) u))) v
+      (placed left (sheetOf root ns) s at n (c .ids) places (c .count) (k - 1) there (omega arith) (w .few)
+      (omega (arith, w .few, w .ids-size)))
+    where
+      back : k - 1 + 1 ≡ k
+      back = omega arith
+
+      go : (o : Out (List Str)) (a : Out (List (List Str))) → Lists (outward a) l p l₁ q → Lists o l₁ q l₂ r
+          → Lists (outward (o then λ arguments. a then λ outer. ok (arguments ∷ outer))) l p l₂ r
+      go (ok ws) (ok a) g h = g ⨟ h
+      go (ok ws) (refused k) g h = tt
+      go (refused k) a g h = tt
+
+-- the way outwards in: a chain, the places of its scopes, and what is written of it
+pub record Writing (root s ids ats : List ℕ) (id at n left : ℕ) (l : List ℕ) (p : Arguments) (params : List ℕ) (count : ℕ)
+    (places : List ℕ) (l′ : List ℕ) (p′ : Arguments) (k : ℕ) : Type 0 where
+  pub links : Links
+  pub told : ChainOf s ids ats id links
+  pub params-is : params ≡ links .params
+  pub count-is : count ≡ links .count
+  pub there : Placed s at n (take (links .count) (links .ids)) places
+  pub outer : (ns : List Node) → Indexed s ns ids ats → On (times (read.scopeOf (typeOf left)) end n (rows (drop at s)))
+      (Outer root s ns links k l p l′ p′)
+
+module _ (root s ids ats : List ℕ) (id at n left : ℕ) (l : List ℕ) (p : Arguments) where
+  pub writing-start : (c : Links) → ChainOf s ids ats id c → (places : List ℕ)
+      → Placed s at n (take (c .count) (c .ids)) places
+      → Writing root s ids ats id at n left l p (c .params) (c .count) places l p (c .count)
+  writing-start c w places there = record {
+    links = c;
+    told = w;
+    params-is = refl;
+    count-is = refl;
+    there = there;
+    outer = λ ns x. chain-start s ns ids ats root x id c w left at n l p;
+  }
+
+  module _ (params : List ℕ) (count : ℕ) (places l₁ : List ℕ) (q : Arguments) (k : ℕ)
+      (w : Writing root s ids ats id at n left l p params count places l₁ q k) where
+    pub writing-next : 0 < k → k ≤ count → (l₂ : List ℕ) (r : Arguments)
+        → OwnTold root s ids ats (getD params (k - 1) 0) (getD places (k - 1) 0) left l₁ q l₂ r
+        → Writing root s ids ats id at n left l p params count places l₂ r (k - 1)
+    writing-next h f l₂ r own = record {
+      links = w .links;
+      told = w .told;
+      params-is = w .params-is;
+      count-is = w .count-is;
+      there = w .there;
+      outer = λ ns x. chain-next s ns ids ats root x id (w .links) (w .told) left at n places (w .there) k h
+          (rw (w .count-is) at f) l p l₁ q l₂ r ((w .outer) ns x) (rw (w .params-is) at (own ns x));
+    }
+
+    pub writing-end : k ≤ 0 → ChainTold root s ids ats id at n left l p l₁ q
+    writing-end h = λ ns x. chain-end s ns ids ats root x id (w .links) (w .told) left at n k l p l₁ q h ((w .outer) ns x)
 
 -- ---- a brand
 
@@ -173,59 +258,42 @@ module _ (s : Str) (sheet : Sheet) (leaf : Leaf) (ids ats : List ℕ) (G : Readi
 
 -- ---- one node's own arguments
 
-module _ (left : ℕ) (sheet : Sheet) (id n : ℕ) (rs : Rows) (f : Option Rows) (counts : f ≡ lastScope id n rs none) (x : Node)
-    (l : List ℕ) (p : Arguments) (l′ : List ℕ) (p′ : Arguments) where
-  -- by the scope that counts
-  by-scope : ((o : Option typeString.Scope) → ScopeIs left sheet f o
-      → Lists (argumentsOf (sheet .root) (x .params) o) l p l′ p′)
-      → On (times (read.scopeOf (typeOf left)) end n rs) (λ ss. Lists
-      (argumentsOf (sheet .root) (x .params) (scopeOf id (scopesOf ss sheet))) l p l′ p′)
-  by-scope h =
-      on-one (λ ss. ScopeIs left sheet (lastScope id n rs none) (scopeOf id (scopesOf ss sheet)))
-      (λ ss. Lists (argumentsOf (sheet .root) (x .params) (scopeOf id (scopesOf ss sheet))) l p l′ p′)
-      (times (read.scopeOf (typeOf left)) end n rs) (λ ss w. h (scopeOf id (scopesOf ss sheet)) (rw counts w))
-      (scope-counts left id sheet n rs)
-
-  pub own-none : (ps : Rows) → namesOf ps ≡ x .params → f ≡ none
+module _ (left : ℕ) (sheet : Sheet) (q ps : Rows) (line : Line) (at : line ≡ lineAt q) (l : List ℕ) (p : Arguments)
+    (l′ : List ℕ) (p′ : Arguments) (o : Option typeString.Scope) (here : ScopeAt left sheet q o) where
+  pub own-other : OneOf (0 ∷ 1 ∷ 2 ∷ 3 ∷ 4 ∷ 5 ∷ 7 ∷ 8 ∷ 9 ∷ 10 ∷ []) (tagOf the-type line)
       → Listed l p (map (λ q. anyOwned (sheet .root)) (namesOf ps)) l′ p′
-      → On (times (read.scopeOf (typeOf left)) end n rs) (λ ss. Lists
-      (argumentsOf (sheet .root) (x .params) (scopeOf id (scopesOf ss sheet))) l p l′ p′)
+      → Lists (argumentsOf (sheet .root) (namesOf ps) o) l p l′ p′
   unfolding argumentsOf
-  own-none ps e z w = by-scope (λ o h. let y : o ≡ none = rw z at h in rw (y, ← e) w)
+  own-other other w = go q at here
+    where
+      go : (q : Rows) → line ≡ lineAt q → ScopeAt left sheet q o → Lists (argumentsOf (sheet .root) (namesOf ps) o) l p l′ p′
+      go [] e h = rw h w
+      go (r ∷ rs) e h = absurd (scope-not left sheet (r ∷ rs) o line e other h)
 
-  module _ (q : Rows) (here : f ≡ some q) (line : Line) (at : line ≡ lineAt q) where
-    pub own-other : OneOf (0 ∷ 1 ∷ 2 ∷ 3 ∷ 4 ∷ 5 ∷ 7 ∷ 8 ∷ 9 ∷ 10 ∷ []) (tagOf the-type line)
-        → On (times (read.scopeOf (typeOf left)) end n rs) (λ ss. Lists
-        (argumentsOf (sheet .root) (x .params) (scopeOf id (scopesOf ss sheet))) l p l′ p′)
-    own-other other = by-scope (λ o h. absurd (scope-not left sheet q o line at other (rw here at h)))
+  module _ (i b m : ℕ) (is : line ≡ Scope i b m) where
+    pub own-inherit : b ≡ 0 → Listed l p (namesOf ps) l′ p′ → Lists (argumentsOf (sheet .root) (namesOf ps) o) l p l′ p′
+    unfolding argumentsOf
+    own-inherit z w = let y : o ≡ some typeString.inherited = scope-inherit left sheet q o line i b m at is z
+        (scope-there left sheet q o line i b m at is here) in rw y w
 
-    module _ (i b m : ℕ) (is : line ≡ Scope i b m) where
-      pub own-inherit : (ps : Rows) → namesOf ps ≡ x .params → b ≡ 0 → Listed l p (namesOf ps) l′ p′
-          → On (times (read.scopeOf (typeOf left)) end n rs) (λ ss. Lists
-          (argumentsOf (sheet .root) (x .params) (scopeOf id (scopesOf ss sheet))) l p l′ p′)
-      unfolding argumentsOf
-      own-inherit ps e z w = by-scope (λ o h. let y : o ≡ some typeString.inherited = scope-inherit left sheet q o line i b m at
-          is z (rw here at h) in rw (y, ← e) w)
+    pub own-binds : (rest : Rows) → rest ≡ restOf q → (b ≡ 0 → ⊥)
+        → On (times (bindingOf (typeOf left)) stop m rest) (λ bs. Lists (allOf (bindingsOf bs sheet)) l p l′ p′)
+        → Lists (argumentsOf (sheet .root) (namesOf ps) o) l p l′ p′
+    unfolding argumentsOf
+    own-binds rest next z u = go (times (bindingOf (typeOf left)) stop m rest) o
+        (scope-binds left sheet q rest o line i b m at is next z (scope-there left sheet q o line i b m at is here)) u
+      where
+        same : (t : Bool) (a : Out (List Str)) → Lists a l p l′ p′ → Lists (cond t a (refused 8)) l p l′ p′
+        same true a w = w
+        same false a w = tt
 
-      pub own-binds : (rest : Rows) → rest ≡ restOf q → (b ≡ 0 → ⊥)
-          → On (times (bindingOf (typeOf left)) stop m rest) (λ bs. Lists (allOf (bindingsOf bs sheet)) l p l′ p′)
-          → On (times (read.scopeOf (typeOf left)) end n rs) (λ ss. Lists
-          (argumentsOf (sheet .root) (x .params) (scopeOf id (scopesOf ss sheet))) l p l′ p′)
-      unfolding argumentsOf
-      own-binds rest next z u = by-scope (λ o h. go (times (bindingOf (typeOf left)) stop m rest) o
-          (scope-binds left sheet q rest o line i b m at is next z (rw here at h)) u)
-        where
-          same : (t : Bool) (a : Out (List Str)) → Lists a l p l′ p′ → Lists (cond t a (refused 8)) l p l′ p′
-          same true a w = w
-          same false a w = tt
-
-          go : (g : Reading Binds) (o : Option typeString.Scope)
-              → Has g (λ bs. o ≡ some (typeString.binds (bindingsOf bs sheet)))
-              → On g (λ bs. Lists (allOf (bindingsOf bs sheet)) l p l′ p′)
-              → Lists (argumentsOf (sheet .root) (x .params) o) l p l′ p′
-          go (got bs k) o w v = rw w (same (eqb (length (bindingsOf bs sheet)) (length (x .params)))
-              (allOf (bindingsOf bs sheet)) v)
-          go (no j k) o w v = absurd w
+        go : (g : Reading Binds) (o : Option typeString.Scope)
+            → Has g (λ bs. o ≡ some (typeString.binds (bindingsOf bs sheet)))
+            → On g (λ bs. Lists (allOf (bindingsOf bs sheet)) l p l′ p′)
+            → Lists (argumentsOf (sheet .root) (namesOf ps) o) l p l′ p′
+        go (got bs k) o w v = rw w (same (eqb (length (bindingsOf bs sheet)) (length (namesOf ps)))
+            (allOf (bindingsOf bs sheet)) v)
+        go (no j k) o w v = absurd w
 
 -- ---- bindings
 

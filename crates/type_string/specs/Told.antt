@@ -3,21 +3,22 @@
 -- type_refusal). Assumes nothing.
 use mathlib.Core.Path.{_≡_}
 use mathlib.Core.List.{List, [], _∷_}
+use mathlib.Core.Option.{Option}
 use Prim.Native.Nat.{ℕ}
 use lib.ListN.{drop}
 use Rattle.text.specs.Bytes.{Str}
 use Rattle.text.specs.declared.Text.{Text}
 use Rattle.row.specs.Rows.{rows}
-use Rattle.tree.specs.Tree.{list, struct, end, stop, Node}
+use Rattle.tree.specs.Tree.{list, struct, end, stop}
 use Rattle.tree.specs.Reader.{times}
 use Rattle.tree.specs.Read as read
 use Rattle.tree.specs.Read.{typeOf, bindingOf}
 use Rattle.codegen_types.specs.Out.{Out, ok, refused, _then_}
-use Rattle.codegen_types.specs.TypeString.{typeString, scopeOf, scopesOf, bindingsOf, allOf, argumentsOf, accumulate}
+use Rattle.codegen_types.specs.TypeString.{typeString, Scope, scopesOf, bindingsOf, allOf, argumentsOf, accumulate}
 use Rattle.codegen_types.specs.TypeString.{outermostFirst}
 use Rattle.codegen_types.specs.declared.Leaf.{Leaf}
 use Rattle.tree.specs.Index.{On}
-use Rattle.find.specs.Find.{namesOf}
+use Rattle.find.specs.Find.{namesOf, ScopeAt}
 use Rattle.type_parts.specs.Parts.{ForAll, Writes, Lists}
 use Rattle.type_parts.specs.declared.Arguments.{Arguments}
 
@@ -45,17 +46,16 @@ module _ (root s ids ats : List ℕ) where
       ForAll root s ids ats (λ sheet. On (times (read.scopeOf (typeOf left)) end n (rows (drop at s)))
       (λ ss. Writes (typeString (struct id ss) sheet leaf) l t l′ t′))
 
-  abbrev pub ChainTold : ℕ → ℕ → ℕ → ℕ → ℕ → List ℕ → Arguments → List ℕ → Arguments → Type 0
-  ChainTold id nodes at n left l p l′ p′ =
+  abbrev pub ChainTold : ℕ → ℕ → ℕ → ℕ → List ℕ → Arguments → List ℕ → Arguments → Type 0
+  ChainTold id at n left l p l′ p′ =
       ForAll root s ids ats (λ sheet. On (times (read.scopeOf (typeOf left)) end n (rows (drop at s)))
-      (λ ss. Lists (outward (accumulate sheet (scopesOf ss sheet) nodes id)) l p l′ p′))
+      (λ ss. Lists (outward (accumulate sheet (scopesOf ss sheet) 16 id)) l p l′ p′))
 
-  -- of a node whose P rows begin at `params`
-  abbrev pub OwnTold : ℕ → ℕ → ℕ → ℕ → ℕ → List ℕ → Arguments → List ℕ → Arguments → Type 0
-  OwnTold params id at n left l p l′ p′ =
-      ForAll root s ids ats (λ sheet. (x : Node) → namesOf (rows (drop params s)) ≡ x .params
-      → On (times (read.scopeOf (typeOf left)) end n (rows (drop at s)))
-      (λ ss. Lists (argumentsOf root (x .params) (scopeOf id (scopesOf ss sheet))) l p l′ p′))
+  -- of a node whose P rows begin at `params`, with the scope that stands at `place`, or none
+  abbrev pub OwnTold : ℕ → ℕ → ℕ → List ℕ → Arguments → List ℕ → Arguments → Type 0
+  OwnTold params place left l p l′ p′ =
+      ForAll root s ids ats (λ sheet. (o : Option Scope) → ScopeAt left sheet (rows (drop place s)) o
+      → Lists (argumentsOf root (namesOf (rows (drop params s))) o) l p l′ p′)
 
   abbrev pub BindsTold : ℕ → ℕ → ℕ → List ℕ → Arguments → List ℕ → Arguments → Type 0
   BindsTold at n left l p l′ p′ =

@@ -122,68 +122,60 @@ fn do_branding(
     let name = row::text(s, node);
     let t = t.bytes(buf, name);
     let p = type_parts::opening(leaf, t, buf);
-    let p = write_chain(root, s, ids, ats, id, 16, at, n, left, p, buf);
+    let p = write_chain(root, s, ids, ats, id, at, n, left, p, buf);
     type_parts::close(p, buf)
 }
 
-// The arguments of a node after those of its parents, at most so many nodes in all.
+// The arguments of a node after those of its parents.
 fn write_chain(
     root: &[u8],
     s: &[u8],
     ids: &[u64],
     ats: &[usize],
     id: u64,
-    nodes: usize,
     at: usize,
     n: u64,
     left: usize,
-    p: Arguments,
+    first: Arguments,
     buf: &mut [u8],
 ) -> Arguments
-    ensures { λ r. ⌜ ChainTold (now (root .entry)) (now (s .entry)) (now (ids .entry)) (now (ats .entry)) id nodes at n left
-        (now (buf .entry)) p (now (buf .exit)) r ⌝ }
+    ensures { λ r. ⌜ ChainTold (now (root .entry)) (now (s .entry)) (now (ids .entry)) (now (ats .entry)) id at n left
+        (now (buf .entry)) first (now (buf .exit)) r ⌝ }
 {
-    if nodes == 0 {
-        return p;
+    let chain = find::chain(s, ids, ats, id);
+    let nodes = chain.ids;
+    let params = chain.params;
+    let count = chain.count;
+    let places = find::scopes(s, at, n, &nodes[..count]);
+    let mut k = count;
+    let mut p = first;
+    while 0 < k {
+        k -= 1;
+        p = write_own(root, s, ids, ats, params[k], places[k], left, p, buf);
     }
-    let Found::At(node) = find::node(ids, ats, id) else {
-        return p;
-    };
-    let row = find::node_row(s, node);
-    let parent = row.parent;
-    let params = row.params;
-    if parent == 0 {
-        return write_own(root, s, ids, ats, params, id, at, n, left, p, buf);
-    }
-    let q = write_chain(root, s, ids, ats, parent, nodes - 1, at, n, left, p, buf);
-    write_own(root, s, ids, ats, params, id, at, n, left, q, buf)
+    p
 }
 
-// The arguments of one node, whose P rows begin at `params`: those that its scope binds, its own parameters' names, or for each
-// parameter one that is not bound.
+// The arguments of one node, whose P rows begin at `params` and whose scope stands at `place`, where there is one: those that
+// its scope binds, its own parameters' names, or for each parameter one that is not bound.
 fn write_own(
     root: &[u8],
     s: &[u8],
     ids: &[u64],
     ats: &[usize],
     params: usize,
-    id: u64,
-    at: usize,
-    n: u64,
+    place: usize,
     left: usize,
     p: Arguments,
     buf: &mut [u8],
 ) -> Arguments
-    ensures { λ r. ⌜ OwnTold (now (root .entry)) (now (s .entry)) (now (ids .entry)) (now (ats .entry)) params id at n left
+    ensures { λ r. ⌜ OwnTold (now (root .entry)) (now (s .entry)) (now (ids .entry)) (now (ats .entry)) params place left
         (now (buf .entry)) p (now (buf .exit)) r ⌝ }
 {
-    let Found::At(scope) = find::scope(s, at, n, id) else {
-        return type_parts::unbound(root, s, params, p, buf);
-    };
-    let g = row::next(s, scope);
+    let g = row::next(s, place);
     let line = g.line;
     let Line::Scope { id: _, bind, count } = line else {
-        return p;
+        return type_parts::unbound(root, s, params, p, buf);
     };
     if bind == 0 {
         return type_parts::inherited(s, params, p, buf);

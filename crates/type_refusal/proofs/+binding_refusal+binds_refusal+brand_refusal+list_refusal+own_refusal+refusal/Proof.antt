@@ -3,10 +3,11 @@
 -- and no node that was seen has a refusal of its own. Assumes nothing.
 use Rattle.type_refusal.proofs as here
 use lib.Seq.{length-take-le}
-use lib.ListN.{length, length-set, drop}
+use lib.ListN.{length, take, drop}
 use here.Laws.{Chained}
 use here.Laws as law
-use Rattle.find.specs.Find.{sheetOf}
+use Rattle.find.specs.Find.{sheetOf, ChainOf, Placed}
+use Rattle.find.proofs.ChainLaws.{chainOf}
 use Rattle.find.proofs.TypeLaws as read-law
 use Rattle.tree.specs.Index.{On, Indexed}
 use Rattle.codegen_types.specs.declared.Refusal.the-variants.{None}
@@ -66,8 +67,8 @@ abbrev μ-brand-refusal : Measures 3 brand-refusal-kinds.ps ℕ
 abbrev μ-list-refusal : Measures 3 list-refusal-kinds.ps ℕ
 μ-list-refusal κs a = 8 * a .1 .1 .1 .1 .0 + 1
 
-abbrev μ-own-refusal : Measures 4 own-refusal-kinds.ps ℕ
-μ-own-refusal κs a = 8 * a .1 .1 .1 .1 .1 .1 .1 .1 .0 + 4
+abbrev μ-own-refusal : Measures 3 own-refusal-kinds.ps ℕ
+μ-own-refusal κs a = 8 * a .1 .1 .1 .1 .1 .0 + 4
 
 abbrev μ-refusal : Measures 3 refusal-kinds.ps ℕ
 μ-refusal κs a = 8 * a .1 .1 .1 .1 .0
@@ -99,11 +100,11 @@ list-refusal-at t = and 3 list-refusal-kinds.ps (is 3 list-refusal-kinds.ps μ-l
 abbrev list-refusal-below : ℕ → In 3 list-refusal-kinds.ps
 list-refusal-below t = and 3 list-refusal-kinds.ps (falls 3 list-refusal-kinds.ps _<_ μ-list-refusal t) list-refusal.Pre
 
-abbrev own-refusal-at : ℕ → In 4 own-refusal-kinds.ps
-own-refusal-at t = and 4 own-refusal-kinds.ps (is 4 own-refusal-kinds.ps μ-own-refusal t) own-refusal.Pre
+abbrev own-refusal-at : ℕ → In 3 own-refusal-kinds.ps
+own-refusal-at t = and 3 own-refusal-kinds.ps (is 3 own-refusal-kinds.ps μ-own-refusal t) own-refusal.Pre
 
-abbrev own-refusal-below : ℕ → In 4 own-refusal-kinds.ps
-own-refusal-below t = and 4 own-refusal-kinds.ps (falls 4 own-refusal-kinds.ps _<_ μ-own-refusal t) own-refusal.Pre
+abbrev own-refusal-below : ℕ → In 3 own-refusal-kinds.ps
+own-refusal-below t = and 3 own-refusal-kinds.ps (falls 3 own-refusal-kinds.ps _<_ μ-own-refusal t) own-refusal.Pre
 
 abbrev refusal-at : ℕ → In 3 refusal-kinds.ps
 refusal-at t = and 3 refusal-kinds.ps (is 3 refusal-kinds.ps μ-refusal t) refusal.Pre
@@ -119,10 +120,12 @@ binds-refusal-calls t = (binding-refusal-below t, binding-refusal.Post, find.pas
 
 abbrev brand-refusal-calls : ℕ → brand-refusal-lts.Claims
 brand-refusal-calls t = (
-  find.node.Reads.Asked,
-  find.node.Reads.Learnt,
-  find.node_row.Reads.Asked,
-  find.node_row.Reads.Learnt,
+  find.chain.Reads.Asked,
+  find.chain.Reads.Learnt,
+  find.scopes.Reads.Asked,
+  find.scopes.Reads.Learnt,
+  find.among.Reads.Asked,
+  find.among.Reads.Learnt,
   own-refusal-below t,
   own-refusal.Post,
 )
@@ -139,10 +142,6 @@ list-refusal-calls t = (
 
 abbrev own-refusal-calls : ℕ → own-refusal-lts.Claims
 own-refusal-calls t = (
-  find.among.Reads.Asked,
-  find.among.Reads.Learnt,
-  find.scope.Reads.Asked,
-  find.scope.Reads.Learnt,
   row.next.Reads.Asked,
   row.next.Reads.Learnt,
   find.count_is.Reads.Asked,
@@ -229,84 +228,95 @@ binds-refusal-returns-3 t c =
 -- ---- brand_refusal
 
 abbrev brand-refusal-Inv-loop : brand-refusal-lts.InvT-loop
-brand-refusal-Inv-loop s ids ats id at n left seen₀ k₀ current₀ seen k current = (k ≤ 16) × (length seen ≡ 16) ×
+brand-refusal-Inv-loop s ids ats id at n left nodes params count last places k₀ k = (k ≤ count) × (count ≤ 16) ×
+    (length nodes ≡ 16) × ChainOf s ids ats id (chainOf nodes params count last) × Placed s at n (take count nodes) places ×
     ((root : Str) (ns : List Node) → Indexed s ns ids ats
     → On (times (read.scopeOf (typeOf left)) end n (rows (drop at s)))
-    (λ ss. Chained (sheetOf root ns) (scopesOf ss (sheetOf root ns)) id current k seen))
+    (λ ss. Chained s (sheetOf root ns) (scopesOf ss (sheetOf root ns)) id (chainOf nodes params count last) k))
 
 abbrev brand-refusal-μ-loop : brand-refusal-lts.MeasureT-loop
-brand-refusal-μ-loop s ids ats id at n left seen₀ k₀ current₀ seen k current = 16 - k
+brand-refusal-μ-loop s ids ats id at n left nodes params count last places k₀ k = count - k
 
-brand-refusal-loop-holds : (t : ℕ) → brand-refusal-lts.Need-loop-holds (brand-refusal-calls t) (brand-refusal-at t)
-    brand-refusal.Post brand-refusal-Inv-loop brand-refusal-μ-loop
+brand-refusal-array-share-prefix-nodes : (t : ℕ) → brand-refusal-lts.Need-array-share-prefix-nodes (brand-refusal-calls t) (brand-refusal-at t) brand-refusal.Post
+    brand-refusal-Inv-loop brand-refusal-μ-loop
+brand-refusal-array-share-prefix-nodes t c =
+    let h = c .before .before .chain .ensures in omega (arith, h .few, h .ids-size)
+
+brand-refusal-slice-aggregate-scopes : (t : ℕ) → brand-refusal-lts.Need-slice-aggregate-scopes (brand-refusal-calls t) (brand-refusal-at t) brand-refusal.Post
+    brand-refusal-Inv-loop brand-refusal-μ-loop
+brand-refusal-slice-aggregate-scopes t c =
+    let at-chain = c .before .before .before in let h = at-chain .chain .ensures in
+    sym (length-take-le (at-chain .chain .result .count) (at-chain .chain .result .ids) (omega (arith, h .few, h .ids-size)))
+
+brand-refusal-loop-holds : (t : ℕ) → brand-refusal-lts.Need-loop-holds (brand-refusal-calls t) (brand-refusal-at t) brand-refusal.Post
+    brand-refusal-Inv-loop brand-refusal-μ-loop
 brand-refusal-loop-holds t c =
-    let a = c .before .before .before .args in (
+    let at-chain = c .before .before .before .before in let h = at-chain .chain .ensures in
+    let a = at-chain .before .before .before .before .args in (
       omega arith,
-      refl,
-      λ root ns x. law.brand-start (sheetOf root ns) (times (read.scopeOf (typeOf (a .left))) end (a .n)
-          (rows (drop (a .at) (a .s .now)))) (a .id) _,
+      h .few,
+      h .ids-size,
+      h,
+      c .scopes .ensures,
+      λ root ns x. law.brand-start (a .s .now) ns (a .ids .now) (a .ats .now) root x (a .id) _ h
+          (times (read.scopeOf (typeOf (a .left))) end (a .n) (rows (drop (a .at) (a .s .now)))),
+    )
+
+brand-refusal-slice-aggregate-among : (t : ℕ) → brand-refusal-lts.Need-slice-aggregate-among (brand-refusal-calls t) (brand-refusal-at t) brand-refusal.Post
+    brand-refusal-Inv-loop brand-refusal-μ-loop
+brand-refusal-slice-aggregate-among t c =
+    let at-loop = c .before .before in
+    sym (length-take-le (at-loop .loop .k) _ (omega (arith, at-loop .loop .inv .0, at-loop .loop .inv .1, at-loop .loop .inv .2)))
+
+brand-refusal-loop-again : (t : ℕ) → brand-refusal-lts.Need-loop-again (brand-refusal-calls t) (brand-refusal-at t) brand-refusal.Post
+    brand-refusal-Inv-loop brand-refusal-μ-loop
+brand-refusal-loop-again t c =
+    let at-test = c .before .before .before in let at-loop = at-test .before in let i = at-loop .loop .inv in
+    let a = at-loop .before .before .before .before .before .before .before .before .before .args in (
+      omega arith,
+      i .1,
+      i .2,
+      i .3,
+      i .4,
+      λ root ns x. law.brand-seen (a .s .now) ns (a .ids .now) (a .ats .now) root x (a .id) _ (i .3)
+          (times (read.scopeOf (typeOf (a .left))) end (a .n) (rows (drop (a .at) (a .s .now))))
+          (at-loop .loop .k) ((i .5) root ns x) (at-test .loop-test .taken) _ (c .before .among .ensures) (c .if1 .taken),
     )
 
 brand-refusal-returns : (t : ℕ) → brand-refusal-lts.Need-returns (brand-refusal-calls t) (brand-refusal-at t) brand-refusal.Post
     brand-refusal-Inv-loop brand-refusal-μ-loop
 brand-refusal-returns t c =
-    let c2 = c .before .before in let c3 = c2 .before in let c4 = c3 .before in
-    let a = c4 .before .before .before .before .args in
-    λ root ns x. law.brand-5 (a .s .now) ns (a .ids .now) (a .ats .now) root (times (read.scopeOf (typeOf (a .left))) end (a .n)
-    (rows (drop (a .at) (a .s .now)))) (a .id) (c4 .loop .current) (c4 .loop .k) (c4 .loop .seen) (c3 .loop-test .taken) _
-    (c2 .node .ensures) x ((c4 .loop .inv .2) root ns x) (c .enum-told .given .1)
+    let at-own = c .before .before in let at-test = at-own .before .before .before .before in
+    let at-loop = at-test .before in let i = at-loop .loop .inv in
+    let a = at-loop .before .before .before .before .before .before .before .before .before .args in
+    λ root ns x. law.brand-own (a .s .now) ns (a .ids .now) (a .ats .now) root x (a .id) _ (i .3) (a .left) (a .at) (a .n)
+    _ (i .4) (at-loop .loop .k) ((i .5) root ns x) (at-test .loop-test .taken) _
+    ((at-own .own-refusal .ensures) root ns x) _ (c .enum-told2 .given .1)
 
-brand-refusal-slice-aggregate-own-refusal :
-    (t : ℕ) → brand-refusal-lts.Need-slice-aggregate-own-refusal (brand-refusal-calls t) (brand-refusal-at t) brand-refusal.Post
+brand-refusal-loop-again-2 : (t : ℕ) → brand-refusal-lts.Need-loop-again-2 (brand-refusal-calls t) (brand-refusal-at t) brand-refusal.Post
     brand-refusal-Inv-loop brand-refusal-μ-loop
-brand-refusal-slice-aggregate-own-refusal t c =
-    let c7 = c .before .before .before .before .before .before .before in
-    sym (length-take-le (c7 .loop .k) (c7 .loop .seen) (let h = (c7 .loop .inv .1) in omega arith))
-
-brand-refusal-returns-2 : (t : ℕ) → brand-refusal-lts.Need-returns-2 (brand-refusal-calls t) (brand-refusal-at t)
-    brand-refusal.Post brand-refusal-Inv-loop brand-refusal-μ-loop
-brand-refusal-returns-2 t c =
-    let c2 = c .before .before in let c4 = c2 .before .before in let c6 = c4 .before .before in let c8 = c6 .before .before in
-    let c9 = c8 .before in let c10 = c9 .before in let a = c10 .before .before .before .before .args in
-    λ root ns x. law.brand-own (a .s .now) ns (a .ids .now) (a .ats .now) root (times (read.scopeOf (typeOf (a .left))) end
-    (a .n) (rows (drop (a .at) (a .s .now)))) (a .id) (c10 .loop .current) (c10 .loop .k) (c10 .loop .seen)
-    (c9 .loop-test .taken) _ (c8 .node .ensures) x ((c10 .loop .inv .2) root ns x) (c6 .node2 .given .0 .0)
-    (c6 .node2 .given .1) _ (c4 .node-row .ensures .1) _ ((c2 .own-refusal .ensures) root ns x) _ (c .enum-told3 .given .1)
-
-brand-refusal-returns-3 : (t : ℕ) → brand-refusal-lts.Need-returns-3 (brand-refusal-calls t) (brand-refusal-at t)
-    brand-refusal.Post brand-refusal-Inv-loop brand-refusal-μ-loop
-brand-refusal-returns-3 t c =
-    let c2 = c .before .before in let c4 = c2 .before .before in let c6 = c4 .before .before in let c8 = c6 .before .before in
-    let c10 = c8 .before .before in let c11 = c10 .before in let c12 = c11 .before in
-    let a = c12 .before .before .before .before .args in
-    λ root ns x. law.brand-top (a .s .now) ns (a .ids .now) (a .ats .now) root (times (read.scopeOf (typeOf (a .left))) end
-    (a .n) (rows (drop (a .at) (a .s .now)))) (a .id) (c12 .loop .current) (c12 .loop .k) (c12 .loop .seen)
-    (c11 .loop-test .taken) _ (c10 .node .ensures) x ((c12 .loop .inv .2) root ns x) (c8 .node2 .given .0 .0)
-    (c8 .node2 .given .1) _ (c6 .node-row .ensures .1) _ ((c4 .own-refusal .ensures) root ns x) _ (c6 .node-row .ensures .0)
-    (c2 .enum-told2 .given .1) (c .if1 .taken)
-
-brand-refusal-loop-again : (t : ℕ) → brand-refusal-lts.Need-loop-again (brand-refusal-calls t) (brand-refusal-at t)
-    brand-refusal.Post brand-refusal-Inv-loop brand-refusal-μ-loop
-brand-refusal-loop-again t c =
-    let c2 = c .before .before in let c4 = c2 .before .before in let c6 = c4 .before .before in let c8 = c6 .before .before in
-    let c10 = c8 .before .before in let c11 = c10 .before in let c12 = c11 .before in
-    let a = c12 .before .before .before .before .args in (
+brand-refusal-loop-again-2 t c =
+    let at-own = c .before .before in let at-test = at-own .before .before .before .before in
+    let at-loop = at-test .before in let i = at-loop .loop .inv in
+    let a = at-loop .before .before .before .before .before .before .before .before .before .args in (
       omega arith,
-      length-set (c12 .loop .seen) (c12 .loop .k) (c12 .loop .current) ∙ (c12 .loop .inv .1),
-      λ root ns x. law.brand-next (a .s .now) ns (a .ids .now) (a .ats .now) root
-          (times (read.scopeOf (typeOf (a .left))) end (a .n) (rows (drop (a .at) (a .s .now)))) (a .id) (c12 .loop .current)
-          (c12 .loop .k) (c12 .loop .seen) (c11 .loop-test .taken) _ (c10 .node .ensures) x ((c12 .loop .inv .2) root ns x)
-          (c8 .node2 .given .0 .0) (c8 .node2 .given .1) _ (c6 .node-row .ensures .1) _ ((c4 .own-refusal .ensures) root ns x) _
-          (c6 .node-row .ensures .0) (c2 .enum-told2 .given .1) (c12 .loop .inv .1) (c .if1 .left),
+      i .1,
+      i .2,
+      i .3,
+      i .4,
+      λ root ns x. law.brand-next (a .s .now) ns (a .ids .now) (a .ats .now) root x (a .id) _ (i .3) (a .left) (a .at) (a .n)
+          _ (i .4) (at-loop .loop .k) ((i .5) root ns x) (at-test .loop-test .taken) _
+          ((at-own .own-refusal .ensures) root ns x) (c .enum-told .given .1),
     )
 
-brand-refusal-returns-4 : (t : ℕ) → brand-refusal-lts.Need-returns-4 (brand-refusal-calls t) (brand-refusal-at t)
-    brand-refusal.Post brand-refusal-Inv-loop brand-refusal-μ-loop
-brand-refusal-returns-4 t c =
-    let c1 = c .before in let a = c1 .before .before .before .before .args in
-    λ root ns x. law.brand-4 (sheetOf root ns) (times (read.scopeOf (typeOf (a .left))) end (a .n)
-    (rows (drop (a .at) (a .s .now)))) (a .id) (c1 .loop .current) (c1 .loop .k) (c1 .loop .seen) (c .loop-test .left)
-    ((c1 .loop .inv .2) root ns x)
+brand-refusal-returns-2 : (t : ℕ) → brand-refusal-lts.Need-returns-2 (brand-refusal-calls t) (brand-refusal-at t) brand-refusal.Post
+    brand-refusal-Inv-loop brand-refusal-μ-loop
+brand-refusal-returns-2 t c =
+    let at-loop = c .before in let i = at-loop .loop .inv in
+    let a = at-loop .before .before .before .before .before .before .before .before .before .args in
+    λ root ns x. law.brand-end (a .s .now) ns (a .ids .now) (a .ats .now) root x (a .id) _ (i .3)
+    (times (read.scopeOf (typeOf (a .left))) end (a .n) (rows (drop (a .at) (a .s .now))))
+    (at-loop .loop .k) ((i .5) root ns x) (c .loop-test .left)
 
 -- ---- list_refusal
 
@@ -337,42 +347,28 @@ list-refusal-returns-4 t c =
 
 own-refusal-returns : (t : ℕ) → own-refusal-lts.Need-returns (own-refusal-calls t) (own-refusal-at t) own-refusal.Post
 own-refusal-returns t c =
-    let c1 = c .before in let a = c1 .before .before .before .before .before .args in
-    λ root ns x y e w. law.own-seen (sheetOf root ns) (times (read.scopeOf (typeOf (a .left))) end (a .n)
-    (rows (drop (a .at) (a .s .now)))) _ _ _ (c1 .among .ensures) (c .if1 .taken)
+    λ root ns x o h. law.own-other _ (sheetOf root ns) _ _ _ (c .before .next .ensures .0) o h (c .match .keys2)
 
 own-refusal-returns-2 : (t : ℕ) → own-refusal-lts.Need-returns-2 (own-refusal-calls t) (own-refusal-at t) own-refusal.Post
 own-refusal-returns-2 t c =
-    let c2 = c .before .before in
-    λ root ns x y e w. law.own-none _ (sheetOf root ns) _ _ _ _ y e _ (c2 .scope .ensures) (rw (c .enum-told .given .1) refl)
+    let at-line = c .before .before in let at-next = at-line .before .before in
+    λ root ns x o h. law.own-inherit _ (sheetOf root ns) _ _ _ (at-next .next .ensures .0) o h _ _ _ (at-line .line .given .1)
+    (c .if1 .taken)
 
 own-refusal-returns-3 : (t : ℕ) → own-refusal-lts.Need-returns-3 (own-refusal-calls t) (own-refusal-at t) own-refusal.Post
 own-refusal-returns-3 t c =
-    let c1 = c .before in let c3 = c1 .before .before in let c5 = c3 .before .before in
-    λ root ns x y e w. law.own-other _ (sheetOf root ns) _ _ _ _ y e _ (c5 .scope .ensures) _ (rw (c3 .scope2 .given .1) refl) _
-    (c1 .next .ensures .0) _ (c .match2 .keys2)
+    let at-count = c .before .before in let at-if1 = at-count .before in let at-line = at-if1 .before .before in
+    let at-next = at-line .before .before in
+    λ root ns x o h. law.own-binds _ (sheetOf root ns) _ _ _ (at-next .next .ensures .0) o h _ _ _ (at-line .line .given .1)
+    (at-if1 .if1 .left) _ (at-next .next .ensures .1) _ (at-count .count-is .ensures) _ (c .before .if2 .taken)
+    ((c .binds-refusal .ensures) root ns x)
 
 own-refusal-returns-4 : (t : ℕ) → own-refusal-lts.Need-returns-4 (own-refusal-calls t) (own-refusal-at t) own-refusal.Post
 own-refusal-returns-4 t c =
-    let c2 = c .before .before in let c4 = c2 .before .before in let c6 = c4 .before .before in let c8 = c6 .before .before in
-    λ root ns x y e w. law.own-inherit _ (sheetOf root ns) _ _ _ _ y e _ (c8 .scope .ensures) _ (rw (c6 .scope2 .given .1) refl)
-    _ (c4 .next .ensures .0) _ _ _ (c2 .line .given .1) (c .if2 .taken)
-
-own-refusal-returns-5 : (t : ℕ) → own-refusal-lts.Need-returns-5 (own-refusal-calls t) (own-refusal-at t) own-refusal.Post
-own-refusal-returns-5 t c =
-    let c1 = c .before in let c2 = c1 .before in let c3 = c2 .before in let c5 = c3 .before .before in
-    let c7 = c5 .before .before in let c9 = c7 .before .before in let c11 = c9 .before .before in
-    λ root ns x y e w. law.own-binds _ (sheetOf root ns) _ _ _ _ y e _ (c11 .scope .ensures) _ (rw (c9 .scope2 .given .1) refl)
-    _ (c7 .next .ensures .0) _ _ _ (c5 .line .given .1) (c3 .if2 .left) _ (c7 .next .ensures .1) _ w _ (c2 .count-is .ensures)
-    _ (c1 .if3 .taken) ((c .binds-refusal .ensures) root ns x)
-
-own-refusal-returns-6 : (t : ℕ) → own-refusal-lts.Need-returns-6 (own-refusal-calls t) (own-refusal-at t) own-refusal.Post
-own-refusal-returns-6 t c =
-    let c1 = c .before in let c2 = c1 .before in let c4 = c2 .before .before in let c6 = c4 .before .before in
-    let c8 = c6 .before .before in let c10 = c8 .before .before in
-    λ root ns x y e w. law.own-8 _ (sheetOf root ns) _ _ _ _ y e _ (c10 .scope .ensures) _ (rw (c8 .scope2 .given .1) refl) _
-    (c6 .next .ensures .0) _ _ _ (c4 .line .given .1) (c2 .if2 .left) _ (c6 .next .ensures .1) _ w _ (c1 .count-is .ensures)
-    (c .if3 .left)
+    let at-count = c .before in let at-if1 = at-count .before in let at-line = at-if1 .before .before in
+    let at-next = at-line .before .before in
+    λ root ns x o h. law.own-8 _ (sheetOf root ns) _ _ _ (at-next .next .ensures .0) o h _ _ _ (at-line .line .given .1)
+    (at-if1 .if1 .left) _ (at-next .next .ensures .1) _ (at-count .count-is .ensures) (c .if2 .left)
 
 -- ---- refusal
 
@@ -467,25 +463,31 @@ pub +binding-refusal+binds-refusal+brand-refusal+list-refusal+own-refusal+refusa
     brand-refusal.Post
     brand-refusal-Inv-loop
     brand-refusal-μ-loop
+    (λ c κs. search needs)
+    (brand-refusal-array-share-prefix-nodes t)
+    (brand-refusal-slice-aggregate-scopes t)
+    (λ c κs. search needs)
     (brand-refusal-loop-holds t)
+    (λ c. search needs)
+    (λ c. search needs)
+    (λ c. search needs)
+    (brand-refusal-slice-aggregate-among t)
+    (λ c κs. search needs)
+    (λ c. search needs)
+    (λ c. search needs)
+    (brand-refusal-loop-again t)
+    (λ c. search needs)
+    (λ c. search needs)
+    (λ c. search needs)
+    (λ c. search needs)
     (λ c κs. search needs)
     (λ c. search needs)
     (λ c. search needs)
     (brand-refusal-returns t)
-    (λ c κs. search needs)
-    (λ c. search needs)
-    (brand-refusal-slice-aggregate-own-refusal t)
-    (λ c κs. search needs)
     (λ c. search needs)
     (λ c. search needs)
-    (brand-refusal-returns-2 t)
-    (brand-refusal-returns-3 t)
-    (λ c. search needs)
-    (λ c. search needs)
-    (λ c. search needs)
-    (λ c. search needs)
-    (brand-refusal-loop-again t)
-    (brand-refusal-returns-4 t))
+    (brand-refusal-loop-again-2 t)
+    (brand-refusal-returns-2 t))
     (λ t. list-refusal-lts.spec (list-refusal-calls t)
     (list-refusal-at t)
     list-refusal.Post
@@ -500,19 +502,13 @@ pub +binding-refusal+binds-refusal+brand-refusal+list-refusal+own-refusal+refusa
     (own-refusal-at t)
     own-refusal.Post
     (λ c κs. search needs)
+    (λ c. search needs)
     (own-refusal-returns t)
-    (λ c κs. search needs)
-    (λ c. search needs)
-    (λ c. search needs)
     (own-refusal-returns-2 t)
     (λ c κs. search needs)
-    (λ c. search needs)
+    (λ c κs. search needs)
     (own-refusal-returns-3 t)
-    (own-refusal-returns-4 t)
-    (λ c κs. search needs)
-    (λ c κs. search needs)
-    (own-refusal-returns-5 t)
-    (own-refusal-returns-6 t))
+    (own-refusal-returns-4 t))
     λ t. refusal-lts.spec (refusal-calls t)
     (refusal-at t)
     refusal.Post

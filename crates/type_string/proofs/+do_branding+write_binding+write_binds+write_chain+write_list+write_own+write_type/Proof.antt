@@ -2,6 +2,7 @@
 -- Laws.antt. The loop over bindings: whatever the bindings from here on make of what is written, all of them make of the start.
 -- Assumes nothing.
 use Rattle.type_string.proofs as here
+use here.Laws.{Writing}
 use here.Laws as law
 use Rattle.type_parts.specs.declared.Arguments.{Arguments}
 use Rattle.type_parts.specs.Parts.{Writes, Lists}
@@ -16,11 +17,12 @@ use Rattle.tree.specs.Reader.{times}
 use Rattle.tree.specs.Tree.{Node, end, stop}
 use Rattle.row.specs.Rows.{rows}
 use Rattle.text.specs.Bytes.{Str}
-use Prim.Native.Nat.{ℕ, _+_, _-_, _*_, _<_}
-use mathlib.Core.Path.{_≡_, refl}
+use Prim.Native.Nat.{ℕ, _+_, _-_, _*_, _<_, _≤_}
+use mathlib.Core.Path.{_≡_, refl, sym, _∙_}
 use mathlib.Core.List.{List}
 use native.Mathlib.Omega.{arith}
 use lib.ListN.{length, drop}
+use lib.Seq.{length-take-le}
 use borrow.Author.Needs.{needs}
 use borrow.Fn.Kinds.{In}
 use borrow.Fn.PlainCycle.{Measures, is, falls, and}
@@ -67,13 +69,13 @@ abbrev μ-write-binds : Measures 5 write-binds-kinds.ps ℕ
 μ-write-binds κs a = 32 * a .1 .1 .1 .1 .1 .1 .0 + 3
 
 abbrev μ-write-chain : Measures 5 write-chain-kinds.ps ℕ
-μ-write-chain κs a = 32 * a .1 .1 .1 .1 .1 .1 .1 .1 .0 + (5 + a .1 .1 .1 .1 .1 .0)
+μ-write-chain κs a = 32 * a .1 .1 .1 .1 .1 .1 .1 .0 + 5
 
 abbrev μ-write-list : Measures 5 write-list-kinds.ps ℕ
 μ-write-list κs a = 32 * a .1 .1 .1 .1 .1 .0 + 1
 
 abbrev μ-write-own : Measures 5 write-own-kinds.ps ℕ
-μ-write-own κs a = 32 * a .1 .1 .1 .1 .1 .1 .1 .1 .0 + 4
+μ-write-own κs a = 32 * a .1 .1 .1 .1 .1 .1 .0 + 4
 
 abbrev μ-write-type : Measures 5 write-type-kinds.ps ℕ
 μ-write-type κs a = 32 * a .1 .1 .1 .1 .1 .0
@@ -160,14 +162,12 @@ write-binds-calls t = (
 
 abbrev write-chain-calls : ℕ → write-chain-lts.Claims
 write-chain-calls t = (
-  find.node.Reads.Asked,
-  find.node.Reads.Learnt,
-  find.node_row.Reads.Asked,
-  find.node_row.Reads.Learnt,
+  find.chain.Reads.Asked,
+  find.chain.Reads.Learnt,
+  find.scopes.Reads.Asked,
+  find.scopes.Reads.Learnt,
   write-own-below t,
   write-own.Post,
-  write-chain-below t,
-  write-chain.Post,
 )
 
 abbrev write-list-calls : ℕ → write-list-lts.Claims
@@ -188,12 +188,10 @@ write-list-calls t = (
 
 abbrev write-own-calls : ℕ → write-own-lts.Claims
 write-own-calls t = (
-  find.scope.Reads.Asked,
-  find.scope.Reads.Learnt,
-  type-parts.unbound.Reads.Asked,
-  type-parts.unbound.Reads.Learnt,
   row.next.Reads.Asked,
   row.next.Reads.Learnt,
+  type-parts.unbound.Reads.Asked,
+  type-parts.unbound.Reads.Learnt,
   type-parts.inherited.Reads.Asked,
   type-parts.inherited.Reads.Learnt,
   write-binds-below t,
@@ -299,38 +297,51 @@ write-binds-returns-2 t c =
 
 -- ---- write_chain
 
+abbrev write-chain-Inv-loop : write-chain-lts.InvT-loop
+write-chain-Inv-loop root s ids ats id at n left buf₀ params count places k₀ p₀ buf k p = (k ≤ count) × (count ≤ 16) ×
+    (length buf ≡ length buf₀) × Writing root s ids ats id at n left buf₀ p₀ params count places buf p k
+
+abbrev write-chain-μ-loop : write-chain-lts.MeasureT-loop
+write-chain-μ-loop root s ids ats id at n left buf₀ params count places k₀ p₀ buf k p = k
+
+write-chain-array-share-prefix-nodes : (t : ℕ) → write-chain-lts.Need-array-share-prefix-nodes (write-chain-calls t) (write-chain-at t) write-chain.Post
+    write-chain-Inv-loop write-chain-μ-loop
+write-chain-array-share-prefix-nodes t c =
+    let h = c .before .before .chain .ensures in omega (arith, h .few, h .ids-size)
+
+write-chain-slice-aggregate-scopes : (t : ℕ) → write-chain-lts.Need-slice-aggregate-scopes (write-chain-calls t) (write-chain-at t) write-chain.Post
+    write-chain-Inv-loop write-chain-μ-loop
+write-chain-slice-aggregate-scopes t c =
+    let at-chain = c .before .before .before in let h = at-chain .chain .ensures in
+    sym (length-take-le (at-chain .chain .result .count) (at-chain .chain .result .ids) (omega (arith, h .few, h .ids-size)))
+
+write-chain-loop-holds : (t : ℕ) → write-chain-lts.Need-loop-holds (write-chain-calls t) (write-chain-at t) write-chain.Post
+    write-chain-Inv-loop write-chain-μ-loop
+write-chain-loop-holds t c =
+    let at-chain = c .before .before .before .before in let h = at-chain .chain .ensures in (
+      omega arith,
+      h .few,
+      refl,
+      law.writing-start _ _ _ _ _ _ _ _ _ _ (at-chain .chain .result) h _ (c .scopes .ensures),
+    )
+
+write-chain-loop-again : (t : ℕ) → write-chain-lts.Need-loop-again (write-chain-calls t) (write-chain-at t) write-chain.Post
+    write-chain-Inv-loop write-chain-μ-loop
+write-chain-loop-again t c =
+    let at-own = c .before .before in let at-test = at-own .before .before in let at-loop = at-test .before in
+    let i = at-loop .loop .inv in (
+      omega arith,
+      i .1,
+      omega arith,
+      law.writing-next _ _ _ _ _ _ _ _ _ _ _ _ _ _ _ _ (i .3) (at-test .loop-test .taken) (i .0) _ _
+          (at-own .write-own .ensures),
+    )
+
 write-chain-returns : (t : ℕ) → write-chain-lts.Need-returns (write-chain-calls t) (write-chain-at t) write-chain.Post
+    write-chain-Inv-loop write-chain-μ-loop
 write-chain-returns t c =
-    let a = c .before .before .before .before .before .before .args in
-    λ ns x. law.chain-zero (sheetOf (a .root .now) ns) (times (read.scopeOf (typeOf (a .left))) end (a .n)
-    (rows (drop (a .at) (a .s .now)))) _ _ _ _ _ _ (c .if1 .taken)
-
-write-chain-returns-2 : (t : ℕ) → write-chain-lts.Need-returns-2 (write-chain-calls t) (write-chain-at t) write-chain.Post
-write-chain-returns-2 t c =
-    let c2 = c .before .before in let c3 = c2 .before in let a = c3 .before .before .before .before .before .before .args in
-    λ ns x. law.chain-none (a .s .now) (sheetOf (a .root .now) ns) (a .ids .now) (a .ats .now)
-    (times (read.scopeOf (typeOf (a .left))) end (a .n) (rows (drop (a .at) (a .s .now)))) _ _ (c3 .if1 .left) _
-    (c2 .node .ensures) x _ _ _ _ (c .enum-told .given .1)
-
-write-chain-returns-3 : (t : ℕ) → write-chain-lts.Need-returns-3 (write-chain-calls t) (write-chain-at t) write-chain.Post
-write-chain-returns-3 t c =
-    let c2 = c .before .before in let c4 = c2 .before .before in let c5 = c4 .before in let c7 = c5 .before .before in
-    let c9 = c7 .before .before in let c10 = c9 .before in let a = c10 .before .before .before .before .before .before .args in
-    λ ns x. law.chain-top (a .s .now) (sheetOf (a .root .now) ns) (a .ids .now) (a .ats .now)
-    (times (read.scopeOf (typeOf (a .left))) end (a .n) (rows (drop (a .at) (a .s .now)))) _ _ (c10 .if1 .left) _
-    (c9 .node .ensures) x (c7 .node2 .given .0 .0) (c7 .node2 .given .1) _ (c5 .node-row .ensures .0) _
-    (c5 .node-row .ensures .1) _ _ _ _ (c4 .if2 .taken) ((c2 .write-own .ensures) ns x)
-
-write-chain-returns-4 : (t : ℕ) → write-chain-lts.Need-returns-4 (write-chain-calls t) (write-chain-at t) write-chain.Post
-write-chain-returns-4 t c =
-    let c2 = c .before .before in let c6 = c2 .before .before .before .before in let c8 = c6 .before .before in
-    let c9 = c8 .before in let c11 = c9 .before .before in let c13 = c11 .before .before in let c14 = c13 .before in
-    let a = c14 .before .before .before .before .before .before .args in
-    λ ns x. law.chain-next (a .s .now) (sheetOf (a .root .now) ns) (a .ids .now) (a .ats .now)
-    (times (read.scopeOf (typeOf (a .left))) end (a .n) (rows (drop (a .at) (a .s .now)))) _ _ (c14 .if1 .left) _
-    (c13 .node .ensures) x (c11 .node2 .given .0 .0) (c11 .node2 .given .1) _ (c9 .node-row .ensures .0) _
-    (c9 .node-row .ensures .1) _ _ _ (c6 .write-chain .result) _ _ (c8 .if2 .left) ((c6 .write-chain .ensures) ns x)
-    ((c2 .write-own2 .ensures) ns x)
+    let at-loop = c .before in
+    law.writing-end _ _ _ _ _ _ _ _ _ _ _ _ _ _ _ _ (at-loop .loop .inv .3) (c .loop-test .left)
 
 -- ---- write_list
 
@@ -361,35 +372,24 @@ write-list-returns-3 t c =
 
 write-own-returns : (t : ℕ) → write-own-lts.Need-returns (write-own-calls t) (write-own-at t) write-own.Post
 write-own-returns t c =
-    let c2 = c .before .before in let c4 = c2 .before .before in let c6 = c4 .before .before in
-    let a = c6 .before .before .before .before .before .before .args in
-    λ ns x y w. law.own-none (a .left) (sheetOf (a .root .now) ns) (a .id) (a .n) _ _ (c6 .scope .ensures) y _ _ _ _ _ w
-    (rw (c4 .enum-told .given .1) refl) (c2 .unbound .ensures)
+    let c2 = c .before .before in let c4 = c2 .before .before in let c5 = c4 .before in
+    let a = c5 .before .before .before .before .before .before .args in
+    λ ns x o h. law.own-other (a .left) (sheetOf (a .root .now) ns) _ _ _ (c5 .next .ensures .0) _ _ _ _ o h (c4 .match .keys2)
+    (c2 .unbound .ensures)
 
 write-own-returns-2 : (t : ℕ) → write-own-lts.Need-returns-2 (write-own-calls t) (write-own-at t) write-own.Post
 write-own-returns-2 t c =
-    let c1 = c .before in let c3 = c1 .before .before in let c5 = c3 .before .before in
-    let a = c5 .before .before .before .before .before .before .args in
-    λ ns x y w. law.own-other (a .left) (sheetOf (a .root .now) ns) (a .id) (a .n) _ _ (c5 .scope .ensures) y _ _ _ _ _
-    (rw (c3 .scope2 .given .1) refl) _ (c1 .next .ensures .0) (c .match2 .keys2)
+    let c2 = c .before .before in let c4 = c2 .before .before in let c6 = c4 .before .before in let c8 = c6 .before .before in
+    let a = c8 .before .before .before .before .before .before .args in
+    λ ns x o h. law.own-inherit (a .left) (sheetOf (a .root .now) ns) _ _ _ (c8 .next .ensures .0) _ _ _ _ o h _ _ _
+    (c6 .line .given .1) (c4 .if1 .taken) (c2 .inherited .ensures)
 
 write-own-returns-3 : (t : ℕ) → write-own-lts.Need-returns-3 (write-own-calls t) (write-own-at t) write-own.Post
 write-own-returns-3 t c =
     let c2 = c .before .before in let c4 = c2 .before .before in let c6 = c4 .before .before in let c8 = c6 .before .before in
-    let c10 = c8 .before .before in let c12 = c10 .before .before in
-    let a = c12 .before .before .before .before .before .before .args in
-    λ ns x y w. law.own-inherit (a .left) (sheetOf (a .root .now) ns) (a .id) (a .n) _ _ (c12 .scope .ensures) y _ _ _ _ _
-    (rw (c10 .scope2 .given .1) refl) _ (c8 .next .ensures .0) _ _ _ (c6 .line .given .1) _ w (c4 .if1 .taken)
-    (c2 .inherited .ensures)
-
-write-own-returns-4 : (t : ℕ) → write-own-lts.Need-returns-4 (write-own-calls t) (write-own-at t) write-own.Post
-write-own-returns-4 t c =
-    let c2 = c .before .before in let c4 = c2 .before .before in let c6 = c4 .before .before in let c8 = c6 .before .before in
-    let c10 = c8 .before .before in let c12 = c10 .before .before in
-    let a = c12 .before .before .before .before .before .before .args in
-    λ ns x y w. law.own-binds (a .left) (sheetOf (a .root .now) ns) (a .id) (a .n) _ _ (c12 .scope .ensures) y _ _ _ _ _
-    (rw (c10 .scope2 .given .1) refl) _ (c8 .next .ensures .0) _ _ _ (c6 .line .given .1) _ (c8 .next .ensures .1)
-    (c4 .if1 .left) ((c2 .write-binds .ensures) ns x)
+    let a = c8 .before .before .before .before .before .before .args in
+    λ ns x o h. law.own-binds (a .left) (sheetOf (a .root .now) ns) _ _ _ (c8 .next .ensures .0) _ _ _ _ o h _ _ _
+    (c6 .line .given .1) _ (c8 .next .ensures .1) (c4 .if1 .left) ((c2 .write-binds .ensures) ns x)
 
 -- ---- write_type
 
@@ -505,20 +505,23 @@ pub +do-branding+write-binding+write-binds+write-chain+write-list+write-own+writ
     (λ t. write-chain-lts.spec (write-chain-calls t)
     (write-chain-at t)
     write-chain.Post
-    (write-chain-returns t)
+    write-chain-Inv-loop
+    write-chain-μ-loop
     (λ c κs. search needs)
+    (write-chain-array-share-prefix-nodes t)
+    (write-chain-slice-aggregate-scopes t)
+    (λ c κs. search needs)
+    (write-chain-loop-holds t)
     (λ c. search needs)
     (λ c. search needs)
-    (write-chain-returns-2 t)
-    (λ c κs. search needs)
-    (λ c κs. search needs)
     (λ c. search needs)
-    (write-chain-returns-3 t)
+    (λ c. search needs)
     (λ c. search needs)
     (λ c κs. search needs)
-    (λ c κs. search needs)
     (λ c. search needs)
-    (write-chain-returns-4 t))
+    (write-chain-loop-again t)
+    (λ c. search needs)
+    (write-chain-returns t))
     (λ t. write-list-lts.spec (write-list-calls t)
     (write-list-at t)
     write-list.Post
@@ -542,7 +545,6 @@ pub +do-branding+write-binding+write-binds+write-chain+write-list+write-own+writ
     write-own.Post
     (λ c κs. search needs)
     (λ c. search needs)
-    (λ c. search needs)
     (λ c κs. search needs)
     (λ c. search needs)
     (write-own-returns t)
@@ -551,10 +553,7 @@ pub +do-branding+write-binding+write-binds+write-chain+write-list+write-own+writ
     (write-own-returns-2 t)
     (λ c κs. search needs)
     (λ c. search needs)
-    (write-own-returns-3 t)
-    (λ c κs. search needs)
-    (λ c. search needs)
-    (write-own-returns-4 t))
+    (write-own-returns-3 t))
     λ t. write-type-lts.spec (write-type-calls t)
     (write-type-at t)
     write-type.Post
