@@ -56,4 +56,4 @@ done-gives l t (refuses k line) l′ t′ a = by-test (ltb (length l) (t .at)) (
     by-test false e = cc
 
 pub answered-holds : AnsweredHolds
-answered-holds s id place request l t l′ t′ a = done-gives l t (outcomeOf (admitted s) id place request) l′ t′ a
+answered-holds s id asked l t l′ t′ a = done-gives l t (outcomeOf (admitted s) id asked) l′ t′ a

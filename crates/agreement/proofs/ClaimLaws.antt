@@ -11,9 +11,10 @@ use Rattle.codegen.specs.Setter.{setterRequest}
 use Rattle.meaning.specs.Meaning.{runSetter, runHaser}
 use Rattle.meaning.proofs.HaserLaws as meaning
 use Rattle.meaning.proofs.SetLaws as setting
-use Rattle.requests.specs.Requests.{requestText, gives, given}
-use Rattle.requests.specs.declared.Request.{Request}
-use Rattle.requests.specs.declared.Request.the-variants.{Getter, Setter, Haser}
+use Rattle.requests.specs.Requests.{accessorText, gives, given}
+use Rattle.requests.specs.declared.Accessor.{Accessor}
+use Rattle.requests.specs.declared.Request.the-variants as request
+use Rattle.requests.specs.declared.Accessor.the-variants.{Getter, Setter, Haser}
 use Rattle.agreement.specs.Slots.{Gives, SlotAt, tagAt}
 use Rattle.agreement.specs.Claims.{SetGetHolds, VoidSetHolds, HaserHolds, NoHaserHolds, AnsweredSetGetHolds}
 use Rattle.agreement.proofs.AnsweredLaws.{answered-holds}
@@ -29,26 +30,26 @@ given-ok (ok v) w e = let z : v ≡ w = cc in ap ok z
 given-ok (refused k) w e = cc
 
 module _ {s : Str} {id place : ℕ} (a : SlotAt s id place) where
-  -- the text of a request for a slot's field
-  request-given : (request : Request) (w : Str) → Gives s id place request w
-      → requestText (a .tree) (a .node, a .field) request ≡ ok w
-  request-given request w e =
-      given-ok (requestText (a .tree) (a .node, a .field) request) w (rw (a .is-admitted, a .is-found) at e)
+  -- the text of an accessor of a slot's field
+  accessor-given : (accessor : Accessor) (w : Str) → Gives s id place accessor w
+      → accessorText (a .tree) (a .node, a .field) accessor ≡ ok w
+  accessor-given accessor w e =
+      given-ok (accessorText (a .tree) (a .node, a .field) accessor) w (rw (a .is-admitted, a .is-found) at e)
 
   setter-text : (w : Str) → Gives s id place Setter w
       → setterRequest (a .tree) (a .node .tagOffset) (a .field .name) (a .field .discriminant) (a .slot) ≡ ok w
-  unfolding requestText
-  setter-text w e = rw (a .is-slot) at (request-given Setter w e)
+  unfolding accessorText
+  setter-text w e = rw (a .is-slot) at (accessor-given Setter w e)
 
   pub getter-text : (isReader isFn : Bool) (g : Str) → Gives s id place (Getter isReader isFn) g
       → getterRequest (a .tree) (a .field .name) (a .slot) isReader isFn ≡ ok g
-  unfolding requestText
-  getter-text isReader isFn g e = rw (a .is-slot) at (request-given (Getter isReader isFn) g e)
+  unfolding accessorText
+  getter-text isReader isFn g e = rw (a .is-slot) at (accessor-given (Getter isReader isFn) g e)
 
   haser-text : (isReader : Bool) (h : Str) → Gives s id place (Haser isReader) h
       → haserRequest (a .node .tagOffset) (a .field .name) (a .field .discriminant) (a .slot) isReader ≡ h
-  unfolding requestText
-  haser-text isReader h e = ok-is (rw (a .is-slot) at (request-given (Haser isReader) h e))
+  unfolding accessorText
+  haser-text isReader h e = ok-is (rw (a .is-slot) at (accessor-given (Haser isReader) h e))
 
 pub set-get-holds : SetGetHolds
 set-get-holds s id place a k w isReader isFn g v r c =
@@ -92,8 +93,8 @@ pub answered-set-get-holds : AnsweredSetGetHolds
 answered-set-get-holds s id place a k isReader isFn l t l′ t′ m u m′ u′ v r set got bits value long tag-long clear =
     set-get-holds s id place a k _ isReader isFn _ v r (record {
       has-bits = bits;
-      setter = answered-holds s id place Setter l t l′ t′ set;
-      getter = answered-holds s id place (Getter isReader isFn) m u m′ u′ got;
+      setter = answered-holds s id (request.Field place Setter) l t l′ t′ set;
+      getter = answered-holds s id (request.Field place (Getter isReader isFn)) m u m′ u′ got;
       value = value;
       long = long;
       tag-long = tag-long;

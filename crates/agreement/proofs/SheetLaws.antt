@@ -17,7 +17,7 @@ use Rattle.printed.proofs.Fields.{slotTests, fieldTests}
 use Rattle.printed.proofs.Nodes.{nodeTests}
 use Rattle.printed.proofs.Sheets.{sheetTests, prints-read}
 use Rattle.printed.proofs.Tests.{holds}
-use Rattle.place.specs.Place.{byId, nth}
+use Rattle.nodes.specs.Index.{byId, nth}
 use Rattle.codegen_types.specs.Out.{ok, _then_}
 use Rattle.codegen_types.specs.TypeString.{nodeOf, getQualifiedModule}
 use Rattle.agreement.proofs.WholeLaws.{Whole, whole-graphic, whole-name}

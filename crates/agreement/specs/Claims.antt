@@ -13,10 +13,11 @@ use Rattle.record.specs.Record.{Record, Has, Holds, Same}
 use Rattle.record.specs.Types.{Kind, slotBits, kindOf}
 use Rattle.meaning.specs.Claims.{TagHolds, TagHas, TagClear, TagIs, hasAnswer}
 use Rattle.meaning.specs.Meaning.{runSetter, runGetter, runHaser}
-use Rattle.requests.specs.Requests.{outcomeOf}
+use Rattle.requests.specs.Requests.{gives, outcomeOf}
 use Rattle.requests.specs.Told.{Answered}
 use Rattle.requests.specs.declared.Request.{Request}
-use Rattle.requests.specs.declared.Request.the-variants.{Getter, Setter, Haser}
+use Rattle.requests.specs.declared.Request.the-variants as request
+use Rattle.requests.specs.declared.Accessor.the-variants.{Getter, Setter, Haser}
 use Rattle.requests.specs.declared.Answer.the-variants.{Done}
 use Rattle.agreement.specs.Slots.{Gives, between, SlotAt, kindAt, tagAt, placeAt, expectedAt}
 
@@ -87,17 +88,17 @@ NoHaserHolds =
 -- the bytes between the two fill counts of an entry that is done are the text of its request
 abbrev pub AnsweredHolds : Type 0
 AnsweredHolds =
-    (s : Str) (id place : ℕ) (request : Request) (l : Str) (t : Text) (l′ : Str) (t′ : Text)
-    → Answered l t (outcomeOf (admitted s) id place request) l′ (Done t′)
-    → Gives s id place request (between (t .at) (t′ .at) l′)
+    (s : Str) (id : ℕ) (asked : Request) (l : Str) (t : Text) (l′ : Str) (t′ : Text)
+    → Answered l t (outcomeOf (admitted s) id asked) l′ (Done t′)
+    → outcomeOf (admitted s) id asked ≡ gives (between (t .at) (t′ .at) l′)
 
 -- set and get of the bytes that two runs of the entry left, whatever buffers they were given; the other claims follow likewise
 abbrev pub AnsweredSetGetHolds : Type 0
 AnsweredSetGetHolds =
     (s : Str) (id place : ℕ) (a : SlotAt s id place) (k : Kind) (isReader isFn : Bool)
     (l : Str) (t : Text) (l′ : Str) (t′ : Text) (m : Str) (u : Text) (m′ : Str) (u′ : Text) (v : ℕ) (r : Record)
-    → Answered l t (outcomeOf (admitted s) id place Setter) l′ (Done t′)
-    → Answered m u (outcomeOf (admitted s) id place (Getter isReader isFn)) m′ (Done u′)
+    → Answered l t (outcomeOf (admitted s) id (request.Field place Setter)) l′ (Done t′)
+    → Answered m u (outcomeOf (admitted s) id (request.Field place (Getter isReader isFn))) m′ (Done u′)
     → kindOf (kindAt a) ≡ some k → v < 2 ^ slotBits k
     → Holds (placeAt a k) r → TagHolds (tagAt a) r → TagClear (tagAt a) (placeAt a k)
     → SetGet a k (between (t .at) (t′ .at) l′) (between (u .at) (u′ .at) m′) v r

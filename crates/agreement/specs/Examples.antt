@@ -35,7 +35,7 @@ use Rattle.codegen.specs.Default.{primDefault, getterMask}
 use Rattle.codegen.specs.Getter.{getterText, getterRequest}
 use Rattle.codegen.specs.Haser.{generateHaser, haserRequest}
 use Rattle.codegen.specs.Setter.{generateSetter, setterRequest}
-use Rattle.place.specs.Place.{byId, nth}
+use Rattle.nodes.specs.Index.{byId, nth}
 use Rattle.record.specs.Record.{found, stored, getBits, putBits, nullFlag, Holds}
 use Rattle.record.specs.Types as kinds
 use Rattle.record.specs.Types.{uint, float32, Kind, bool, num, kindOf, slotBits}
@@ -45,12 +45,13 @@ use Rattle.meaning.specs.Examples.{some16}
 use Rattle.meaning.specs.Reading.{bindO, typeName, truth, getMaskOf, setMaskOf, dataArg, boolArg}
 use Rattle.meaning.specs.Meaning.{writes, gets, getsIn, tests, runOp, runLine, runLines, runSetter, runGetter, testsOf, runTests}
 use Rattle.meaning.specs.Meaning.{runHaser}
-use Rattle.requests.specs.Requests.{fieldOf, requestText, outcomeOf, given}
+use Rattle.requests.specs.Requests.{fieldOf, accessorText, outcomeOf, given}
 use Rattle.requests.specs.Requests as requests
 use Rattle.requests.specs.Told.{Answered}
 use Rattle.requests.specs.declared.Answer.the-variants.{Done}
-use Rattle.requests.specs.declared.Request.{Request}
-use Rattle.requests.specs.declared.Request.the-variants.{Getter, Setter, Haser}
+use Rattle.requests.specs.declared.Accessor.{Accessor}
+use Rattle.requests.specs.declared.Request.the-variants as request
+use Rattle.requests.specs.declared.Accessor.the-variants.{Getter, Setter, Haser}
 use Rattle.agreement.specs.Sheets.{slotWith, field, node}
 use Rattle.agreement.specs.Slots.{Gives, SlotAt, kindAt, tagAt, placeAt, expectedAt}
 use Rattle.agreement.specs.Claims.{Case}
@@ -123,9 +124,9 @@ slotAt place f s e h = record {
 }
 
 -- a text that the tree gives is given from its bytes
-given-bytes : (place : ℕ) (request : Request) (w : Str) → requests.textOf tree 7 place request ≡ ok w
-    → Gives bytes 7 place request w
-given-bytes place request w e = ap (λ x. outcomeOf x 7 place request) is-admitted ∙ ap given e
+given-bytes : (place : ℕ) (a : Accessor) (w : Str) → requests.textOf tree 7 (request.Field place a) ≡ ok w
+    → Gives bytes 7 place a w
+given-bytes place a w e = ap (λ x. outcomeOf x 7 (request.Field place a)) is-admitted ∙ ap given e
 
 -- ---- set and get
 
@@ -218,8 +219,8 @@ module _ (x : Example) (e : fieldOf (tree .nodes) 7 (x .place) ≡ ok (bed, x .f
 
   abbrev worked :
       kindOf (kindAt here) ≡ some (x .kind)
-      → requests.textOf tree 7 (x .place) Setter ≡ ok (x .setter)
-      → requests.textOf tree 7 (x .place) (Getter true false) ≡ ok (x .getter)
+      → requests.textOf tree 7 (request.Field (x .place) Setter) ≡ ok (x .setter)
+      → requests.textOf tree 7 (request.Field (x .place) (Getter true false)) ≡ ok (x .getter)
       → x .writes < 2 ^ slotBits (x .kind) → Holds (placeAt here (x .kind)) some16 → TagHolds (tagAt here) some16
       → TagClear (tagAt here) (placeAt here (x .kind))
       → expectedAt here (x .kind) (x .writes) ≡ x .reads
@@ -242,7 +243,7 @@ module _ (x : Example) (e : fieldOf (tree .nodes) 7 (x .place) ≡ ok (bed, x .f
 
 -- all of them
 pub all-worked : All (free 1 ∷ free 0 ∷ noFlag ∷ withFlag ∷ negativeZero ∷ member ∷ [])
-unfolding fieldOf byId nth requestText same isAscii taken snakeFrom camelToSnakeCase typeString types.nodeOf getBoolField
+unfolding fieldOf byId nth accessorText same isAscii taken snakeFrom camelToSnakeCase typeString types.nodeOf getBoolField
     getDataField setBoolField setDataField primDefault getterMask getterText getterRequest generateSetter setterRequest
     toLines flatMap join stringify decimal signed kindOf found stored getBits putBits typeName truth getMaskOf setMaskOf
     dataArg boolArg writes gets getsIn runOp runLine runLines runSetter runGetter
@@ -262,7 +263,7 @@ vacantSetter = setterWith "vacant(&mut self, _value: ()" "    self.builder.set_d
 
 -- a Void member of the union
 pub vacant-worked : (kind (vacant .ty) ≡ 0) × Gives bytes 7 6 Setter vacantSetter × TagHolds (some (4, 2)) some16
-unfolding fieldOf byId nth requestText isAscii taken snakeFrom camelToSnakeCase setDataField generateSetter setterRequest toLines
+unfolding fieldOf byId nth accessorText isAscii taken snakeFrom camelToSnakeCase setDataField generateSetter setterRequest toLines
     flatMap join stringify decimal
 vacant-worked = (refl, given-bytes 6 Setter vacantSetter refl, omega arith)
 
@@ -275,7 +276,7 @@ guestHaser =
 -- a pointer in the union, whose tag is 42405 = 165 * 257: the second pointer is not null
 pub guest-worked :
     (isPointer (guest .ty) ≡ true) × Gives bytes 7 5 (Haser true) guestHaser × (runHaser guestHaser some16 ≡ some true)
-unfolding fieldOf byId nth requestText isAscii taken snakeFrom camelToSnakeCase notNull tagTest generateHaser haserRequest toLines
+unfolding fieldOf byId nth accessorText isAscii taken snakeFrom camelToSnakeCase notNull tagTest generateHaser haserRequest toLines
     flatMap join stringify decimal found getBits nullFlag typeName tests testsOf runTests runHaser
 guest-worked = (refl, given-bytes 5 (Haser true) guestHaser refl, refl)
 
@@ -283,9 +284,9 @@ guest-worked = (refl, given-bytes 5 (Haser true) guestHaser refl, refl)
 
 -- the haser of a Bool, one newline, put into three bytes at 1
 pub answered-worked :
-    Answered (0 ∷ 0 ∷ 0 ∷ []) (record { at = 1 }) (outcomeOf (admitted bytes) 7 0 (Haser true)) (0 ∷ 10 ∷ 0 ∷ [])
+    Answered (0 ∷ 0 ∷ 0 ∷ []) (record { at = 1 }) (outcomeOf (admitted bytes) 7 (request.Field 0 (Haser true))) (0 ∷ 10 ∷ 0 ∷ [])
     (Done (record { at = 2 }))
-unfolding fieldOf byId nth requestText generateHaser haserRequest toLines flatMap join stringify text.answerOf text.bufferOf
+unfolding fieldOf byId nth accessorText generateHaser haserRequest toLines flatMap join stringify text.answerOf text.bufferOf
     text.placed
 answered-worked =
     rw (given-bytes 0 (Haser true) (unit 10) refl) (record { answer = refl; buffer = refl })

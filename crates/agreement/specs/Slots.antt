@@ -15,11 +15,12 @@ use Rattle.record.specs.Offsets.{Place}
 use Rattle.record.specs.Types.{Kind, placeOf}
 use Rattle.meaning.specs.Claims.{expected}
 use Rattle.requests.specs.Requests.{fieldOf, gives, outcomeOf}
-use Rattle.requests.specs.declared.Request.{Request}
+use Rattle.requests.specs.declared.Accessor.{Accessor}
+use Rattle.requests.specs.declared.Request.the-variants as request
 
--- generated: the request gets a text, given room
-abbrev pub Gives : Str → ℕ → ℕ → Request → Str → Type 0
-Gives s id place request w = outcomeOf (admitted s) id place request ≡ gives w
+-- generated: the request for an accessor gets a text, given room
+abbrev pub Gives : Str → ℕ → ℕ → Accessor → Str → Type 0
+Gives s id place accessor w = outcomeOf (admitted s) id (request.Field place accessor) ≡ gives w
 
 -- the bytes of a buffer from one fill count up to another
 abbrev pub between : ℕ → ℕ → Str → Str

@@ -37,14 +37,15 @@ use Rattle.codegen.specs.Getter.{getterText, getterRequest}
 use Rattle.codegen.specs.Haser.{generateHaser, haserRequest}
 use Rattle.codegen.specs.Setter.{generateSetter, setterRequest}
 use Rattle.codegen.specs.Zeroing.{zeroLine, contains, zeroFields, zeroFieldsOfGroup, zeroingRequest}
-use Rattle.place.specs.Place.{byId, nth}
+use Rattle.nodes.specs.Index.{byId, nth}
 use Rattle.record.specs.Record.{found, stored, getBits, putBits}
 use Rattle.meaning.specs.Examples.{some16}
 use Rattle.meaning.specs.Reading.{bindO, typeName, truth, getMaskOf, setMaskOf, dataArg}
 use Rattle.meaning.specs.Meaning.{writes, gets, getsIn, runOp, runLine, runLines, runSetter, runGetter}
-use Rattle.requests.specs.Requests.{leafOf, fieldOf, typeText, requestText, Outcome, gives, refuses, outcomeOf}
-use Rattle.requests.specs.declared.Request.{Request}
-use Rattle.requests.specs.declared.Request.the-variants.{TypeText, Getter, Setter, Haser, Zeroing}
+use Rattle.requests.specs.Requests.{leafOf, fieldOf, typeText, accessorText, Outcome, gives, refuses, outcomeOf}
+use Rattle.requests.specs.declared.Accessor.{Accessor}
+use Rattle.requests.specs.declared.Request.the-variants as request
+use Rattle.requests.specs.declared.Accessor.the-variants.{Getter, Setter, Haser, Zeroing}
 use Rattle.agreement.specs.Sheets.{slotWith, field, node}
 
 -- ---- the sheet
@@ -96,12 +97,12 @@ abbrev text : Outcome → Str
 text (gives s) = s
 text (refuses k line) = ascii "refused " ++ decimal k
 
--- the text of a request for the bed's field at a place
-abbrev asked : ℕ → Request → Str
-asked place request = text (outcomeOf (admitted bytes) 7 place request)
+-- the text of an accessor of the bed's field at a place
+abbrev asked : ℕ → Accessor → Str
+asked place accessor = text (outcomeOf (admitted bytes) 7 (request.Field place accessor))
 
 -- a getter of a reader that is no function
-abbrev getter : Request
+abbrev getter : Accessor
 getter = Getter true false
 
 -- a value read, in decimal
@@ -199,7 +200,7 @@ table =
     ∷ rowOf (asked 11 Zeroing)
     ("self.builder.set_data_field::<u16>(4, 0u16);" ∷ "self.builder.set_data_field::<u16>(4, 0u16);" ∷ [])
     -- GetType of a struct with module bed and no parameters
-    ∷ row (asked 1 (TypeText 9)) "bed::get_type::"
+    ∷ row (text (outcomeOf (admitted bytes) 7 (request.TypeText 1 9))) "bed::get_type::"
     ∷ []
 
 -- every row's text is what it must be
@@ -210,7 +211,7 @@ unfolding table same keywords.among isKeyword isAscii taken snakeFrom camelToSna
     wordsUpTo valueOf typeOf typeFrom scopeOf bindingOf times restOf onto rows textAt textOf textStart lineAt lineOf
     reader rootLine nodeLine parameterLine fieldLine groupLine typeLine scopeLine unboundLine valueLine wordLine mostA
     mostB mostC mostCount mostBits columnOf unpadded digits trimmed isGraphicText isName all isGraphic isWord endsIn
-    leafOf fieldOf byId nth typeText requestText typeString scopesOf nodeOf types.scopeOf argumentsOf accumulate
+    leafOf fieldOf byId nth typeText accessorText typeString scopesOf nodeOf types.scopeOf argumentsOf accumulate
     outermostFirst angled doBranding toLines flatMap join stringify ended signed getDataField setDataField
     primDefault getterMask getterText getterRequest generateHaser haserRequest generateSetter setterRequest zeroLine
     contains zeroFields zeroFieldsOfGroup zeroingRequest found stored getBits putBits typeName truth getMaskOf setMaskOf

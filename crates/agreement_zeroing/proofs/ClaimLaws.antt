@@ -7,8 +7,8 @@ use Rattle.text.specs.Bytes.{Str}
 use Rattle.codegen_types.specs.Out.{ok}
 use Rattle.codegen.specs.Zeroing.{zeroingRequest}
 use Rattle.meaning.specs.Meaning.{runGetter}
-use Rattle.requests.specs.Requests.{requestText}
-use Rattle.requests.specs.declared.Request.the-variants.{Zeroing}
+use Rattle.requests.specs.Requests.{accessorText}
+use Rattle.requests.specs.declared.Accessor.the-variants.{Zeroing}
 use Rattle.agreement.specs.Slots.{Gives, tagAt}
 use Rattle.agreement.proofs.ClaimLaws.{given-ok, getter-text, haser-holds}
 use Rattle.agreement.proofs.GetterLaws.{getter-given}
@@ -21,9 +21,9 @@ use Rattle.agreement_zeroing.proofs.LeftLaws.{has-not}
 -- the text that is given is that of `zero_fields_of_group`
 zeroing-text : {s : Str} {id place : ℕ} (a : GroupAt s id place) (w : Str) → Gives s id place Zeroing w
     → zeroingRequest (a .tree) (a .group) ≡ ok w
-unfolding requestText
+unfolding accessorText
 zeroing-text a w e =
-    rw (a .is-group) at (given-ok (requestText (a .tree) (a .node, a .field) Zeroing) w (rw (a .is-admitted, a .is-found) at e))
+    rw (a .is-group) at (given-ok (accessorText (a .tree) (a .node, a .field) Zeroing) w (rw (a .is-admitted, a .is-found) at e))
 
 pub zeroing-holds : ZeroingHolds
 zeroing-holds s id place a w e r long =

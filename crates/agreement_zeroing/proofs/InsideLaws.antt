@@ -14,7 +14,7 @@ use Rattle.tree.specs.Read.{sheet, admitted}
 use Rattle.codegen_types.specs.Out.{ok, _then_}
 use Rattle.codegen_types.specs.TypeString.{nodeOf}
 use Rattle.codegen.specs.Zeroing.{zeroLine}
-use Rattle.place.specs.Place.{byId, nth}
+use Rattle.nodes.specs.Index.{byId, nth}
 use Rattle.meaning.specs.Claims.{In}
 use Rattle.requests.specs.Requests.{there, fieldOf}
 use Rattle.agreement.specs.Slots.{SlotAt}

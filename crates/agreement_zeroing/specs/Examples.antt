@@ -34,10 +34,11 @@ use Rattle.codegen.specs.Default.{getterMask}
 use Rattle.codegen.specs.Getter.{getterText, getterRequest}
 use Rattle.codegen.specs.Haser.{generateHaser, haserRequest}
 use Rattle.codegen.specs.Zeroing.{zeroLine, contains, zeroFields, zeroFieldsOfGroup, zeroingRequest}
-use Rattle.place.specs.Place.{byId, nth}
+use Rattle.nodes.specs.Index.{byId, nth}
 use Rattle.requests.specs.Requests as requests
-use Rattle.requests.specs.Requests.{requestText, Outcome, gives, refuses, outcomeOf}
-use Rattle.requests.specs.declared.Request.the-variants.{Getter, Haser, Zeroing}
+use Rattle.requests.specs.Requests.{accessorText, Outcome, gives, refuses, outcomeOf}
+use Rattle.requests.specs.declared.Accessor.the-variants.{Getter, Haser, Zeroing}
+use Rattle.requests.specs.declared.Request.the-variants as request
 use Rattle.agreement.specs.Slots.{Gives, SlotAt, kindAt}
 use Rattle.record.specs.Record.{Record, found, stored, getBits, putBits, nullFlag, clearFlag}
 use Rattle.record.specs.Types as kinds
@@ -151,7 +152,7 @@ zeroText =
     ++ ascii "self.builder.set_bool_field(35, false);\n"
 
 generated : Gives wardBytes 1 0 Zeroing zeroText
-unfolding requests.fieldOf byId nth requestText zeroingRequest zeroFieldsOfGroup zeroFields zeroLine contains types.nodeOf
+unfolding requests.fieldOf byId nth accessorText zeroingRequest zeroFieldsOfGroup zeroFields zeroLine contains types.nodeOf
     same stringify join toLines flatMap
     decimal setBoolField setDataField clearPointer
 generated = rw ward-read refl
@@ -187,7 +188,7 @@ statusText =
     ++ ascii "::core::convert::TryFrom::try_from(self.reader.get_data_field_mask::<u16>(2, 2))\n"
 
 status-given : Gives wardBytes 3 0 (Getter true false) statusText
-unfolding requests.fieldOf byId nth requestText getterRequest getterText typeString types.nodeOf getterMask getDataField decimal
+unfolding requests.fieldOf byId nth accessorText getterRequest getterText typeString types.nodeOf getterMask getDataField decimal
     stringify join toLines flatMap
 status-given = rw ward-read refl
 
@@ -210,21 +211,21 @@ says r (gives t) = runHaser t r
 says r (refuses k line) = none
 
 abbrev get : Record → ℕ → ℕ → Bool → Bool → Option ℕ
-get r id place isReader isFn = reads r (outcomeOf (sheet ward) id place (Getter isReader isFn))
+get r id place isReader isFn = reads r (outcomeOf (sheet ward) id (request.Field place (Getter isReader isFn)))
 
 -- rank in two forms, status and isFree: not their defaults before, their defaults after
 defaults-read :
     (get before 2 0 true false ≡ some 65528) × (get before 3 0 true false ≡ some 65533) × (get before 3 1 false false ≡ some 0)
     × (get after 2 0 true false ≡ some 7) × (get after 2 0 false true ≡ some 7) × (get after 3 0 true false ≡ some 2)
     × (get after 3 1 false false ≡ some 1)
-unfolding requests.fieldOf byId nth requestText getterRequest getterText typeString types.nodeOf getterMask getBoolField
+unfolding requests.fieldOf byId nth accessorText getterRequest getterText typeString types.nodeOf getterMask getBoolField
     getDataField decimal stringify join toLines flatMap same found getBits typeName truth getMaskOf gets getsIn runGetter
 defaults-read = (refl, refl, refl, refl, refl, refl, refl)
 
 -- note is there before, and absent after
 note-absent :
-    (says before (outcomeOf (sheet ward) 2 1 (Haser true)) ≡ some true)
-    × (says after (outcomeOf (sheet ward) 2 1 (Haser true)) ≡ some false)
-unfolding requests.fieldOf byId nth requestText haserRequest generateHaser camelToSnakeCase taken isAscii snakeFrom notNull
+    (says before (outcomeOf (sheet ward) 2 (request.Field 1 (Haser true))) ≡ some true)
+    × (says after (outcomeOf (sheet ward) 2 (request.Field 1 (Haser true))) ≡ some false)
+unfolding requests.fieldOf byId nth accessorText haserRequest generateHaser camelToSnakeCase taken isAscii snakeFrom notNull
     tagTest decimal stringify join toLines flatMap found getBits nullFlag typeName tests testsOf runTests runHaser
 note-absent = (refl, refl)

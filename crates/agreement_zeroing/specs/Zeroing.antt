@@ -17,7 +17,7 @@ use Rattle.record.specs.Record.{Record, get, null, Has, Holds, HoldsPointer}
 use Rattle.record.specs.Types.{Kind, kindOf, tagPlace}
 use Rattle.meaning.specs.Meaning.{Op, setOp, clearOp, writes, lines, trim, runGetter, runHaser, runZeroing}
 use Rattle.requests.specs.Requests.{fieldOf}
-use Rattle.requests.specs.declared.Request.the-variants.{Getter, Haser, Zeroing}
+use Rattle.requests.specs.declared.Accessor.the-variants.{Getter, Haser, Zeroing}
 use Rattle.agreement.specs.Slots.{Gives, SlotAt, kindAt, tagAt}
 
 -- ---- the slots of a group

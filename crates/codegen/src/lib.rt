@@ -1,5 +1,6 @@
 // The parts of accessors' texts that need no look into the sheet: codegen.rs of capnpc, its slot part.
 use calls::Mask;
+use field::Slot;
 use text::Text;
 ghost use mathlib.Core.Path.{_≡_};
 ghost use mathlib.Core.Option.{some};
@@ -8,6 +9,7 @@ ghost use mathlib.Core.Bool.{true, false};
 ghost use Rattle.text.specs.Bytes.{ascii, cond, both};
 ghost use Rattle.text.specs.Text.{Wrote};
 ghost use Rattle.tree.specs.Tree as tree;
+ghost use Rattle.field.specs.Slot.{SlotIs};
 ghost use Rattle.calls.specs.Calls.{getDataField, setBoolField, setDataField, zeroData};
 ghost use Rattle.calls.specs.Mask.{maskText};
 ghost use Rattle.codegen.specs.Default.{value, integer, floatZero, primDefault, getterMask};
@@ -84,12 +86,12 @@ fn prim_default(kind: u64, bits: u64) -> Mask
 
 // The get of a number, masked by its default.
 pub fn get_number(
-    t: Text,
-    buf: &mut [u8],
     is_reader: bool,
     kind: u64,
     offset: u64,
     bits: u64,
+    t: Text,
+    buf: &mut [u8],
 ) -> Text
     ensures { λ r. ⌜ Wrote (now (buf .entry)) t
         (getDataField «is_reader» (primitiveText kind) offset (getterMask (value kind bits))) (now (buf .exit)) r ⌝ }
@@ -102,7 +104,7 @@ pub fn get_number(
 }
 
 // The set of a Bool, masked by the default of any primitive kind.
-pub fn set_bool(t: Text, buf: &mut [u8], offset: u64, default: u64, bits: u64) -> Text
+pub fn set_bool(offset: u64, default: u64, bits: u64, t: Text, buf: &mut [u8]) -> Text
     ensures { λ r. ⌜ Given (primDefault (value default bits)) (λ mask. Wrote (now (buf .entry)) t
         (setBoolField offset (ascii "value") mask) (now (buf .exit)) r) ⌝ }
 {
@@ -111,7 +113,7 @@ pub fn set_bool(t: Text, buf: &mut [u8], offset: u64, default: u64, bits: u64) -
 }
 
 // The set of a number, masked by the default of any primitive kind.
-pub fn set_number(t: Text, buf: &mut [u8], kind: u64, offset: u64, default: u64, bits: u64) -> Text
+pub fn set_number(kind: u64, offset: u64, default: u64, bits: u64, t: Text, buf: &mut [u8]) -> Text
     ensures { λ r. ⌜ Given (primDefault (value default bits)) (λ mask. Wrote (now (buf .entry)) t
         (setDataField (primitiveText kind) offset (ascii "value") mask) (now (buf .exit)) r) ⌝ }
 {
@@ -123,7 +125,7 @@ pub fn set_number(t: Text, buf: &mut [u8], kind: u64, offset: u64, default: u64,
 }
 
 // The line that zeroes a number.
-pub fn zero_number(t: Text, buf: &mut [u8], kind: u64, offset: u64) -> Text
+pub fn zero_number(kind: u64, offset: u64, t: Text, buf: &mut [u8]) -> Text
     ensures { λ r. ⌜ Wrote (now (buf .entry)) t (zeroData (primitiveText kind) offset) (now (buf .exit)) r ⌝ }
 {
     let name = codegen_types::primitive(kind);
@@ -146,7 +148,7 @@ pub fn is_pointer(kind: u64) -> bool
 }
 
 // A haser's line that tests the tag, where the field has a discriminant.
-fn tag_test_line(t: Text, buf: &mut [u8], is_reader: bool, tag: u64, discriminant: u64) -> Text
+fn tag_test_line(is_reader: bool, tag: u64, discriminant: u64, t: Text, buf: &mut [u8]) -> Text
     ensures { λ r. ⌜ Wrote (now (buf .entry)) t (tagTestLine «is_reader» tag discriminant) (now (buf .exit)) r ⌝ }
 {
     if discriminant == 65535 {
@@ -157,28 +159,19 @@ fn tag_test_line(t: Text, buf: &mut [u8], is_reader: bool, tag: u64, discriminan
     t.bytes(buf, b"\n")
 }
 
-// `generate_haser` of a slot: of its type and offset, and of the name, the tag's offset and the discriminant of its field.
-pub fn haser(
-    t: Text,
-    buf: &mut [u8],
-    name: &[u8],
-    kind: u64,
-    offset: u64,
-    tag: u64,
-    discriminant: u64,
-    is_reader: bool,
-) -> Text
-    ensures { λ r. ⌜ ((s : tree.Slot) → tree.kind (s .ty) ≡ kind → s .offset ≡ offset → Wrote (now (buf .entry)) t
-        (haserRequest tag (now (name .entry)) discriminant s «is_reader») (now (buf .exit)) r) ⌝ }
+// `generate_haser` of a slot, for the name and the tag's offset of its field.
+pub fn haser(name: &[u8], slot: Slot, tag: u64, is_reader: bool, t: Text, buf: &mut [u8]) -> Text
+    ensures { λ r. ⌜ ((s : tree.Slot) → SlotIs slot s → Wrote (now (buf .entry)) t
+        (haserRequest tag (now (name .entry)) (slot .discriminant) s «is_reader») (now (buf .exit)) r) ⌝ }
 {
-    if !is_pointer(kind) {
+    if !is_pointer(slot.kind) {
         return t.no_lines(buf);
     }
     let t = t.bytes(buf, b"#[inline]\npub fn has_");
     let t = names::snake_name(t, buf, name);
     let t = t.bytes(buf, b"(&self) -> bool {\n");
-    let t = tag_test_line(t, buf, is_reader, tag, discriminant);
+    let t = tag_test_line(is_reader, tag, slot.discriminant, t, buf);
     let t = t.bytes(buf, b"    ");
-    let t = calls::not_null(t, buf, is_reader, offset);
+    let t = calls::not_null(t, buf, is_reader, slot.offset);
     t.bytes(buf, b"\n}\n")
 }

@@ -12,7 +12,7 @@ use Rattle.text.specs.Lines.{toLines, flatMap, stringify, ended}
 use Rattle.text.proofs.LinesLaws.{stringify-lines}
 use Rattle.tree.specs.Tree.{Ty, plain, list, enum, struct, interface, anyPointer, parameter, kind, Value, Slot}
 use Rattle.codegen_types.specs.TypeString.{isParameter}
-use Rattle.slot.specs.Slot.{HasId}
+use Rattle.field.specs.Slot.{HasId}
 use Rattle.calls.specs.Calls.{getDataField}
 use Rattle.codegen.specs.Default.{value, getterMask}
 use Rattle.codegen.specs.Getter.{fromPointer, pointerDefault, capability, untyped, isFallible, fragmentOf, optionCode}

@@ -1,5 +1,5 @@
 // The code of a slot's getter: what `getter_text` of codegen.rs gives beside the result type and the default's declaration.
-use slot::Slot;
+use field::Slot;
 use text::Text;
 ghost use mathlib.Core.Path.{_≡_};
 ghost use mathlib.Core.Bool.{true, false};
@@ -8,14 +8,14 @@ ghost use Rattle.text.specs.Bytes.{cond};
 ghost use Rattle.text.specs.Lines.{stringify};
 ghost use Rattle.text.specs.Text.{Wrote};
 ghost use Rattle.tree.specs.Tree as tree;
-ghost use Rattle.slot.specs.Slot.{SlotIs};
+ghost use Rattle.field.specs.Slot.{SlotIs};
 ghost use Rattle.codegen_types.specs.Primitive.{primitiveText};
 ghost use Rattle.codegen.specs.Getter.{void, pointerDefault, fromPointer, capability, untyped};
 ghost use Rattle.codegen.specs.Getter.{isFallible, fragmentOf, getterCode};
 ghost use Rattle.codegen_getter.specs.Parts.{fromPointerHead, capabilityHead, anyPointerHead};
 ghost use Rattle.codegen_getter.specs.Parts.{nullHead, absent, someEnd};
 
-fn void(t: Text, buf: &mut [u8], is_fn: bool) -> Text
+fn void(is_fn: bool, t: Text, buf: &mut [u8]) -> Text
     ensures { λ r. ⌜ Wrote (now (buf .entry)) t (void «is_fn») (now (buf .exit)) r ⌝ }
 {
     if is_fn {
@@ -25,7 +25,7 @@ fn void(t: Text, buf: &mut [u8], is_fn: bool) -> Text
 }
 
 // The default of a pointer: its constant, if it is explicit.
-fn pointer_default(t: Text, buf: &mut [u8], explicit: u64, name: &[u8]) -> Text
+fn pointer_default(explicit: u64, name: &[u8], t: Text, buf: &mut [u8]) -> Text
     ensures { λ r. ⌜ Wrote (now (buf .entry)) t (pointerDefault explicit (now (name .entry))) (now (buf .exit)) r ⌝ }
 {
     if explicit == 1 {
@@ -36,7 +36,7 @@ fn pointer_default(t: Text, buf: &mut [u8], explicit: u64, name: &[u8]) -> Text
     t.bytes(buf, b"::core::option::Option::None")
 }
 
-fn from_pointer_head(t: Text, buf: &mut [u8], is_reader: bool) -> Text
+fn from_pointer_head(is_reader: bool, t: Text, buf: &mut [u8]) -> Text
     ensures { λ r. ⌜ Wrote (now (buf .entry)) t (fromPointerHead «is_reader») (now (buf .exit)) r ⌝ }
 {
     if is_reader {
@@ -53,26 +53,26 @@ fn from_pointer_head(t: Text, buf: &mut [u8], is_reader: bool) -> Text
 
 // The value of a pointer field, with its default.
 fn from_pointer(
-    t: Text,
-    buf: &mut [u8],
     root: &[u8],
     is_reader: bool,
     offset: u64,
     explicit: u64,
     name: &[u8],
+    t: Text,
+    buf: &mut [u8],
 ) -> Text
     ensures { λ r. ⌜ Wrote (now (buf .entry)) t
         (fromPointer (now (root .entry)) «is_reader» offset (pointerDefault explicit (now (name .entry)))) (now (buf .exit)) r ⌝ }
 {
     let t = t.bytes(buf, root);
-    let t = from_pointer_head(t, buf, is_reader);
+    let t = from_pointer_head(is_reader, t, buf);
     let t = t.number(buf, offset);
     let t = t.bytes(buf, b"), ");
-    let t = pointer_default(t, buf, explicit, name);
+    let t = pointer_default(explicit, name, t, buf);
     t.bytes(buf, b")")
 }
 
-fn capability_head(t: Text, buf: &mut [u8], is_reader: bool) -> Text
+fn capability_head(is_reader: bool, t: Text, buf: &mut [u8]) -> Text
     ensures { λ r. ⌜ Wrote (now (buf .entry)) t (capabilityHead «is_reader») (now (buf .exit)) r ⌝ }
 {
     if is_reader {
@@ -82,10 +82,10 @@ fn capability_head(t: Text, buf: &mut [u8], is_reader: bool) -> Text
 }
 
 // The capability of an interface field.
-fn capability(t: Text, buf: &mut [u8], root: &[u8], is_reader: bool, offset: u64) -> Text
+fn capability(root: &[u8], is_reader: bool, offset: u64, t: Text, buf: &mut [u8]) -> Text
     ensures { λ r. ⌜ Wrote (now (buf .entry)) t (capability (now (root .entry)) «is_reader» offset) (now (buf .exit)) r ⌝ }
 {
-    let t = capability_head(t, buf, is_reader);
+    let t = capability_head(is_reader, t, buf);
     let t = t.number(buf, offset);
     let t = t.bytes(
         buf,
@@ -98,7 +98,7 @@ fn capability(t: Text, buf: &mut [u8], root: &[u8], is_reader: bool, offset: u64
     )
 }
 
-fn any_pointer_head(t: Text, buf: &mut [u8], is_reader: bool) -> Text
+fn any_pointer_head(is_reader: bool, t: Text, buf: &mut [u8]) -> Text
     ensures { λ r. ⌜ Wrote (now (buf .entry)) t (anyPointerHead «is_reader») (now (buf .exit)) r ⌝ }
 {
     if is_reader {
@@ -115,33 +115,33 @@ fn any_pointer_head(t: Text, buf: &mut [u8], is_reader: bool) -> Text
 
 // The value of an AnyPointer field: of a parameter's type, or untyped.
 fn untyped(
-    t: Text,
-    buf: &mut [u8],
     root: &[u8],
     is_reader: bool,
     parameter: bool,
     offset: u64,
+    t: Text,
+    buf: &mut [u8],
 ) -> Text
     ensures { λ r. ⌜ Wrote (now (buf .entry)) t (untyped (now (root .entry)) «is_reader» parameter offset) (now (buf .exit)) r ⌝ }
 {
     if parameter {
-        return from_pointer(t, buf, root, is_reader, offset, 0, b"");
+        return from_pointer(root, is_reader, offset, 0, b"", t, buf);
     }
     let t = t.bytes(buf, root);
-    let t = any_pointer_head(t, buf, is_reader);
+    let t = any_pointer_head(is_reader, t, buf);
     let t = t.number(buf, offset);
     t.bytes(buf, b"))")
 }
 
 // getter_fragment of a slot whose default is of its type.
 fn fragment(
-    t: Text,
-    buf: &mut [u8],
     root: &[u8],
     name: &[u8],
     slot: Slot,
     is_reader: bool,
     is_fn: bool,
+    t: Text,
+    buf: &mut [u8],
 ) -> Text
     ensures { λ r. ⌜ ((s : tree.Slot) → SlotIs slot s → s .default .kind ≡ tree.kind (s .ty) → Wrote (now (buf .entry)) t
         (fragmentOf (now (root .entry)) (now (name .entry)) s «is_reader» «is_fn» (primitiveText (slot .kind)))
@@ -150,26 +150,26 @@ fn fragment(
     let kind = slot.kind;
     let bits = slot.bits;
     if kind == 0 {
-        return void(t, buf, is_fn);
+        return void(is_fn, t, buf);
     }
     if kind == 1 {
         let mask = codegen::getter_mask(kind, bits);
         return calls::get_bool_field(t, buf, is_reader, slot.offset, mask);
     }
     if kind <= 11 {
-        return codegen::get_number(t, buf, is_reader, kind, slot.offset, bits);
+        return codegen::get_number(is_reader, kind, slot.offset, bits, t, buf);
     }
     if kind == 15 {
         let mask = codegen::getter_mask(kind, bits);
         return calls::get_enum_field(t, buf, is_reader, slot.offset, mask);
     }
     if kind == 17 {
-        return capability(t, buf, root, is_reader, slot.offset);
+        return capability(root, is_reader, slot.offset, t, buf);
     }
     if kind == 18 {
-        return untyped(t, buf, root, is_reader, slot.id != 0, slot.offset);
+        return untyped(root, is_reader, slot.id != 0, slot.offset, t, buf);
     }
-    from_pointer(t, buf, root, is_reader, slot.offset, slot.explicit, name)
+    from_pointer(root, is_reader, slot.offset, slot.explicit, name, t, buf)
 }
 
 // is_fallible, whether the result can be an error: for an enum, a parameter and every pointer but AnyPointer it can.
@@ -183,7 +183,7 @@ fn is_fallible(slot: Slot) -> bool
     11 < kind
 }
 
-fn null_head(t: Text, buf: &mut [u8], is_reader: bool) -> Text
+fn null_head(is_reader: bool, t: Text, buf: &mut [u8]) -> Text
     ensures { λ r. ⌜ Wrote (now (buf .entry)) t (nullHead «is_reader») (now (buf .exit)) r ⌝ }
 {
     if is_reader {
@@ -193,7 +193,7 @@ fn null_head(t: Text, buf: &mut [u8], is_reader: bool) -> Text
 }
 
 // The line for a pointer that is null, and the start of the other.
-fn absent(t: Text, buf: &mut [u8], fallible: bool) -> Text
+fn absent(fallible: bool, t: Text, buf: &mut [u8]) -> Text
     ensures { λ r. ⌜ Wrote (now (buf .entry)) t (absent fallible) (now (buf .exit)) r ⌝ }
 {
     if fallible {
@@ -208,7 +208,7 @@ fn absent(t: Text, buf: &mut [u8], fallible: bool) -> Text
     )
 }
 
-fn some_end(t: Text, buf: &mut [u8], fallible: bool) -> Text
+fn some_end(fallible: bool, t: Text, buf: &mut [u8]) -> Text
     ensures { λ r. ⌜ Wrote (now (buf .entry)) t (someEnd fallible) (now (buf .exit)) r ⌝ }
 {
     if fallible {
@@ -219,13 +219,13 @@ fn some_end(t: Text, buf: &mut [u8], fallible: bool) -> Text
 
 // The code of a slot whose default is of its type: the fragment, or with an option the test and both answers.
 pub fn code(
-    t: Text,
-    buf: &mut [u8],
     root: &[u8],
     name: &[u8],
     slot: Slot,
     is_reader: bool,
     is_fn: bool,
+    t: Text,
+    buf: &mut [u8],
 ) -> Text
     ensures { λ r. ⌜ ((s : tree.Slot) → SlotIs slot s → s .default .kind ≡ tree.kind (s .ty) → Wrote (now (buf .entry)) t
         (stringify (getterCode s «is_reader» (cond (eqb (s .option) 0) false true)
@@ -233,13 +233,13 @@ pub fn code(
         (now (buf .exit)) r) ⌝ }
 {
     if slot.option == 0 {
-        let t = fragment(t, buf, root, name, slot, is_reader, is_fn);
+        let t = fragment(root, name, slot, is_reader, is_fn, t, buf);
         return t.byte(buf, b'\n');
     }
     let fallible = is_fallible(slot);
-    let t = null_head(t, buf, is_reader);
+    let t = null_head(is_reader, t, buf);
     let t = t.number(buf, slot.offset);
-    let t = absent(t, buf, fallible);
-    let t = fragment(t, buf, root, name, slot, is_reader, is_fn);
-    some_end(t, buf, fallible)
+    let t = absent(fallible, t, buf);
+    let t = fragment(root, name, slot, is_reader, is_fn, t, buf);
+    some_end(fallible, t, buf)
 }

@@ -3,3 +3,4 @@ pub mod Leaf
 pub mod TypeString
 pub mod Primitive
 pub mod Examples
+pub mod Written

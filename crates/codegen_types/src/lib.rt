@@ -1,5 +1,5 @@
 // `Leaf` of codegen_types.rs of capnpc and the texts that depend on it alone, and the names of the primitive types. The
-// definitions of `type_string` and `do_branding` stand in specs/; the code that meets them is in the crates type_refusal and
+// definitions of `type_string` and `do_branding` stand in specs/; the code that meets them is in the crates type_parts and
 // type_string.
 use text::Text;
 ghost use mathlib.Core.List.{_++_};
@@ -9,6 +9,23 @@ ghost use mathlib.Core.Path.{_≡_};
 ghost use Rattle.codegen_types.specs.Leaf.{bareName, display, lifetimeComma};
 ghost use Rattle.codegen_types.specs.TypeString.{elementLeaf};
 ghost use Rattle.codegen_types.specs.Primitive.{primitiveText, Holds};
+ghost use Rattle.codegen_types.specs.Written.{firstOf};
+ghost use Rattle.codegen_types.specs.declared.Refusal.the-variants.{None, Number};
+
+// The kinds of the types that are no numbers, as in the schema's `Type`.
+pub const TEXT: u64 = 12;
+
+pub const DATA: u64 = 13;
+
+pub const LIST: u64 = 14;
+
+pub const ENUM: u64 = 15;
+
+pub const STRUCT: u64 = 16;
+
+pub const INTERFACE: u64 = 17;
+
+pub const ANY_POINTER: u64 = 18;
 
 // The lifetimes that are asked for: 'a and '_.
 pub enum Lifetime {
@@ -32,6 +49,43 @@ pub enum Leaf {
 pub enum Refusal {
     None,
     Number(u8),
+}
+
+// What a writer leaves: the text state after its text, and the refusal of what it was to write, if there is one. A text that is
+// refused counts for nothing.
+pub struct Written {
+    pub text: Text,
+    pub refusal: Refusal,
+}
+
+// A text that is not refused.
+pub fn whole(t: Text) -> Written
+    ensures { λ r. ⌜ (r .text ≡ t) × (r .refusal ≡ None) ⌝ }
+{
+    Written {
+        text: t,
+        refusal: Refusal::None,
+    }
+}
+
+// A text that is refused with a number.
+pub fn refused(t: Text, number: u8) -> Written
+    ensures { λ r. ⌜ r .refusal ≡ Number number ⌝ }
+{
+    Written {
+        text: t,
+        refusal: Refusal::Number(number),
+    }
+}
+
+// The first of two refusals.
+pub fn first(a: Refusal, b: Refusal) -> Refusal
+    ensures { λ r. ⌜ r ≡ firstOf a b ⌝ }
+{
+    match a {
+        Refusal::None => b,
+        Refusal::Number(number) => Refusal::Number(number),
+    }
 }
 
 impl Leaf {
@@ -84,7 +138,7 @@ impl Leaf {
 pub fn element_leaf(kind: u64) -> Leaf
     ensures { λ r. ⌜ r ≡ elementLeaf kind ⌝ }
 {
-    if kind == 17 {
+    if kind == INTERFACE {
         Leaf::Client
     } else {
         Leaf::Owned

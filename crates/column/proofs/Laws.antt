@@ -1,16 +1,17 @@
 -- Laws for the loops over columns and texts: what a definition gives from one byte on, by that byte. Assumes nothing.
-use mathlib.Core.Path.{_≡_, refl, _∙_}
+use mathlib.Core.Path.{_≡_, refl, sym, ap, _∙_}
 use mathlib.Core.Bool.{Bool, true, false}
 use mathlib.Core.List.{[], _∷_}
-use Prim.Native.Nat.{ℕ, _+_, _-_, _*_, _^_, _≤_, _<_}
+use Prim.Native.Nat.{ℕ, _+_, _-_, _*_, _/_, _^_, _≤_, _<_}
 use native.Mathlib.Omega.{arith}
 use native.Mathlib.Nat.{add-sub-cancel-left, pow-suc, pow-le-pow-right}
 use native.Mathlib.Numerals.{add-one}
 use lib.ListN.{length, getD, take, drop, drop-of-length-le, length-drop, List·getD-eq-default}
 use lib.Seq.{drop-cons, take-all}
-use borrow.Author.Tests.{eq-eqb, ne-eqb, lt-ltb, le-ltb, le-leb, lt-leb}
+use lib.Dec.{ltb}
+use borrow.Author.Tests.{eq-eqb, ne-eqb, lt-ltb, le-ltb, ltb-false, le-leb, lt-leb}
 use Rattle.text.specs.Bytes.{Str, cond, either}
-use Rattle.column.specs.Number.{trimmed, fourBytes, digits, unpadded, within, columnOf}
+use Rattle.column.specs.Number.{trimmed, four, fourBytes, digits, unpadded, within, columnOf}
 use Rattle.column.specs.Texts.{between, isDigit, isWord, isGraphic, all, sized, isName, isGraphicText, endsIn}
 use Rattle.column.specs.declared.Number.{Number}
 use Rattle.column.specs.declared.Number.the-variants.{Is, Not}
@@ -76,18 +77,67 @@ few-digits v i l h = omega (arith, pow-le-pow-right {n = 10} (omega arith) {i = 
 pub one-more-digit : (v i d : ℕ) → v < 10 ^ i → d < 10 → v * 10 + d < 10 ^ (i + 1)
 one-more-digit v i d l h = rw (add-one, pow-suc 10 i) (omega arith)
 
--- four bytes that make the number of four spaces
-pub trimmed-four :
-    (t : Str) (i : ℕ) → ((j : ℕ) → getD t j 0 < 256) → i + 4 ≤ length t → fourBytes t i ≡ 0x20202020
-    → trimmed (drop i t) ≡ trimmed (drop (i + 4) t)
-trimmed-four t i fits h e =
-    let b₀ = fits i in
-    let b₁ = fits (i + 1) in
-    let b₂ = fits (i + 2) in
-    on i (i + 1) (omega arith) (omega arith) (omega arith)
-    ∙ on (i + 1) (i + 2) (omega arith) (omega arith) (omega arith)
-    ∙ on (i + 2) (i + 3) (omega arith) (omega arith) (omega arith)
-    ∙ on (i + 3) (i + 4) (omega arith) (omega arith) (omega arith)
+-- four bytes as one number: where they are not there whole, and where they are
+pub four-out : (t : Str) (i : ℕ) → length t < i + 4 → 0 ≡ fourBytes t i
+unfolding fourBytes
+four-out t i h = rw (lt-ltb (length t) (i + 4) h)
+
+pub four-there :
+    (t : Str) (i v : ℕ) → i + 4 ≤ length t
+    → v ≡ four (getD t i 0) (getD t (i + 1) 0) (getD t (i + 2) 0) (getD t (i + 3) 0) → v ≡ fourBytes t i
+unfolding fourBytes
+four-there t i v h e = rw (le-ltb (length t) (i + 4) h) e
+
+-- what stands above the lowest byte
+above : (x a u v : ℕ) → x < 256 → a < 256 → x + 256 * u ≡ a + 256 * v → u ≡ v
+above x a u v hx ha e =
+    let p : (x + 256 * u) / 256 ≡ u = omega arith in
+    let q : (a + 256 * v) / 256 ≡ v = omega arith in
+    sym p ∙ ap (λ (n : ℕ). n / 256) e ∙ q
+
+-- the bytes a, b, c and d stand from i on
+pub record Four (t : Str) (i a b c d : ℕ) : Type 0 where
+  pub whole : i + 4 ≤ length t
+  pub first : getD t i 0 ≡ a
+  pub second : getD t (i + 1) 0 ≡ b
+  pub third : getD t (i + 2) 0 ≡ c
+  pub fourth : getD t (i + 3) 0 ≡ d
+
+-- four bytes that make the number of a, b, c and d, which is not 0
+pub four-are :
+    (t : Str) (i a b c d : ℕ) → ((j : ℕ) → getD t j 0 < 256) → 0 < a → a < 256 → b < 256 → c < 256
+    → fourBytes t i ≡ four a b c d → Four t i a b c d
+unfolding fourBytes
+four-are t i a b c d fits some ha hb hc e = go (ltb (length t) (i + 4)) refl e
+  where
+    go :
+        (p : Bool) → ltb (length t) (i + 4) ≡ p
+        → cond p 0 (four (getD t i 0) (getD t (i + 1) 0) (getD t (i + 2) 0) (getD t (i + 3) 0)) ≡ four a b c d → Four t i a b c d
+    go true k e = let z : ⊥ = omega arith in absurd z
+    go false k e =
+        let x₀ = getD t i 0 in
+        let x₁ = getD t (i + 1) 0 in
+        let x₂ = getD t (i + 2) 0 in
+        let x₃ = getD t (i + 3) 0 in
+        let e₁ = above x₀ a (x₁ + 256 * (x₂ + 256 * x₃)) (b + 256 * (c + 256 * d)) (fits i) ha (omega arith) in
+        let e₂ = above x₁ b (x₂ + 256 * x₃) (c + 256 * d) (fits (i + 1)) hb e₁ in
+        let e₃ = above x₂ c x₃ d (fits (i + 2)) hc e₂ in
+        record {
+          whole = ltb-false (length t) (i + 4) k;
+          first = omega arith;
+          second = omega arith;
+          third = omega arith;
+          fourth = e₃;
+        }
+
+-- four spaces
+pub trimmed-four : (t : Str) (i : ℕ) → Four t i 32 32 32 32 → trimmed (drop i t) ≡ trimmed (drop (i + 4) t)
+trimmed-four t i f =
+    let h = f .whole in
+    on i (i + 1) (omega arith) (omega arith) (f .first)
+    ∙ on (i + 1) (i + 2) (omega arith) (omega arith) (f .second)
+    ∙ on (i + 2) (i + 3) (omega arith) (omega arith) (f .third)
+    ∙ on (i + 3) (i + 4) (omega arith) (omega arith) (f .fourth)
   where
     on : (m n : ℕ) → n ≡ m + 1 → m < length t → getD t m 0 ≡ 32 → trimmed (drop m t) ≡ trimmed (drop n t)
     on m n e h s = rw e (trimmed-more t m h s)

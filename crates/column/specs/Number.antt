@@ -13,9 +13,14 @@ unfoldable pub trimmed : Str → Str
 trimmed [] = []
 trimmed (b ∷ t) = cond (eqb b 32) (trimmed t) (b ∷ t)
 
--- the four bytes from i on as one number, the first lowest
-abbrev pub fourBytes : Str → ℕ → ℕ
-fourBytes t i = getD t i 0 + 0x100 * getD t (i + 1) 0 + 0x10000 * getD t (i + 2) 0 + 0x1000000 * getD t (i + 3) 0
+-- four bytes as one number, the first lowest
+abbrev pub four : ℕ → ℕ → ℕ → ℕ → ℕ
+four a b c d = a + 0x100 * b + 0x10000 * c + 0x1000000 * d
+
+-- the four bytes from i on as one number; 0 where they are not there whole
+unfoldable pub fourBytes : Str → ℕ → ℕ
+fourBytes t i =
+    cond (ltb (length t) (i + 4)) 0 (four (getD t i 0) (getD t (i + 1) 0) (getD t (i + 2) 0) (getD t (i + 3) 0))
 
 -- v, where b is a digit
 abbrev pub digit : ℕ → Number → Number

@@ -1,6 +1,6 @@
 // The columns of a sheet's line: a number, right-justified in 21 columns, and a text after one space.
 ghost use mathlib.Core.Path.{_≡_};
-ghost use Prim.Native.Nat.{_+_, _≤_, _<_};
+ghost use Prim.Native.Nat.{_≤_, _<_};
 ghost use lib.ListN.{length, drop};
 ghost use Rattle.column.specs.Number.{trimmed, fourBytes, digits, unpadded, columnOf};
 ghost use Rattle.column.specs.Texts.{isDigit, isWord, isGraphic, all, isName, isGraphicText, endsIn};
@@ -19,11 +19,16 @@ fn wide(b: u8) -> u64
     b as u64
 }
 
-// The four bytes from `i` on as one number, the first lowest.
-fn four_bytes(t: &[u8], i: usize) -> u64
-    requires { ⌜ i + 4 ≤ length (now t) ⌝ }
+// The four bytes from `i` on as one number, the first lowest; 0 where they are not there whole.
+pub fn four_bytes(t: &[u8], i: usize) -> u64
     ensures { λ r. ⌜ r ≡ fourBytes (now (t .entry)) i ⌝ }
 {
+    if t.len() < 4 {
+        return 0;
+    }
+    if t.len() - 4 < i {
+        return 0;
+    }
     wide(t[i]) + 0x100 * wide(t[i + 1]) + 0x1_0000 * wide(t[i + 2]) + 0x100_0000 * wide(t[i + 3])
 }
 
@@ -33,10 +38,7 @@ fn past_fours(t: &[u8]) -> usize
     ensures { λ r. ⌜ trimmed (now (t .entry)) ≡ trimmed (drop r (now (t .entry))) ⌝ }
 {
     let mut i = 0;
-    while 4 <= t.len() - i {
-        if four_bytes(t, i) != 0x2020_2020 {
-            return i;
-        }
+    while four_bytes(t, i) == 0x2020_2020 {
         i += 4;
     }
     i

@@ -49,13 +49,13 @@ module _ (l : Str) (fill : ℕ) (o : Outcome) (t : Text) (l′ : Str) (r : Answe
 
 -- a number that is none of the nine
 pub no-request :
-    (n leaf : ℕ) → (n ≡ 0 → ⊥) → (n ≡ 1 → ⊥) → (n ≡ 2 → ⊥) → (n ≡ 3 → ⊥) → (n ≡ 4 → ⊥) → (n ≡ 5 → ⊥) → (n ≡ 6 → ⊥) → (n ≡ 7 → ⊥)
-    → (n ≡ 8 → ⊥) → TypeText (2 ^ 64 - 1) ≡ requestOf n leaf
+    (n place leaf : ℕ) → (n ≡ 0 → ⊥) → (n ≡ 1 → ⊥) → (n ≡ 2 → ⊥) → (n ≡ 3 → ⊥) → (n ≡ 4 → ⊥) → (n ≡ 5 → ⊥) → (n ≡ 6 → ⊥) → (n ≡ 7 → ⊥)
+    → (n ≡ 8 → ⊥) → TypeText place (2 ^ 64 - 1) ≡ requestOf n place leaf
 unfolding requestOf
-no-request n leaf a b c d e f g h i =
+no-request n place leaf a b c d e f g h i =
     let z : 9 ≤ n = more n 8 (more n 7 (more n 6 (more n 5 (more n 4 (more n 3 (more n 2 (more n 1 (more n 0
     (omega arith) a) b) c) d) e) f) g) h) i in
-    sym (getD-past (requestsAt leaf) n (TypeText (2 ^ 64 - 1)) z)
+    sym (getD-past (requestsAt place leaf) n (TypeText place (2 ^ 64 - 1)) z)
   where
     getD-past : {A : Type 0} (l : List A) (n : ℕ) (x : A) → length l ≤ n → getD l n x ≡ x
     getD-past [] n x h = refl

@@ -14,7 +14,8 @@ use Rattle.text.specs.Answer as text
 use Rattle.tree.specs.Read.{Admitted, sheet, refused}
 use Rattle.requests.specs.Requests.{Outcome, outcomeOf, answerOf, bufferOf}
 use Rattle.requests.specs.declared.Request.{Request}
-use Rattle.requests.specs.declared.Request.the-variants.{TypeText, Getter, Setter, Haser, Zeroing}
+use Rattle.requests.specs.declared.Request.the-variants.{TypeText, Field}
+use Rattle.requests.specs.declared.Accessor.the-variants.{Getter, Setter, Haser, Zeroing}
 
 -- where it is taken, the text s is written at a fill count into l, which leaves l′ and the fill count r; else nothing is
 -- written, and the answer is the largest count
@@ -72,20 +73,21 @@ pub record Reply : Type 0 where
 unfoldable pub replyOf : Outcome → Str → ℕ → Reply
 replyOf o l fill = record { answer = answerOf l fill o; buffer = bufferOf l fill o }
 
--- a request, over a sheet
-abbrev pub ask : Admitted → ℕ → ℕ → Request → Str → ℕ → Reply
-ask a id place request = replyOf (outcomeOf a id place request)
+-- a request of a node, over a sheet
+abbrev pub ask : Admitted → ℕ → Request → Str → ℕ → Reply
+ask a id request = replyOf (outcomeOf a id request)
 
--- the requests by their numbers; a type's text is asked at a leaf
-abbrev pub requestsAt : ℕ → List Request
-requestsAt leaf =
-    TypeText leaf
-    ∷ Getter true false ∷ Getter false false ∷ Getter true true ∷ Getter false true
-    ∷ Setter ∷ Haser true ∷ Haser false ∷ Zeroing ∷ []
+-- the requests for the field at a place by their numbers; a type's text is asked at a leaf
+abbrev pub requestsAt : ℕ → ℕ → List Request
+requestsAt place leaf =
+    TypeText place leaf
+    ∷ Field place (Getter true false) ∷ Field place (Getter false false)
+    ∷ Field place (Getter true true) ∷ Field place (Getter false true)
+    ∷ Field place Setter ∷ Field place (Haser true) ∷ Field place (Haser false) ∷ Field place Zeroing ∷ []
 
 -- any other number asks for a type's text at a leaf that there is not: 15, in its place among the refusals
-unfoldable pub requestOf : ℕ → ℕ → Request
-requestOf number leaf = getD (requestsAt leaf) number (TypeText (2 ^ 64 - 1))
+unfoldable pub requestOf : ℕ → ℕ → ℕ → Request
+requestOf number place leaf = getD (requestsAt place leaf) number (TypeText place (2 ^ 64 - 1))
 
 -- over the buffer l and a fill count, a reply leaves l′ and fill′, and is told by a number and a line
 pub record Asked (l : Str) (fill : ℕ) (reply : Str → ℕ → Reply) (l′ : Str) (fill′ number line : ℕ) : Type 0 where

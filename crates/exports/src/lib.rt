@@ -14,6 +14,7 @@
 //
 // The writers put their text at the fill count `at` and answer the new one. Bytes past the end of the buffer are counted and
 // not written. What is not taken writes nothing and answers 18446744073709551615.
+use requests::Accessor;
 use requests::Request;
 use sheet::Answer;
 use text::Text;
@@ -21,7 +22,8 @@ ghost use Rattle.tree.specs.Read.{admitted};
 ghost use Rattle.names.specs.Names.{camelToSnakeCase, defaultName, moduleName};
 ghost use Rattle.text.specs.Decimal.{decimal};
 ghost use Rattle.text.specs.Lines.{Line, BlankLine, Branch, none, toLines, stringify, ended};
-ghost use Rattle.requests.specs.declared.Request.the-variants.{Getter, Haser};
+ghost use Rattle.requests.specs.declared.Accessor.the-variants.{Getter, Haser};
+ghost use Rattle.requests.specs.declared.Request.the-variants.{Field};
 ghost use Rattle.exports.specs.Boundary.{Filled, Named, Signed, Told, Asked, ask, requestOf};
 ghost use mathlib.Core.Path.{_≡_};
 
@@ -114,9 +116,8 @@ pub extern "C" fn kitlubas_module_name(at: usize, buf: &mut [u8], name: &[u8]) -
 pub extern "C" fn kitlubas_admit(s: &[u8], line: &mut usize) -> u64
     ensures { λ r. ⌜ Told (admitted (now (s .entry))) r (now (line .exit)) ⌝ }
 {
-    let admission = sheet::admit(s);
-    let answer = admission.answer;
-    match answer {
+    let mut index = [0u64; nodes::INDEX_SIZE];
+    match sheet::admit(s, &mut index) {
         Answer::Sheet => {
             *line = 0;
             0
@@ -132,16 +133,15 @@ pub extern "C" fn kitlubas_admit(s: &[u8], line: &mut usize) -> u64
 fn ask(
     s: &[u8],
     id: u64,
-    place: u64,
     request: Request,
     fill: &mut usize,
     line: &mut usize,
     buf: &mut [u8],
 ) -> u64
-    ensures { λ r. ⌜ Asked (now (buf .entry)) (now (fill .entry)) (ask (admitted (now (s .entry))) id place request)
+    ensures { λ r. ⌜ Asked (now (buf .entry)) (now (fill .entry)) (ask (admitted (now (s .entry))) id request)
         (now (buf .exit)) (now (fill .exit)) r (now (line .exit)) ⌝ }
 {
-    let answer = requests::answer_request(s, id, place, request, Text::at(*fill), buf);
+    let answer = requests::answer_request(s, id, request, Text::at(*fill), buf);
     match answer {
         requests::Answer::Done(t) => {
             *fill = t.fill();
@@ -158,36 +158,44 @@ fn ask(
     }
 }
 
-// The request for a getter, of the reader or the builder, as a function or not; and for a haser.
-fn getter(is_reader: bool, is_fn: bool) -> Request
-    ensures { λ r. ⌜ r ≡ Getter «is_reader» «is_fn» ⌝ }
+// The request for an accessor of the field at a place.
+fn field(place: u64, accessor: Accessor) -> Request
+    ensures { λ r. ⌜ r ≡ Field place accessor ⌝ }
 {
-    Request::Getter { is_reader, is_fn }
+    Request::Field { place, accessor }
 }
 
-fn haser(is_reader: bool) -> Request
-    ensures { λ r. ⌜ r ≡ Haser «is_reader» ⌝ }
+// The request for a getter, of the reader or the builder, as a function or not; and for a haser.
+fn getter(place: u64, is_reader: bool, is_fn: bool) -> Request
+    ensures { λ r. ⌜ r ≡ Field place (Getter «is_reader» «is_fn») ⌝ }
 {
-    Request::Haser { is_reader }
+    field(place, Accessor::Getter { is_reader, is_fn })
+}
+
+fn haser(place: u64, is_reader: bool) -> Request
+    ensures { λ r. ⌜ r ≡ Field place (Haser «is_reader») ⌝ }
+{
+    field(place, Accessor::Haser { is_reader })
 }
 
 // The request with a number: 0 is a type's text at a leaf, 1 and 2 are the getters of reader and builder, 3 and 4 the same as
 // functions, 5 is the setter, 6 and 7 are the hasers of reader and builder, 8 is the zeroing. Any other number asks for a leaf
 // that there is not.
-fn request_of(number: u64, leaf: u64) -> Request
-    ensures { λ r. ⌜ r ≡ requestOf number leaf ⌝ }
+fn request_of(number: u64, place: u64, leaf: u64) -> Request
+    ensures { λ r. ⌜ r ≡ requestOf number place leaf ⌝ }
 {
     match number {
-        0 => Request::TypeText { leaf },
-        1 => getter(true, false),
-        2 => getter(false, false),
-        3 => getter(true, true),
-        4 => getter(false, true),
-        5 => Request::Setter,
-        6 => haser(true),
-        7 => haser(false),
-        8 => Request::Zeroing,
+        0 => Request::TypeText { place, leaf },
+        1 => getter(place, true, false),
+        2 => getter(place, false, false),
+        3 => getter(place, true, true),
+        4 => getter(place, false, true),
+        5 => field(place, Accessor::Setter),
+        6 => haser(place, true),
+        7 => haser(place, false),
+        8 => field(place, Accessor::Zeroing),
         _ => Request::TypeText {
+            place,
             leaf: 18446744073709551615,
         },
     }
@@ -206,8 +214,8 @@ pub extern "C" fn kitlubas_answer(
     buf: &mut [u8],
 ) -> u64
     ensures { λ r. ⌜ Asked (now (buf .entry)) (now (fill .entry))
-        (ask (admitted (now (s .entry))) id place (requestOf request leaf))
+        (ask (admitted (now (s .entry))) id (requestOf request place leaf))
         (now (buf .exit)) (now (fill .exit)) r (now (line .exit)) ⌝ }
 {
-    ask(s, id, place, request_of(request, leaf), fill, line, buf)
+    ask(s, id, request_of(request, place, leaf), fill, line, buf)
 }

@@ -1,44 +1,37 @@
--- Laws of the chain of a node's parents and of the scopes of its nodes: what a turn of each loop makes of what was known.
--- Assumes nothing.
-use mathlib.Core.Path.{_≡_, refl, sym, ap, _∙_}
+-- Laws of the chain of a node's parents: what a turn of its loop makes of what was known, and that a chain that meets a node
+-- again is refused with 4: where the arguments of its nodes are given, `accumulate` goes round until its 17th node. By induction
+-- on the nodes that are left to it. Assumes nothing.
+use mathlib.Core.Path.{_≡_, refl, sym, ap, _∙_, subst}
 use mathlib.Core.Bool.{Bool, true, false}
 use mathlib.Core.List.{List, [], _∷_, _++_}
-use mathlib.Core.Option.{Option, none, some}
 use Prim.Native.Nat.{ℕ, zero, suc, _+_, _-_, _<_, _≤_}
 use native.Mathlib.Omega.{arith}
 use native.Mathlib.Numerals.{add-one}
-use borrow.Author.Tests.{eq-eqb, ne-eqb, eqb-true, eqb-false}
+use borrow.Author.Tests.{eq-eqb, ne-eqb, eqb-true}
 use lib.Dec.{eqb}
 use native.Mathlib.Decide.{ℕ-discrete}
-use lib.ListN.{length, drop, take, set, getD, drop-of-length-le, length-set, replicate, length-replicate, getD-replicate}
+use lib.ListN.{length, drop, take, set, getD, drop-of-length-le, length-set}
 use lib.Seq.{drop-cons, getD-take, take-suc-set, length-take-le, getD-set-same, getD-set-other}
-use package.types.Run.{OneOf}
-use denote.Enum.Declared.{tagOf}
-use Rattle.row.proofs.Line.{the-type}
-use Rattle.row.proofs.Laws.{rows-out}
-use Rattle.text.specs.Bytes.{Str, cond}
-use Rattle.row.specs.Rows.{rows, restOf}
-use Rattle.row.specs.Line.{lineAt, asScope}
-use Rattle.row.specs.declared.Line.{Line}
-use Rattle.row.specs.declared.Line.the-variants as line
-use Rattle.tree.specs.Tree.{Node, Sheet, end}
-use Rattle.tree.specs.Reader.{Rows, times}
-use Rattle.tree.specs.Read as read
-use Rattle.tree.specs.Read.{typeOf}
+use Rattle.text.specs.Bytes.{Str, cond, either}
+use Rattle.row.specs.Rows.{rows}
+use Rattle.tree.specs.Tree.{Node, Sheet}
+use Rattle.tree.specs.Read.{among}
 use Rattle.codegen_types.specs.Out.{Out, ok, refused, _then_}
-use Rattle.codegen_types.specs.TypeString.{Scope, nodeOf, scopeOf, scopesOf, argumentsOf, accumulate}
+use Rattle.codegen_types.specs.TypeString.{Scope, nodeOf, scopeOf, argumentsOf, accumulate}
 use Rattle.codegen_types.proofs.Laws.{accumulate-none, accumulate-more}
 use Rattle.tree.proofs.OtherLines.{never}
-use Rattle.tree.specs.Index.{Indexed, On}
-use Rattle.find.specs.Find.{namesOf, namesFor, parentAt, NodeHere, lookup, sheetOf, before, ChainOf, lastScope, pastRows, owed}
-use Rattle.find.specs.Find.{orNone, Placed, Noted, endOf, ScopeIs, ScopeAt, ScopeHere}
+use Rattle.nodes.specs.Index.{Indexed, EntryIs, lookup, namesOf, sheetOf}
+use Rattle.nodes.specs.declared.Entry.{Entry}
+use Rattle.nodes.specs.declared.Found.{Found}
+use Rattle.nodes.specs.declared.Found.the-variants.{At, Nothing}
+use Rattle.codegen_types.proofs.NodeLaws.{node-missing, node-there}
+use Rattle.find.specs.Find.{before, stepOf, orFive, ChainOf}
+use Rattle.find.specs.Find.{endOf}
 use Rattle.find.specs.declared.Links.{Links}
-use Rattle.find.specs.declared.Found.{Found}
-use Rattle.find.specs.declared.Found.the-variants.{At, Nothing}
+use Rattle.find.specs.declared.Step.{Step}
+use Rattle.find.specs.declared.Step.the-variants as step
 use Rattle.codegen_types.specs.declared.Refusal.{Refusal}
 use Rattle.codegen_types.specs.declared.Refusal.the-variants.{None, Number}
-use Rattle.find.proofs.NodeLaws.{node-missing, node-there}
-use Rattle.find.proofs.Laws.{on-one, scope-counts, scope-none, scope-other, scope-this, scope-next}
 
 -- ---- the chain
 
@@ -55,330 +48,383 @@ before-snoc root s scopes (j ∷ is) [] i p o h = let z : ⊥ = omega arith in a
 before-snoc root s scopes (j ∷ is) (q ∷ ps) i p o h =
     rw (before-snoc root s scopes is ps i p o (omega arith))
 
--- the way along the chain: k nodes are noted, and what `accumulate` does from the current node on is left
-pub record Climbed (s ids ats : List ℕ) (id : ℕ) (nodes params : List ℕ) (k current : ℕ) : Type 0 where
-  pub few : k ≤ 16
-  pub ids-size : length nodes ≡ 16
-  pub params-size : length params ≡ 16
-  pub each : (ns : List Node) → Indexed s ns ids ats → (j : ℕ) → j < k
-      → namesFor ns (getD nodes j 0) ≡ ok (namesOf (rows (drop (getD params j 0) s)))
-  pub all : (root : Str) (ns : List Node) → Indexed s ns ids ats → (scopes : List (ℕ × Scope))
-      → accumulate (sheetOf root ns) scopes 16 id
-      ≡ before root s scopes (take k nodes) (take k params) (accumulate (sheetOf root ns) scopes (16 - k) current)
+-- a node with its P rows at p, whose parent is `up`, and not 0
+pub record Link (s : Str) (ns : List Node) (id p up : ℕ) : Type 0 where
+  pub node : Node
+  pub here : nodeOf ns id ≡ ok node
+  pub names : namesOf (rows (drop p s)) ≡ node .params
+  pub parent : node .parent ≡ up
+  pub more : up ≡ 0 → ⊥
 
-abbrev pub chainOf : List ℕ → List ℕ → ℕ → Refusal → Links
-chainOf nodes params k r = record { ids = nodes; params = params; count = k; refusal = r }
+abbrev pub headOr : ℕ → List ℕ → ℕ
+headOr c [] = c
+headOr c (i ∷ is) = i
 
-module _ (s ids ats : List ℕ) (id : ℕ) (nodes params : List ℕ) where
-  pub climb-start : length nodes ≡ 16 → length params ≡ 16 → Climbed s ids ats id nodes params 0 id
+-- each node's parent is the next, and that of the last is c
+abbrev pub Path : Str → List Node → List ℕ → List ℕ → ℕ → Type 0
+Path s ns [] ps c = Unit {0}
+Path s ns (i ∷ is) [] c = ⊥
+Path s ns (i ∷ is) (p ∷ ps) c = Link s ns i p (headOr c is) × Path s ns is ps c
+
+path-snoc : (s : Str) (ns : List Node) (is ps : List ℕ) (c p d : ℕ) → length is ≡ length ps → Path s ns is ps c
+    → Link s ns c p d → Path s ns (is ++ (c ∷ [])) (ps ++ (p ∷ [])) d
+path-snoc s ns [] [] c p d h w l = (l, tt)
+path-snoc s ns [] (q ∷ ps) c p d h w l = let z : ⊥ = omega arith in absurd z
+path-snoc s ns (i ∷ is) [] c p d h w l = absurd w
+path-snoc s ns (i ∷ is) (q ∷ ps) c p d h w l = (rw (same is) (w .0), path-snoc s ns is ps c p d (omega arith) (w .1) l)
+  where
+    same : (is : List ℕ) → headOr d (is ++ (c ∷ [])) ≡ headOr c is
+    same [] = refl
+    same (j ∷ is) = refl
+
+-- ---- a chain that meets a node again: it goes round until its 17th node
+
+abbrev Gives : {A : Type 0} → Out A → Type 0
+Gives (ok a) = Unit {0}
+Gives (refused k) = ⊥
+
+module _ (root s : Str) (scopes : List (ℕ × Scope)) where
+  -- the arguments of all these nodes are given
+  abbrev AllGive : List ℕ → List ℕ → Type 0
+  AllGive [] ps = Unit {0}
+  AllGive (i ∷ is) [] = Unit {0}
+  AllGive (i ∷ is) (p ∷ ps) =
+      Gives (argumentsOf root (namesOf (rows (drop p s))) (scopeOf i scopes)) × AllGive is ps
+
+  -- what is further out counts only where they are
+  before-same : (is ps : List ℕ) (o o′ : Out (List (List Str))) → (AllGive is ps → o ≡ o′)
+      → before root s scopes is ps o ≡ before root s scopes is ps o′
   unfolding before
-  climb-start h g = record {
+  before-same [] ps o o′ f = f tt
+  before-same (i ∷ is) [] o o′ f = f tt
+  before-same (i ∷ is) (p ∷ ps) o o′ f =
+      go (argumentsOf root (namesOf (rows (drop p s))) (scopeOf i scopes)) (before-same is ps o o′) f
+    where
+      go : (a : Out (List Str)) → ((AllGive is ps → o ≡ o′) → before root s scopes is ps o ≡ before root s scopes is ps o′)
+          → (Gives a × AllGive is ps → o ≡ o′)
+          → _≡_ {A = Out (List (List Str))} (a then λ x. before root s scopes is ps o then λ outer. ok (x ∷ outer))
+          (a then λ x. before root s scopes is ps o′ then λ outer. ok (x ∷ outer))
+      go (ok x) ih f = ap (λ (b : Out (List (List Str))). b then λ outer. ok (x ∷ outer)) (ih (λ g. f (tt, g)))
+      go (refused k) ih f = refl
+
+  module _ (ns : List Node) where
+    -- a node whose arguments are given, with a parent that M holds of
+    record Turn (M : ℕ → Type 0) (id : ℕ) : Type 0 where
+      node : Node
+      here : nodeOf ns id ≡ ok node
+      given : Gives (argumentsOf root (node .params) (scopeOf id scopes))
+      more : node .parent ≡ 0 → ⊥
+      again : M (node .parent)
+
+    -- each node of a path has its turn, where M holds of all of them and of the last one's parent
+    turn-of : (is ps : List ℕ) (c : ℕ) → Path s ns is ps c → AllGive is ps → (M : ℕ → Type 0)
+        → ((y : ℕ) → among y is ≡ true → M y) → M c → (x : ℕ) → among x is ≡ true → Turn M x
+    unfolding among
+    turn-of [] ps c w g M f m x h = let z : _≡_ {A = ℕ} 0 1 = cc in never z
+    turn-of (i ∷ is) [] c w g M f m x h = absurd w
+    turn-of (i ∷ is) (p ∷ ps) c w g M f m x h = go (eqb i x) refl (turn-of is ps c (w .1) (g .1) M) h
+      where
+        either-right : (t u : Bool) → u ≡ true → either t u ≡ true
+        either-right true u e = refl
+        either-right false u e = e
+
+        up : (is : List ℕ) → ((y : ℕ) → among y (i ∷ is) ≡ true → M y) → M (headOr c is)
+        up [] f = m
+        up (j ∷ is) f = f j (either-right (eqb i j) (either (eqb j j) (among j is)) (rw (eq-eqb j j refl) refl))
+
+        go : (t : Bool) → eqb i x ≡ t
+            → (((y : ℕ) → among y is ≡ true → M y) → M c → (x : ℕ) → among x is ≡ true → Turn M x)
+            → either t (among x is) ≡ true → Turn M x
+        go true e ih h =
+            let l = w .0 in
+            subst (Turn M) (eqb-true i x e) (record {
+              node = l .node;
+              here = l .here;
+              given = rw (← l .names) (g .0);
+              more = λ z. (l .more) (sym (l .parent) ∙ z);
+              again = rw (l .parent) (up is f);
+            })
+        go false e ih h = ih (λ y u. f y (either-right (eqb i y) (among y is) u)) m x h
+
+    round : (M : ℕ → Type 0) → ((x : ℕ) → M x → Turn M x) → (left x : ℕ) → M x
+        → accumulate (sheetOf root ns) scopes left x ≡ refused 4
+    unfolding accumulate
+    round M f zero x m = refl
+    round M f (suc left) x m =
+        let t = f x m in
+        rw (t .here) (go (t .node) (argumentsOf root (t .node .params) (scopeOf x scopes)) (t .given)
+        (round M f left (t .node .parent) (t .again)) (ne-eqb (t .node .parent) 0 (t .more)))
+      where
+        go : (n : Node) (a : Out (List Str)) → Gives a → accumulate (sheetOf root ns) scopes left (n .parent) ≡ refused 4
+            → eqb (n .parent) 0 ≡ false → _≡_ {A = Out (List (List Str))}
+            (a then λ arguments. cond (eqb (n .parent) 0) (ok (arguments ∷ []))
+            (accumulate (sheetOf root ns) scopes left (n .parent) then λ outer. ok (arguments ∷ outer))) (refused 4)
+        go n (ok a) g e z = rw (z, e) refl
+        go n (refused k) g e z = absurd g
+
+    again-4 : (is ps : List ℕ) (c left : ℕ) → Path s ns is ps c → among c is ≡ true
+        → before root s scopes is ps (accumulate (sheetOf root ns) scopes left c) ≡ before root s scopes is ps (refused 4)
+    again-4 is ps c left w h =
+        before-same is ps (accumulate (sheetOf root ns) scopes left c) (refused 4)
+        (λ g. round (λ y. among y is ≡ true) (turn-of is ps c w g (λ y. among y is ≡ true) (λ y e. e) h) left c h)
+
+-- ---- the way along the chain
+
+step-differs : {n : Entry} {j : ℕ} → step.Node n ≡ step.Refused j → ⊥
+step-differs e = subst go e tt
+  where
+    go : Step → Type 0
+    go (step.Node n) = Unit {0}
+    go (step.Refused j) = ⊥
+
+-- the node that a step finds is the index's
+step-found : (n : Entry) (seen : Bool) (f : Found) → step.Node n ≡ cond seen (step.Refused 4) (orFive f) → f ≡ At n
+step-found n true f e = absurd (step-differs e)
+step-found n false Nothing e = absurd (step-differs e)
+step-found n false (At m) e = ap (λ (x : Step). At (entry x)) (sym e)
+  where
+    entry : Step → Entry
+    entry (step.Node x) = x
+    entry (step.Refused j) = n
+
+-- and it is none of those before
+step-new : (n : Entry) (seen : Bool) (f : Found) → step.Node n ≡ cond seen (step.Refused 4) (orFive f) → seen ≡ false
+step-new n true f e = absurd (step-differs e)
+step-new n false f e = refl
+
+new-id : (id : ℕ) (ids : List ℕ) → among id ids ≡ false → (i : ℕ) → i < length ids → getD ids i 0 ≡ id → ⊥
+unfolding among
+new-id id [] h i x e = let z : ⊥ = omega arith in absurd z
+new-id id (j ∷ ids) h zero x e = let y = eq-eqb j id e in let z : _≡_ {A = ℕ} 0 1 = cc in never z
+new-id id (j ∷ ids) h (suc i) x e = go (eqb j id) h (new-id id ids)
+  where
+    go : (t : Bool) → either t (among id ids) ≡ false
+        → (among id ids ≡ false → (i : ℕ) → i < length ids → getD ids i 0 ≡ id → ⊥) → ⊥
+    go true h ih = let z : _≡_ {A = ℕ} 0 1 = cc in never z
+    go false h ih = ih h i (omega arith) e
+
+-- k nodes are noted, each the parent of the one before, and what `accumulate` does from the current node on is left
+pub record Climbed (index : List ℕ) (id : ℕ) (ids params counts : List ℕ) (k current : ℕ) : Type 0 where
+  pub few : k ≤ 16
+  pub ids-size : length ids ≡ 16
+  pub params-size : length params ≡ 16
+  pub counts-size : length counts ≡ 16
+  pub once : (i j : ℕ) → i < j → j < k → getD ids i 0 ≡ getD ids j 0 → ⊥
+  pub each : (s : Str) (ns : List Node) → Indexed s ns index → (j : ℕ) → j < k
+      → getD counts j 0 ≡ length (namesOf (rows (drop (getD params j 0) s)))
+  pub path : (s : Str) (ns : List Node) → Indexed s ns index → Path s ns (take k ids) (take k params) current
+  pub all : (s root : Str) (ns : List Node) → Indexed s ns index → (scopes : List (ℕ × Scope))
+      → accumulate (sheetOf root ns) scopes 16 id
+      ≡ before root s scopes (take k ids) (take k params) (accumulate (sheetOf root ns) scopes (16 - k) current)
+
+abbrev pub chainOf : List ℕ → List ℕ → List ℕ → ℕ → Refusal → Links
+chainOf ids params counts k r = record { ids = ids; params = params; counts = counts; count = k; refusal = r }
+
+module _ (index : List ℕ) (id : ℕ) (ids params counts : List ℕ) where
+  pub climb-start : length ids ≡ 16 → length params ≡ 16 → length counts ≡ 16 → Climbed index id ids params counts 0 id
+  unfolding before
+  climb-start h g f = record {
     few = omega arith;
     ids-size = h;
     params-size = g;
-    each = λ ns x j y. let z : ⊥ = omega arith in absurd z;
-    all = λ root ns x scopes. refl;
+    counts-size = f;
+    once = λ i j x y e. let z : ⊥ = omega arith in absurd z;
+    each = λ s ns x j y. let z : ⊥ = omega arith in absurd z;
+    path = λ s ns x. tt;
+    all = λ s root ns x scopes. refl;
   }
 
-  module _ (k current : ℕ) (c : Climbed s ids ats id nodes params k current) where
-    pub climb-4 : 16 ≤ k → ChainOf s ids ats id (chainOf nodes params k (Number 4))
-    climb-4 h = record {
+  module _ (k current : ℕ) (c : Climbed index id ids params counts k current) where
+    ended : (r : Refusal) → ((s root : Str) (ns : List Node) → Indexed s ns index → (scopes : List (ℕ × Scope))
+        → before root s scopes (take k ids) (take k params) (accumulate (sheetOf root ns) scopes (16 - k) current)
+        ≡ before root s scopes (take k ids) (take k params) (endOf r))
+        → (s : Str) → ChainOf s index id (chainOf ids params counts k r)
+    ended r law s = record {
       few = c .few;
       ids-size = c .ids-size;
       params-size = c .params-size;
-      each = c .each;
-      all = λ root ns x scopes. (c .all) root ns x scopes
-          ∙ rw (accumulate-none (sheetOf root ns) scopes (16 - k) current (omega arith)) refl;
+      counts-size = c .counts-size;
+      once = c .once;
+      each = (c .each) s;
+      all = λ root ns x scopes. (c .all) s root ns x scopes ∙ law s root ns x scopes;
     }
 
-    module _ (h : k < 16) (f : Found) (e : f ≡ lookup current ids ats) where
-      pub climb-5 : f ≡ Nothing → ChainOf s ids ats id (chainOf nodes params k (Number 5))
-      climb-5 z = record {
-        few = c .few;
-        ids-size = c .ids-size;
-        params-size = c .params-size;
-        each = c .each;
-        all = λ root ns x scopes. (c .all) root ns x scopes
-            ∙ rw (
-              accumulate-more (sheetOf root ns) scopes (16 - k) current (λ y. omega arith),
-              node-missing s (sheetOf root ns) ids ats current f e x z,
-            ) refl;
-      }
+    pub climb-4 : 16 ≤ k → (s : Str) → ChainOf s index id (chainOf ids params counts k (Number 4))
+    climb-4 h = ended (Number 4) (λ s root ns x scopes.
+        rw (accumulate-none (sheetOf root ns) scopes (16 - k) current (omega arith)) refl)
 
-      module _ (at : ℕ) (here : f ≡ At at) (p : ℕ) (up : p ≡ parentAt (rows (drop at s))) (q : ℕ)
-          (ps : rows (drop q s) ≡ restOf (rows (drop at s))) where
-        -- with the node noted too
-        turn : (o : Sheet → List (ℕ × Scope) → Out (List (List Str)))
-            → ((sheet : Sheet) (scopes : List (ℕ × Scope)) (arguments : List Str) → _≡_ {A = Out (List (List Str))}
-            (cond (eqb p 0) (ok (arguments ∷ [])) (accumulate sheet scopes (16 - k - 1) p then λ outer. ok (arguments ∷ outer)))
-            (o sheet scopes then λ outer. ok (arguments ∷ outer)))
-            → (root : Str) (ns : List Node) → Indexed s ns ids ats → (scopes : List (ℕ × Scope))
-            → accumulate (sheetOf root ns) scopes 16 id
-            ≡ before root s scopes (take (k + 1) (set nodes k current)) (take (k + 1) (set params k q))
-            (o (sheetOf root ns) scopes)
-        turn o law root ns x scopes =
-            (c .all) root ns x scopes
-            ∙ rw (
-              add-one,
-              take-suc-set nodes k current (omega (arith, c .ids-size)),
-              take-suc-set params k q
-                  (omega (arith, c .params-size)),
-              before-snoc root s scopes (take k nodes) (take k params) current q (o (sheetOf root ns) scopes)
-                  (length-take-le k nodes (omega (arith, c .ids-size)) ∙ sym (length-take-le k params
-                  (omega (arith, c .params-size)))),
-            )
-            (ap (before root s scopes (take k nodes) (take k params)) own)
+    -- the current node is refused: it is among those before, or it is not there
+    pub climb-end : k < 16 → (j : ℕ) → step.Refused j ≡ stepOf index (take k ids) current
+        → (s : Str) → ChainOf s index id (chainOf ids params counts k (Number j))
+    climb-end h j e = go (among current (take k ids)) refl e
+      where
+        this : (i : ℕ) → step.Refused j ≡ step.Refused i → j ≡ i
+        this i e = ap number e
           where
-            args : (a : Out (List Str))
-                → _≡_ {A = Out (List (List Str))} (a then λ arguments. cond (eqb p 0) (ok (arguments ∷ []))
-                (accumulate (sheetOf root ns) scopes (16 - k - 1) p then λ outer. ok (arguments ∷ outer)))
-                (a then λ arguments. o (sheetOf root ns) scopes then λ outer. ok (arguments ∷ outer))
-            args (ok a) = law (sheetOf root ns) scopes a
-            args (refused j) = refl
+            number : Step → ℕ
+            number (step.Refused k) = k
+            number (step.Node n) = 0
 
-            own : accumulate (sheetOf root ns) scopes (16 - k) current
-                ≡ (argumentsOf root (namesOf (rows (drop q s))) (scopeOf current scopes) then λ a. o (sheetOf root ns) scopes
-                then λ outer. ok (a ∷ outer))
-            own =
-                accumulate-more (sheetOf root ns) scopes (16 - k) current (λ y. omega arith)
-                ∙ node-there s (sheetOf root ns) ids ats current f e x at here
-                (λ (m : Out Node). _≡_ {A = Out (List (List Str))} (m then λ y. argumentsOf root (y .params)
-                (scopeOf current scopes) then λ arguments. cond (eqb (y .parent) 0) (ok (arguments ∷ []))
-                (accumulate (sheetOf root ns) scopes (16 - k - 1) (y .parent) then λ outer. ok (arguments ∷ outer)))
-                (argumentsOf root (namesOf (rows (drop q s))) (scopeOf current scopes) then λ a. o (sheetOf root ns) scopes
-                then λ outer. ok (a ∷ outer)))
-                (λ y u w. let v : y .parent ≡ p = sym (up ∙ rw (w .line) refl) in
-                rw (v, ps, w .params) (args (argumentsOf root (y .params) (scopeOf current scopes))))
+        found : (f : Found) → f ≡ lookup index current → step.Refused j ≡ orFive f
+            → (s : Str) → ChainOf s index id (chainOf ids params counts k (Number j))
+        found (At n) y e = absurd (step-differs (sym e))
+        found Nothing y e = rw (this 5 e) (ended (Number 5) (λ s root ns x scopes.
+            rw (
+              accumulate-more (sheetOf root ns) scopes (16 - k) current (λ z. omega arith),
+              node-missing s ns index current Nothing y x refl,
+            ) refl))
 
-        each-more : (ns : List Node) → Indexed s ns ids ats → (j : ℕ) → j < k + 1
-            → namesFor ns (getD (set nodes k current) j 0) ≡ ok (namesOf (rows (drop (getD (set params k q) j 0) s)))
-        unfolding namesFor
-        each-more ns x j y = go (ℕ-discrete j k)
-          where
-            go : Dec (j ≡ k)
-                → namesFor ns (getD (set nodes k current) j 0) ≡ ok (namesOf (rows (drop (getD (set params k q) j 0) s)))
-            go (yes z) =
-                rw (
-                  z,
-                  getD-set-same nodes k current 0 (omega (arith, c .ids-size)),
-                  getD-set-same params k q 0
-                      (omega (arith, c .params-size)),
-                  ps,
-                )
-                (node-there s (sheetOf [] ns) ids ats current f e x at here
-                (λ (m : Out Node). _≡_ {A = Out (List Str)} (m then λ y. ok (y .params))
-                (ok (namesOf (restOf (rows (drop at s)))))) (λ y u w. rw (w .params) refl))
-            go (no z) =
-                rw (getD-set-other nodes k j current 0 z, getD-set-other params k j q 0 z) ((c .each) ns x j (omega arith))
+        go : (t : Bool) → among current (take k ids) ≡ t
+            → step.Refused j ≡ cond t (step.Refused 4) (orFive (lookup index current))
+            → (s : Str) → ChainOf s index id (chainOf ids params counts k (Number j))
+        go true y e = rw (this 4 e) (ended (Number 4) (λ s root ns x scopes.
+            again-4 root s scopes ns (take k ids) (take k params) current (16 - k) ((c .path) s ns x) y))
+        go false y e = found (lookup index current) refl e
 
-        pub climb-top : p ≡ 0 → ChainOf s ids ats id (chainOf (set nodes k current) (set params k q) (k + 1) None)
-        climb-top z = record {
-          few = omega arith;
-          ids-size = length-set nodes k current ∙ c .ids-size;
-          params-size = length-set params k q ∙ c .params-size;
-          each = each-more;
-          all = turn (λ sheet scopes. ok []) (λ sheet scopes a. rw (eq-eqb p 0 z) refl);
-        }
+    module _ (h : k < 16) (n : Entry) (e : step.Node n ≡ stepOf index (take k ids) current) where
+      abbrev ids′ : List ℕ
+      ids′ = set ids k current
 
-        pub climb-next : (p ≡ 0 → ⊥) → Climbed s ids ats id (set nodes k current) (set params k q) (k + 1) p
-        climb-next z = record {
-          few = omega arith;
-          ids-size = length-set nodes k current ∙ c .ids-size;
-          params-size = length-set params k q ∙ c .params-size;
-          each = each-more;
-          all = turn (λ sheet scopes. accumulate sheet scopes (16 - (k + 1)) p)
-              (λ sheet scopes a. let y : 16 - k - 1 ≡ 16 - (k + 1) = omega arith in rw (ne-eqb p 0 z, y) refl);
-        }
+      abbrev params′ : List ℕ
+      params′ = set params k (n .params)
 
--- ---- noting a position
+      abbrev counts′ : List ℕ
+      counts′ = set counts k (n .count)
 
--- the first k ids are seen to
-pub record Noting (ids : List ℕ) (i at : ℕ) (places : List ℕ) (k : ℕ) (after : List ℕ) : Type 0 where
-  pub size : length after ≡ 16
-  pub each : (j : ℕ) → j < length ids → j < k → getD after j 0 ≡ cond (eqb i (getD ids j 0)) at (getD places j 0)
-  pub rest : (j : ℕ) → k ≤ j → getD after j 0 ≡ getD places j 0
+      -- what is known of the node
+      known : (s : Str) (ns : List Node) → Indexed s ns index → (Q : Out Node → Type 0)
+          → ((m : Node) → nodeOf ns current ≡ ok m → EntryIs s index n m → Q (ok m)) → Q (nodeOf ns current)
+      known s ns x = node-there s ns index current (lookup index current) refl x n
+          (step-found n (among current (take k ids)) (lookup index current) e)
 
-module _ (ids : List ℕ) (i at : ℕ) (places : List ℕ) where
-  pub note-start : length places ≡ 16 → Noting ids i at places 0 places
-  note-start h = record { size = h; each = λ j x y. let z : ⊥ = omega arith in absurd z; rest = λ j x. refl }
+      ids-more : take (k + 1) ids′ ≡ take k ids ++ (current ∷ [])
+      ids-more = rw add-one (take-suc-set ids k current (omega (arith, c .ids-size)))
 
-  module _ (k : ℕ) (after : List ℕ) (w : Noting ids i at places k after) where
-    pub note-out : length ids ≤ k → Noted ids i at places after
-    note-out h = record { size = w .size; each = λ j x y. (w .each) j x (omega arith) }
+      params-more : take (k + 1) params′ ≡ take k params ++ (n .params ∷ [])
+      params-more = rw add-one (take-suc-set params k (n .params) (omega (arith, c .params-size)))
 
-    pub note-full : 16 ≤ k → Noted ids i at places after
-    note-full h = record { size = w .size; each = λ j x y. (w .each) j x (omega arith) }
+      as-long : length (take k ids) ≡ length (take k params)
+      as-long = length-take-le k ids (omega (arith, c .ids-size)) ∙ sym (length-take-le k params
+          (omega (arith, c .params-size)))
 
-    -- one turn, whatever stands for this id then
-    module _ (h : k < length ids) (f : k < 16) where
-      pub note-this : i ≡ getD ids k 0 → Noting ids i at places (k + 1) (set after k at)
-      note-this e = record {
-        size = length-set after k at ∙ w .size;
-        each = λ j x y. go j x y (ℕ-discrete j k);
-        rest = λ j x. getD-set-other after k j at 0 (λ z. omega arith) ∙ (w .rest) j (omega arith);
+      -- with the node noted too
+      turn : (o : Sheet → List (ℕ × Scope) → Out (List (List Str)))
+          → ((sheet : Sheet) (scopes : List (ℕ × Scope)) (arguments : List Str) → _≡_ {A = Out (List (List Str))}
+          (cond (eqb (n .parent) 0) (ok (arguments ∷ []))
+          (accumulate sheet scopes (16 - k - 1) (n .parent) then λ outer. ok (arguments ∷ outer)))
+          (o sheet scopes then λ outer. ok (arguments ∷ outer)))
+          → (s root : Str) (ns : List Node) → Indexed s ns index → (scopes : List (ℕ × Scope))
+          → accumulate (sheetOf root ns) scopes 16 id
+          ≡ before root s scopes (take (k + 1) ids′) (take (k + 1) params′) (o (sheetOf root ns) scopes)
+      turn o law s root ns x scopes =
+          (c .all) s root ns x scopes
+          ∙ rw (
+            ids-more,
+            params-more,
+            before-snoc root s scopes (take k ids) (take k params) current (n .params) (o (sheetOf root ns) scopes) as-long,
+          )
+          (ap (before root s scopes (take k ids) (take k params)) own)
+        where
+          args : (a : Out (List Str))
+              → _≡_ {A = Out (List (List Str))} (a then λ arguments. cond (eqb (n .parent) 0) (ok (arguments ∷ []))
+              (accumulate (sheetOf root ns) scopes (16 - k - 1) (n .parent) then λ outer. ok (arguments ∷ outer)))
+              (a then λ arguments. o (sheetOf root ns) scopes then λ outer. ok (arguments ∷ outer))
+          args (ok a) = law (sheetOf root ns) scopes a
+          args (refused j) = refl
+
+          own : accumulate (sheetOf root ns) scopes (16 - k) current
+              ≡ (argumentsOf root (namesOf (rows (drop (n .params) s))) (scopeOf current scopes) then λ a.
+              o (sheetOf root ns) scopes then λ outer. ok (a ∷ outer))
+          own =
+              accumulate-more (sheetOf root ns) scopes (16 - k) current (λ y. omega arith)
+              ∙ known s ns x
+              (λ (m : Out Node). _≡_ {A = Out (List (List Str))} (m then λ y. argumentsOf root (y .params)
+              (scopeOf current scopes) then λ arguments. cond (eqb (y .parent) 0) (ok (arguments ∷ []))
+              (accumulate (sheetOf root ns) scopes (16 - k - 1) (y .parent) then λ outer. ok (arguments ∷ outer)))
+              (argumentsOf root (namesOf (rows (drop (n .params) s))) (scopeOf current scopes) then λ a.
+              o (sheetOf root ns) scopes then λ outer. ok (a ∷ outer)))
+              (λ y u w. rw (← w .parent, w .params) (args (argumentsOf root (y .params) (scopeOf current scopes))))
+
+      once-more : (i j : ℕ) → i < j → j < k + 1 → getD ids′ i 0 ≡ getD ids′ j 0 → ⊥
+      once-more i j x y z = go (ℕ-discrete j k)
+        where
+          old : getD ids i 0 ≡ getD ids′ j 0
+          old = sym (getD-set-other ids k i current 0 (λ w. omega arith)) ∙ z
+
+          go : Dec (j ≡ k) → ⊥
+          go (yes w) =
+              new-id current (take k ids) (step-new n (among current (take k ids)) (lookup index current) e) i
+              (rw (length-take-le k ids (omega (arith, c .ids-size))) (omega arith))
+              (getD-take k ids i 0 (omega arith) ∙ old ∙ rw (w, getD-set-same ids k current 0 (omega (arith, c .ids-size))) refl)
+          go (no w) = (c .once) i j x (omega arith) (old ∙ getD-set-other ids k j current 0 w)
+
+      each-more : (s : Str) (ns : List Node) → Indexed s ns index → (j : ℕ) → j < k + 1
+          → getD counts′ j 0 ≡ length (namesOf (rows (drop (getD params′ j 0) s)))
+      each-more s ns x j y = go (ℕ-discrete j k)
+        where
+          go : Dec (j ≡ k) → getD counts′ j 0 ≡ length (namesOf (rows (drop (getD params′ j 0) s)))
+          go (yes z) =
+              rw (
+                z,
+                getD-set-same counts k (n .count) 0 (omega (arith, c .counts-size)),
+                getD-set-same params k (n .params) 0
+                    (omega (arith, c .params-size)),
+              )
+              (known s ns x (λ m. n .count ≡ length (namesOf (rows (drop (n .params) s))))
+              (λ m u w. rw (w .params) (w .count)))
+          go (no z) =
+              rw (getD-set-other counts k j (n .count) 0 z, getD-set-other params k j (n .params) 0 z)
+              ((c .each) s ns x j (omega arith))
+
+      pub climb-top : n .parent ≡ 0 → (s : Str) → ChainOf s index id (chainOf ids′ params′ counts′ (k + 1) None)
+      climb-top z s = record {
+        few = omega arith;
+        ids-size = length-set ids k current ∙ c .ids-size;
+        params-size = length-set params k (n .params) ∙ c .params-size;
+        counts-size = length-set counts k (n .count) ∙ c .counts-size;
+        once = once-more;
+        each = each-more s;
+        all = turn (λ sheet scopes. ok []) (λ sheet scopes a. rw (eq-eqb (n .parent) 0 z) refl) s;
+      }
+
+      pub climb-next : (n .parent ≡ 0 → ⊥) → Climbed index id ids′ params′ counts′ (k + 1) (n .parent)
+      climb-next z = record {
+        few = omega arith;
+        ids-size = length-set ids k current ∙ c .ids-size;
+        params-size = length-set params k (n .params) ∙ c .params-size;
+        counts-size = length-set counts k (n .count) ∙ c .counts-size;
+        once = once-more;
+        each = each-more;
+        path = λ s ns x. rw (ids-more, params-more) (path-snoc s ns (take k ids) (take k params) current (n .params) (n .parent)
+            as-long ((c .path) s ns x) (link s ns x));
+        all = turn (λ sheet scopes. accumulate sheet scopes (16 - (k + 1)) (n .parent))
+            (λ sheet scopes a. let y : 16 - k - 1 ≡ 16 - (k + 1) = omega arith in rw (ne-eqb (n .parent) 0 z, y) refl);
       }
         where
-          go : (j : ℕ) → j < length ids → j < k + 1 → Dec (j ≡ k)
-              → getD (set after k at) j 0 ≡ cond (eqb i (getD ids j 0)) at (getD places j 0)
-          go j x y (yes z) = rw z (getD-set-same after k at 0 (omega (arith, w .size)) ∙ rw (eq-eqb i (getD ids k 0) e) refl)
-          go j x y (no z) = getD-set-other after k j at 0 z ∙ (w .each) j x (omega arith)
+          link : (s : Str) (ns : List Node) → Indexed s ns index → Link s ns current (n .params) (n .parent)
+          link s ns x = known s ns x (λ m. Link s ns current (n .params) (n .parent))
+              (λ m u w. record { node = m; here = u; names = w .params; parent = sym (w .parent); more = z })
 
-      pub note-next : (i ≡ getD ids k 0 → ⊥) → Noting ids i at places (k + 1) after
-      note-next e = record {
-        size = w .size;
-        each = λ j x y. go j x y (ℕ-discrete j k);
-        rest = λ j x. (w .rest) j (omega arith);
-      }
-        where
-          go : (j : ℕ) → j < length ids → j < k + 1 → Dec (j ≡ k)
-              → getD after j 0 ≡ cond (eqb i (getD ids j 0)) at (getD places j 0)
-          go j x y (yes z) = rw (z, ne-eqb i (getD ids k 0) e) ((w .rest) k (omega arith))
-          go j x y (no z) = (w .each) j x (omega arith)
-
--- ---- the scopes of a chain's nodes, in one pass
-
--- what was found before counts only by its rows
-last-or : (id n : ℕ) (rs : Rows) (f g : Option Rows) → orNone f ≡ orNone g
-    → orNone (lastScope id n rs f) ≡ orNone (lastScope id n rs g)
-unfolding lastScope
-last-or id zero rs f g h = h
-last-or id (suc n) rs f g h = go (lineAt rs) (λ rest x y. last-or id n rest x y)
-  where
-    found : (t : Bool) → orNone (cond t (some rs) f) ≡ orNone (cond t (some rs) g)
-    found true = refl
-    found false = h
-
-    go : (l : Line) → ((rest : Rows) (x y : Option Rows) → orNone x ≡ orNone y
-        → orNone (lastScope id n rest x) ≡ orNone (lastScope id n rest y))
-        → orNone (asScope l (λ i b m. lastScope id n (pastRows (restOf rs) (owed l)) (cond (eqb i id) (some rs) f)) f)
-        ≡ orNone (asScope l (λ i b m. lastScope id n (pastRows (restOf rs) (owed l)) (cond (eqb i id) (some rs) g)) g)
-    go (line.Scope i b m) ih = ih _ _ _ (found (eqb i id))
-    go line.Root ih = h
-    go (line.Node i q k x y c o) ih = h
-    go line.Parameter ih = h
-    go (line.Field o d e q) ih = h
-    go (line.Group i d) ih = h
-    go (line.Typ k a b c) ih = h
-    go line.Unbound ih = h
-    go (line.Value k b) ih = h
-    go (line.Word x) ih = h
-    go line.Bad ih = h
-
--- n scopes are left from a position on, and these places are noted
-pub record Passing (s : Str) (from count : ℕ) (ids : List ℕ) (at n : ℕ) (places : List ℕ) : Type 0 where
-  pub size : length places ≡ 16
-  pub each : (k : ℕ) → k < length ids → k < 16
-      → orNone (lastScope (getD ids k 0) count (rows (drop from s)) none)
-      ≡ orNone (lastScope (getD ids k 0) n (rows (drop at s)) (some (rows (drop (getD places k 0) s))))
-
-module _ (s : Str) (from count : ℕ) (ids : List ℕ) where
-  pub pass-start : Passing s from count ids from count (replicate 16 (length s))
-  pass-start = record {
-    size = length-replicate 16 (length s);
-    each = λ k x y. last-or (getD ids k 0) count (rows (drop from s)) none
-        (some (rows (drop (getD (replicate 16 (length s)) k 0) s)))
-        (rw (getD-replicate 16 k (length s) 0 y) (sym (rows-out s (length s) (omega arith))));
-  }
-
-  module _ (at n : ℕ) (places : List ℕ) (w : Passing s from count ids at n places) where
-    pub pass-none : n ≤ 0 → Placed s from count ids places
-    pass-none h = record {
-      each = λ k x y. sym ((w .each) k x y ∙ ap orNone (scope-none (getD ids k 0) n (rows (drop at s)) _ h));
-    }
-
-    pub pass-other : (l : Line) → l ≡ lineAt (rows (drop at s))
-        → OneOf (0 ∷ 1 ∷ 2 ∷ 3 ∷ 4 ∷ 5 ∷ 7 ∷ 8 ∷ 9 ∷ 10 ∷ []) (tagOf the-type l) → Placed s from count ids places
-    pass-other l e h = record {
-      each = λ k x y. sym ((w .each) k x y ∙ ap orNone (scope-other (getD ids k 0) n (rows (drop at s)) _ l e h));
-    }
-
-    module _ (more : 0 < n) (l : Line) (e : l ≡ lineAt (rows (drop at s))) (i b c : ℕ) (is : l ≡ line.Scope i b c)
-        (after : List ℕ) (noted : Noted ids i at places after) where
-      -- after this scope
-      turn-on : (rest : Rows) → rest ≡ pastRows (restOf (rows (drop at s))) (owed (line.Scope i b c)) → (k : ℕ)
-          → k < length ids → k < 16 → orNone (lastScope (getD ids k 0) count (rows (drop from s)) none)
-          ≡ orNone (lastScope (getD ids k 0) (n - 1) rest (some (rows (drop (getD after k 0) s))))
-      turn-on rest past k x y = (w .each) k x y ∙ go (eqb i (getD ids k 0)) refl
-        where
-          id : ℕ
-          id = getD ids k 0
-
-          old : Option Rows
-          old = some (rows (drop (getD places k 0) s))
-
-          go : (t : Bool) → eqb i id ≡ t → orNone (lastScope id n (rows (drop at s)) old)
-              ≡ orNone (lastScope id (n - 1) rest (some (rows (drop (getD after k 0) s))))
-          go true z =
-              rw ((noted .each) k x y, z) (ap orNone (scope-this id n (rows (drop at s)) (restOf (rows (drop at s))) rest old l
-              (owed (line.Scope i b c)) i b c more e is refl refl past (eqb-true i id z)))
-          go false z =
-              rw ((noted .each) k x y, z) (ap orNone (scope-next id n (rows (drop at s)) (restOf (rows (drop at s))) rest old l
-              (owed (line.Scope i b c)) i b c more e is refl refl past (eqb-false i id z)))
-
-      pub pass-last : n ≡ 1 → Placed s from count ids after
-      pass-last z = record {
-        each = λ k x y. sym (turn-on (pastRows (restOf (rows (drop at s))) (owed (line.Scope i b c))) refl k x y
-            ∙ ap orNone (scope-none (getD ids k 0) (n - 1) _ _ (omega arith)));
-      }
-
-      pub pass-next : (next m to : ℕ) → rows (drop next s) ≡ restOf (rows (drop at s)) → m ≡ owed (line.Scope i b c)
-          → rows (drop to s) ≡ pastRows (rows (drop next s)) m → Passing s from count ids to (n - 1) after
-      pass-next next m to f g h = record {
-        size = noted .size;
-        each = λ k x y. turn-on (rows (drop to s)) (h ∙ rw (f, g) refl) k x y;
-      }
-
--- ---- the chain and the scopes, for those who walk along it
+-- ---- the chain, for those who walk along it
 
 -- a node's arguments, then those of the nodes further out
-module _ (root s : Str) (scopes : List (ℕ × Scope)) (nodes params : List ℕ) (count : ℕ) where
-  pub before-step : (k : ℕ) (o : Out (List (List Str))) → k < count → count ≤ length nodes → count ≤ length params
-      → before root s scopes (drop k (take count nodes)) (drop k (take count params)) o
-      ≡ (argumentsOf root (namesOf (rows (drop (getD params k 0) s))) (scopeOf (getD nodes k 0) scopes) then λ a.
-      before root s scopes (drop (k + 1) (take count nodes)) (drop (k + 1) (take count params)) o then λ outer. ok (a ∷ outer))
+module _ (root s : Str) (scopes : List (ℕ × Scope)) (ids params : List ℕ) (count : ℕ) where
+  pub before-step : (k : ℕ) (o : Out (List (List Str))) → k < count → count ≤ length ids → count ≤ length params
+      → before root s scopes (drop k (take count ids)) (drop k (take count params)) o
+      ≡ (argumentsOf root (namesOf (rows (drop (getD params k 0) s))) (scopeOf (getD ids k 0) scopes) then λ a.
+      before root s scopes (drop (k + 1) (take count ids)) (drop (k + 1) (take count params)) o then λ outer. ok (a ∷ outer))
   unfolding before
   before-step k o h f g =
       rw (
-        drop-cons (take count nodes) k 0 (rw (length-take-le count nodes f) h),
+        drop-cons (take count ids) k 0 (rw (length-take-le count ids f) h),
         drop-cons (take count params) k 0
             (rw (length-take-le count params g) h),
-        getD-take count nodes k 0 h,
+        getD-take count ids k 0 h,
         getD-take count params k 0 h,
         add-one,
       )
 
-  pub before-out : (k : ℕ) (o : Out (List (List Str))) → count ≤ k → count ≤ length nodes
-      → before root s scopes (drop k (take count nodes)) (drop k (take count params)) o ≡ o
+  pub before-out : (k : ℕ) (o : Out (List (List Str))) → count ≤ k → count ≤ length ids
+      → before root s scopes (drop k (take count ids)) (drop k (take count params)) o ≡ o
   unfolding before
-  before-out k o h f = rw (drop-of-length-le (take count nodes) {i = k} (rw (length-take-le count nodes f) h))
-
--- the rows of a scope that was looked for
-scope-at : (left : ℕ) (sheet : Sheet) (f : Option Rows) (o : Option Scope) → ScopeIs left sheet f o
-    → ScopeAt left sheet (orNone f) o
-unfolding ScopeHere read.scopeOf lineAt
-scope-at left sheet none o h = h
-scope-at left sheet (some []) o h = absurd h
-scope-at left sheet (some (r ∷ rs)) o h = h
-
--- the scope of a node of the chain stands at its place
-pub placed : (left : ℕ) (sheet : Sheet) (s : Str) (from n : ℕ) (nodes places : List ℕ) (count k : ℕ)
-    → Placed s from n (take count nodes) places → k < count → count ≤ 16 → count ≤ length nodes
-    → On (times (read.scopeOf (typeOf left)) end n (rows (drop from s)))
-    (λ ss. ScopeAt left sheet (rows (drop (getD places k 0) s)) (scopeOf (getD nodes k 0) (scopesOf ss sheet)))
-placed left sheet s from n nodes places count k w h f g =
-    rw ((w .each) k (rw (length-take-le count nodes g) h) (omega arith), getD-take count nodes k 0 h)
-    (on-one (λ ss. ScopeIs left sheet (lastScope (getD nodes k 0) n (rows (drop from s)) none)
-    (scopeOf (getD nodes k 0) (scopesOf ss sheet)))
-    (λ ss. ScopeAt left sheet (orNone (lastScope (getD nodes k 0) n (rows (drop from s)) none))
-    (scopeOf (getD nodes k 0) (scopesOf ss sheet)))
-    (times (read.scopeOf (typeOf left)) end n (rows (drop from s)))
-    (λ ss v. scope-at left sheet (lastScope (getD nodes k 0) n (rows (drop from s)) none)
-    (scopeOf (getD nodes k 0) (scopesOf ss sheet)) v) (scope-counts left (getD nodes k 0) sheet n (rows (drop from s))))
-
--- a scope's row stands at a place only where there is a scope
-pub scope-there : (left : ℕ) (sheet : Sheet) (q : Rows) (o : Option Scope) (l : Line) (i b m : ℕ) → l ≡ lineAt q
-    → l ≡ line.Scope i b m → ScopeAt left sheet q o → ScopeHere left sheet q o
-unfolding lineAt
-scope-there left sheet [] o l i b m e is h =
-    let y : _≡_ {A = ℕ} 0 1 = ap (λ (l : Line). asScope l (λ i b m. 1) 0) (sym e ∙ is) in never y
-scope-there left sheet (r ∷ rs) o l i b m e is h = h
+  before-out k o h f = rw (drop-of-length-le (take count ids) {i = k} (rw (length-take-le count ids f) h))

@@ -1,14 +1,14 @@
 -- Laws of what stands where in a sheet: what a reader reads is passed over by counting what is owed, and of a brand's scopes the
 -- last with an id counts. By induction on levels, counts and rows. Assumes nothing.
 use mathlib.Core.Path.{_≡_, refl, sym, ap, _∙_}
-use mathlib.Core.Bool.{Bool, true, false, not}
-use mathlib.Core.List.{List, [], _∷_}
+use mathlib.Core.Bool.{Bool, true, false}
+use mathlib.Core.List.{List, [], _∷_, _++_}
 use mathlib.Core.Option.{Option, none, some}
-use Prim.Native.Nat.{ℕ, zero, suc, _+_, _-_, _<_, _≤_}
+use Prim.Native.Nat.{ℕ, zero, suc, _+_, _-_, _*_, _<_, _≤_}
 use native.Mathlib.Nat.{add-zero, zero-add, suc-add}
 use native.Mathlib.Numerals.{add-one, sub-one, one-add}
 use native.Mathlib.Omega.{arith}
-use borrow.Author.Tests.{eq-eqb, ne-eqb, eqb-true, eqb-false}
+use borrow.Author.Tests.{eq-eqb, ne-eqb}
 use lib.Dec.{eqb, ltb}
 use lib.ListN.{length, drop, getD, drop-of-length-le, length-drop}
 use lib.Seq.{drop-cons}
@@ -18,20 +18,19 @@ use Rattle.row.proofs.Line.{the-type}
 use Rattle.row.proofs.Laws.{rows-out, rows-length}
 use Rattle.tree.proofs.OtherLines.{not-scope}
 use Rattle.text.specs.Bytes.{Str, cond}
-use Rattle.row.specs.Rows.{rows, restOf}
-use Rattle.row.specs.Line.{lineOf, lineAt, textOf, textAt, asParameter, asType, asScope, asUnbound, asNode}
+use Rattle.row.specs.Rows.{rows, restOf, unboundRows}
+use Rattle.row.specs.Line.{lineOf, lineAt, reader, unboundLine, asType, asScope, asUnbound}
 use Rattle.row.specs.declared.Line.{Line}
 use Rattle.row.specs.declared.Line.the-variants.{Root, Node, Parameter, Field, Group, Typ, Scope, Unbound, Value, Word, Bad}
 use Rattle.tree.specs.Tree as tree
 use Rattle.tree.specs.Tree.{Ty, Scopes, Binds, Sheet, end, stop, bound, inherit, bind}
 use Rattle.tree.specs.Reader.{Rows, Reading, got, no, Reader, _then_, mapR, times, onType}
 use Rattle.tree.specs.Read as read
-use Rattle.tree.specs.Read.{typeOf, typeFrom, bindingOf, paramsOf, among}
+use Rattle.tree.specs.Read.{typeOf, typeFrom, bindingOf, among}
 use Rattle.codegen_types.specs.TypeString as typeString
 use Rattle.codegen_types.specs.TypeString.{orElse, scopeOf, scopesOf, bindingsOf}
 use Rattle.tree.specs.Index.{On, Has}
-use Rattle.find.specs.Find.{After, owed, pastRows, lastScope, ScopeHere, ScopeIs, namesOf, nameAt, lookup}
-use Rattle.find.specs.declared.Found.the-variants.{At, Nothing}
+use Rattle.find.specs.Find.{After, owed, pastRows, lastScope, ScopeHere, ScopeIs}
 
 -- what holds for a letter's lines and for all others
 pub as-type : {A : Type 0} (P : A → Type 0) (l : Line) (y : (ℕ → ℕ → ℕ → ℕ → A)) (z : A)
@@ -74,34 +73,6 @@ as-unbound P Unbound this other f g = f refl
 as-unbound P (Value k b) this other f g = g
 as-unbound P (Word x) this other f g = g
 as-unbound P Bad this other f g = g
-
-pub as-parameter : {A : Type 0} (P : A → Type 0) (l : Line) (y : A) (z : A) → (l ≡ Parameter → P y) → P z
-    → P (asParameter l y z)
-as-parameter P Root this other f g = g
-as-parameter P (Node i q k x y c o) this other f g = g
-as-parameter P Parameter this other f g = f refl
-as-parameter P (Field o d e q) this other f g = g
-as-parameter P (Group i d) this other f g = g
-as-parameter P (Typ k a b c) this other f g = g
-as-parameter P (Scope i b c) this other f g = g
-as-parameter P Unbound this other f g = g
-as-parameter P (Value k b) this other f g = g
-as-parameter P (Word x) this other f g = g
-as-parameter P Bad this other f g = g
-
-pub as-node : {A : Type 0} (P : A → Type 0) (l : Line) (y : (ℕ → ℕ → ℕ → ℕ → ℕ → ℕ → ℕ → A)) (z : A)
-    → ((i q k x y′ c o : ℕ) → l ≡ Node i q k x y′ c o → P (y i q k x y′ c o)) → P z → P (asNode l y z)
-as-node P Root this other f g = g
-as-node P (Node i q k x y c o) this other f g = f i q k x y c o refl
-as-node P Parameter this other f g = g
-as-node P (Field o d e q) this other f g = g
-as-node P (Group i d) this other f g = g
-as-node P (Typ k a b c) this other f g = g
-as-node P (Scope i b c) this other f g = g
-as-node P Unbound this other f g = g
-as-node P (Value k b) this other f g = g
-as-node P (Word x) this other f g = g
-as-node P Bad this other f g = g
 
 -- ---- what is read
 
@@ -290,6 +261,48 @@ pub past-end : (s : Str) (at n : ℕ) → length s ≤ at → rows (drop at s) �
 unfolding pastRows
 past-end s at n h = rw (rows-out s at h)
 
+-- a run of U rows: each counts as one, and owes nothing
+owed-unbound : owed (lineOf (85 ∷ 10 ∷ [])) ≡ 0
+unfolding owed lineOf reader unboundLine
+owed-unbound = refl
+
+pub past-run : (r : ℕ) (rs : Rows) (n : ℕ) → r ≤ n → pastRows (unboundRows r ++ rs) n ≡ pastRows rs (n - r)
+unfolding pastRows unboundRows
+past-run zero rs n h = ap (pastRows rs) (omega arith)
+past-run (suc r) rs zero h = let z : ⊥ = omega arith in absurd z
+past-run (suc r) rs (suc n) h =
+    ap (pastRows (unboundRows r ++ rs)) none-owed ∙ past-run r rs n (omega arith) ∙ ap (pastRows rs) same
+  where
+    none-owed : owed (lineOf (85 ∷ 10 ∷ [])) + n ≡ n
+    none-owed = rw (owed-unbound) (zero-add n)
+
+    same : n - r ≡ suc n - suc r
+    same = omega arith
+
+-- the same from a position on, with the rows that are left
+pub run-past : (rs rest : Rows) (r n : ℕ) → r ≤ n → rs ≡ unboundRows r ++ rest → pastRows rs n ≡ pastRows rest (n - r)
+run-past rs rest r n h e = rw e (past-run r rest n h)
+
+-- one row at least is passed over, where there is one
+pub run-fewer : (rs rest : Rows) (r : ℕ) → length (restOf rs) < length rs → rs ≡ unboundRows r ++ rest
+    → length (restOf rest) < length rs
+unfolding unboundRows restOf
+run-fewer rs rest zero h e = rw (← e) h
+run-fewer rs rest (suc r) h e = rw e (more r)
+  where
+    fewer : (rs : Rows) → length (restOf rs) ≤ length rs
+    fewer [] = omega arith
+    fewer (x ∷ rs) = omega arith
+
+    more : (r : ℕ) → length (restOf rest) < suc (length (unboundRows r ++ rest))
+    more zero = let z = fewer rest in omega arith
+    more (suc r) = let z = more r in omega arith
+
+-- a run of U rows lies within the sheet
+pub run-in : (at r l : ℕ) → (0 < r → at + 2 * r ≤ l) → at < l → at + 2 * r ≤ l
+run-in at zero l h a = omega arith
+run-in at (suc r) l h a = h (omega arith)
+
 -- ---- the scope that counts
 
 -- one scope read: its row, and what it puts in front of the others
@@ -384,55 +397,7 @@ scope-counts left id sheet n rs =
     or-none none = refl
     or-none (some y) = refl
 
--- ---- nodes
-
--- the names of a node's P rows are what the reader of P rows reads
-pub params-names : (rs : Rows) → On (paramsOf rs) (λ ps. ps ≡ namesOf rs)
-unfolding paramsOf namesOf lineAt textAt restOf
-params-names [] = refl
-params-names (r ∷ rs) = go (lineOf r) (params-names rs)
-  where
-    go : (l : Line) → On (paramsOf rs) (λ ps. ps ≡ namesOf rs)
-        → On (asParameter {A = Reader (List Str)} l (λ q. paramsOf rs then λ ps. got (textAt q ∷ ps)) (got []) (r ∷ rs))
-        (λ ps. ps ≡ asParameter l (textOf r ∷ namesOf rs) [])
-    go Parameter ih = on-map (λ ps. textOf r ∷ ps) (λ ps. ps ≡ textOf r ∷ namesOf rs) (paramsOf rs)
-        (on-one (λ ps. ps ≡ namesOf rs) (λ ps. textOf r ∷ ps ≡ textOf r ∷ namesOf rs) (paramsOf rs)
-        (λ ps e. ap (λ (l : List Str). textOf r ∷ l) e) ih)
-    go Root ih = refl
-    go (Node i q k x y c o) ih = refl
-    go (Field o d e q) ih = refl
-    go (Group i d) ih = refl
-    go (Typ k a b c) ih = refl
-    go (Scope i b c) ih = refl
-    go Unbound ih = refl
-    go (Value k b) ih = refl
-    go (Word x) ih = refl
-    go Bad ih = refl
-
 -- ---- searching
-
--- the search for a node
-pub lookup-end : (id : ℕ) (ids ats : List ℕ) (i : ℕ) → length ats ≤ i → lookup id (drop i ids) (drop i ats) ≡ Nothing
-unfolding lookup
-lookup-end id ids ats i h = rw (drop-of-length-le ats h) (go (drop i ids))
-  where
-    go : (l : List ℕ) → lookup id l [] ≡ Nothing
-    go [] = refl
-    go (x ∷ l) = refl
-
-pub lookup-out : (id : ℕ) (ids ats : List ℕ) (i : ℕ) → length ids ≤ i → lookup id (drop i ids) (drop i ats) ≡ Nothing
-unfolding lookup
-lookup-out id ids ats i h = rw (drop-of-length-le ids h)
-
-pub lookup-hit : (id : ℕ) (ids ats : List ℕ) (i : ℕ) → i < length ids → i < length ats → getD ids i 0 ≡ id
-    → lookup id (drop i ids) (drop i ats) ≡ At (getD ats i 0)
-unfolding lookup
-lookup-hit id ids ats i h k e = rw (drop-cons ids i 0 h, drop-cons ats i 0 k, eq-eqb _ _ e)
-
-pub lookup-miss : (id : ℕ) (ids ats : List ℕ) (i : ℕ) → i < length ids → i < length ats → (getD ids i 0 ≡ id → ⊥)
-    → lookup id (drop i ids) (drop i ats) ≡ lookup id (drop (i + 1) ids) (drop (i + 1) ats)
-unfolding lookup
-lookup-miss id ids ats i h k e = rw (drop-cons ids i 0 h, drop-cons ats i 0 k, ne-eqb _ _ e, add-one)
 
 -- the search among ids
 pub among-out : (id : ℕ) (ids : List ℕ) (i : ℕ) → length ids ≤ i → among id (drop i ids) ≡ false
@@ -447,74 +412,6 @@ pub among-miss : (id : ℕ) (ids : List ℕ) (i : ℕ) → i < length ids → (g
     → among id (drop i ids) ≡ among id (drop (i + 1) ids)
 unfolding among
 among-miss id ids i h e = rw (drop-cons ids i 0 h, ne-eqb _ _ e, add-one)
-
--- parameters
-clash : {A : Type 0} → false ≡ true → A
-clash h = let z : _≡_ {A = ℕ} 0 1 = cc in let y : ⊥ = omega arith in absurd y
-
-pub names-more : (rs : Rows) → asParameter (lineAt rs) true false ≡ true → namesOf rs ≡ textAt rs ∷ namesOf (restOf rs)
-unfolding namesOf lineAt textAt restOf
-names-more [] h = clash h
-names-more (r ∷ rs) h =
-    as-parameter (λ (b : Bool). b ≡ true → asParameter (lineOf r) (textOf r ∷ namesOf rs) [] ≡ textOf r ∷ namesOf rs) (lineOf r)
-    true false (λ e t. rw e) (λ t. clash t) h
-
-pub names-none : (rs : Rows) → asParameter (lineAt rs) true false ≡ false → namesOf rs ≡ []
-unfolding namesOf lineAt
-names-none [] h = refl
-names-none (r ∷ rs) h = go (lineOf r) h
-  where
-    go : (l : Line) → asParameter l true false ≡ false → asParameter l (textOf r ∷ namesOf rs) [] ≡ []
-    go Parameter h = clash (sym h)
-    go Root h = refl
-    go (Node i q k x y c o) h = refl
-    go (Field o d e q) h = refl
-    go (Group i d) h = refl
-    go (Typ k a b c) h = refl
-    go (Scope i b c) h = refl
-    go Unbound h = refl
-    go (Value k b) h = refl
-    go (Word x) h = refl
-    go Bad h = refl
-
-eqb-less : (n m : ℕ) → 0 < n → eqb n (suc m) ≡ eqb (n - 1) m
-eqb-less n m h = go (eqb (n - 1) m) refl
-  where
-    go : (t : Bool) → eqb (n - 1) m ≡ t → eqb n (suc m) ≡ t
-    go true e = eq-eqb n (suc m) (omega (arith, eqb-true (n - 1) m e))
-    go false e = ne-eqb n (suc m) (λ k. eqb-false (n - 1) m e (omega arith))
-
--- one turn of counting parameters
-module _ (rs rest : Rows) (l : Line) (b : Bool) (line : l ≡ lineAt rs) (next : rest ≡ restOf rs)
-    (is : b ≡ asParameter l true false) where
-  here : (c : Bool) → b ≡ c → asParameter (lineAt rs) true false ≡ c
-  here c e = rw (← line) (sym is ∙ e)
-
-  pub count-more : (n : ℕ) → 0 < n → b ≡ true → eqb n (length (namesOf rs)) ≡ eqb (n - 1) (length (namesOf rest))
-  count-more n h e = rw (names-more rs (here true e), next) (eqb-less n (length (namesOf (restOf rs))) h)
-
-  pub count-fewer : (n : ℕ) → 0 < n → b ≡ false → eqb n (length (namesOf rs)) ≡ false
-  count-fewer n h e = rw (names-none rs (here false e)) (ne-eqb n 0 (λ z. omega arith))
-
-  pub count-last : (n : ℕ) → n ≤ 0 → eqb n (length (namesOf rs)) ≡ not b
-  count-last n h = go b refl
-    where
-      go : (c : Bool) → b ≡ c → eqb n (length (namesOf rs)) ≡ not c
-      go true e = rw (names-more rs (here true e)) (ne-eqb n (suc (length (namesOf (restOf rs)))) (λ z. omega arith))
-      go false e = rw (names-none rs (here false e)) (eq-eqb n 0 (omega arith))
-
-  pub name-more : (n : ℕ) → (n ≡ 0 → ⊥) → b ≡ true → nameAt (namesOf rs) n ≡ nameAt (namesOf rest) (n - 1)
-  unfolding nameAt
-  name-more zero h e = absurd (h refl)
-  name-more (suc n) h e = rw (names-more rs (here true e), next, sub-one (suc n))
-
-  pub name-none : (n : ℕ) → b ≡ false → nameAt (namesOf rs) n ≡ none
-  unfolding nameAt
-  name-none n e = rw (names-none rs (here false e))
-
-  pub name-here : (n : ℕ) → n ≡ 0 → b ≡ true → nameAt (namesOf rs) n ≡ some (textAt rs)
-  unfolding nameAt
-  name-here n z e = rw (z, names-more rs (here true e))
 
 -- one turn of the search for a scope
 pub scope-none : (id n : ℕ) (rs : Rows) (found : Option Rows) → n ≤ 0 → lastScope id n rs found ≡ found
@@ -544,19 +441,3 @@ module _ (id n : ℕ) (rs next rest : Rows) (found : Option Rows) (l : Line) (m 
 
   pub scope-next : (i ≡ id → ⊥) → lastScope id n rs found ≡ lastScope id (n - 1) rest found
   scope-next e = turn ∙ rw (ne-eqb i id e) refl
-
--- the last scope: what belongs to it is not looked at
-module _ (id n : ℕ) (rs : Rows) (found : Option Rows) (l : Line) (i b c : ℕ) (one : n ≡ 1) (line : l ≡ lineAt rs)
-    (is : l ≡ Scope i b c) where
-  abbrev rest : Rows
-  rest = pastRows (restOf rs) (owed (Scope i b c))
-
-  pub scope-last-this : i ≡ id → lastScope id n rs found ≡ some rs
-  scope-last-this e =
-      scope-this id n rs (restOf rs) rest found l (owed (Scope i b c)) i b c (omega arith) line is refl refl refl e
-      ∙ scope-none id (n - 1) rest (some rs) (omega arith)
-
-  pub scope-last-next : (i ≡ id → ⊥) → lastScope id n rs found ≡ found
-  scope-last-next e =
-      scope-next id n rs (restOf rs) rest found l (owed (Scope i b c)) i b c (omega arith) line is refl refl refl e
-      ∙ scope-none id (n - 1) rest found (omega arith)

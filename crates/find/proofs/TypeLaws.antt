@@ -9,12 +9,12 @@ use native.Mathlib.Omega.{arith}
 use native.Mathlib.Numerals.{sub-one}
 use borrow.Author.Tests.{eq-eqb, ne-eqb, lt-ltb, le-ltb, eqb-true, eqb-false, ltb-true, ltb-false}
 use lib.Dec.{eqb, ltb}
-use lib.ListN.{length}
+use lib.ListN.{length, drop}
 use package.types.Run.{OneOf}
 use denote.Enum.Declared.{tagOf}
 use Rattle.row.proofs.Line.{the-type}
 use Rattle.text.specs.Bytes.{Str, cond}
-use Rattle.row.specs.Rows.{restOf}
+use Rattle.row.specs.Rows.{rows, restOf}
 use Rattle.row.specs.Line.{lineAt}
 use Rattle.row.specs.declared.Line.{Line}
 use Rattle.row.specs.declared.Line.the-variants.{Typ, Scope, Unbound}
@@ -24,56 +24,80 @@ use Rattle.tree.specs.Reader.{Rows, Reading, got, no, Reader, _then_, mapR, tim
 use Rattle.tree.specs.Read as read
 use Rattle.tree.specs.Read.{typeOf, typeFrom, bindingOf, pointer, branded}
 use Rattle.tree.proofs.OtherLines.{not-type, not-scope, not-unbound}
-use Rattle.codegen_types.specs.Out.{Out, ok}
+use Rattle.codegen_types.specs.Out.{Out, ok, refused}
 use Rattle.codegen_types.specs.TypeString as typeString
 use Rattle.codegen_types.specs.TypeString.{typeString, scopesOf, bindingsOf, anyOwned, getQualifiedModule, listString}
 use Rattle.codegen_types.specs.TypeString.{elementLeaf}
 use Rattle.codegen_types.specs.declared.Leaf.{Leaf}
 use Rattle.codegen_types.specs.declared.Leaf.the-variants.{Owned}
 use Rattle.tree.specs.Index.{On, Has}
-use Rattle.find.specs.Find.{After, kindAt, pastRows, firstOf, ScopeHere}
+use Rattle.find.specs.Find.{After, kindAt, typeRow, TypeRowAt, pastRows, firstOf, ScopeHere}
+use Rattle.find.specs.declared.TypeRow.{TypeRow}
 use Rattle.find.proofs.Laws.{on-map, on-one, on-two, on-all, as-type, as-unbound, past-binding}
 
 -- ---- a type by its row
-
-typeOf-more : (left : ℕ) (rs : Rows) (k a b c : ℕ) → (left ≡ 0 → ⊥) → lineAt rs ≡ Typ k a b c
-    → typeOf left rs ≡ typeFrom (typeOf (left - 1)) k a b c (restOf rs)
-unfolding typeOf
-typeOf-more zero rs k a b c z e = absurd (z refl)
-typeOf-more (suc l) rs k a b c z e = rw (e, sub-one (suc l))
 
 pub type-zero : (left : ℕ) (rs : Rows) (P : Ty → Type 0) → left ≡ 0 → On (typeOf left rs) P
 unfolding typeOf
 type-zero left rs P z = rw z (as-type (λ (f : Reader Ty). On (f rs) P) (lineAt rs) _ _ (λ k a b c e. tt) tt)
 
-pub type-other : (left : ℕ) (rs : Rows) (P : Ty → Type 0) (l : Line) → l ≡ lineAt rs
-    → OneOf (0 ∷ 1 ∷ 2 ∷ 3 ∷ 4 ∷ 6 ∷ 7 ∷ 8 ∷ 9 ∷ 10 ∷ []) (tagOf the-type l) → On (typeOf left rs) P
+-- a type whose row was read, with what belongs to it
+pub type-row : (s : Str) (at : ℕ) (r : TypeRow) (left : ℕ) (P : Ty → Type 0) → TypeRowAt s at r → (left ≡ 0 → ⊥)
+    → On (typeFrom (typeOf (left - 1)) (r .kind) (r .a) (r .b) (r .c) (rows (drop (r .next) s))) P
+    → On (typeOf left (rows (drop at s))) P
 unfolding typeOf
-type-other zero rs P l e h = rw (← e, not-type l _ _ h) tt
-type-other (suc n) rs P l e h = rw (← e, not-type l _ _ h) tt
+type-row s at r zero P w z h = absurd (z refl)
+type-row s at r (suc l) P w z h =
+    as-type (λ (f : Reader Ty). On (f (rows (drop at s))) P) (lineAt (rows (drop at s))) _ _
+    (λ k a b c e. this k a b c (w .row ∙ rw e refl)) tt
+  where
+    this : (k a b c : ℕ) → r ≡ typeRow (Typ k a b c) (r .next)
+        → On (typeFrom (typeOf l) k a b c (restOf (rows (drop at s)))) P
+    this k a b c e =
+        rw (
+          sub-one (suc l),
+          ap (λ (q : TypeRow). q .kind) e,
+          ap (λ (q : TypeRow). q .a) e,
+          ap (λ (q : TypeRow). q .b) e,
+          ap (λ (q : TypeRow). q .c) e,
+          w .next,
+        ) at h
 
-module _ (left : ℕ) (rs rest : Rows) (k a b c : ℕ) (l : Line) (z : left ≡ 0 → ⊥) (at : l ≡ lineAt rs) (is : l ≡ Typ k a b c)
-    (next : rest ≡ restOf rs) (P : Ty → Type 0) where
-  whole : On (typeFrom (typeOf (left - 1)) k a b c rest) P → On (typeOf left rs) P
-  whole h = rw (typeOf-more left rs k a b c z (sym at ∙ is), ← next) h
+-- another line as a T row
+pub row-other : (l : Line) (next : ℕ) → OneOf (0 ∷ 1 ∷ 2 ∷ 3 ∷ 4 ∷ 6 ∷ 7 ∷ 8 ∷ 9 ∷ 10 ∷ []) (tagOf the-type l)
+    → typeRow l next ≡ record { kind = 0; a = 0; b = 0; c = 0; next = next }
+row-other l next h =
+    rw (
+      not-type l (λ k a b c. k) 0 h,
+      not-type l (λ k a b c. a) 0 h,
+      not-type l (λ k a b c. b) 0 h,
+      not-type l (λ k a b c. c) 0 h,
+    )
 
-  pub type-plain : k < 14 → P (plain k) → On (typeOf left rs) P
+-- a line that was read at a position, as a T row
+pub row-at : (s : Str) (at next : ℕ) (l : Line) (r : TypeRow) → l ≡ lineAt (rows (drop at s))
+    → rows (drop next s) ≡ restOf (rows (drop at s)) → r ≡ typeRow l next → TypeRowAt s at r
+row-at s at next l r e f g = record { row = rw (← e, g) refl; next = rw g f }
+
+module _ (left : ℕ) (rest : Rows) (k a b c : ℕ) (P : Ty → Type 0) where
+  pub type-plain : k < 14 → P (plain k) → On (typeFrom (typeOf left) k a b c rest) P
   unfolding typeFrom
-  type-plain u h = whole (rw (lt-ltb k 14 u) h)
+  type-plain u h = rw (lt-ltb k 14 u) h
 
-  pub type-list : k ≡ 14 → On (typeOf (left - 1) rest) (λ ty. P (list ty)) → On (typeOf left rs) P
+  pub type-list : k ≡ 14 → On (typeOf left rest) (λ ty. P (list ty)) → On (typeFrom (typeOf left) k a b c rest) P
   unfolding typeFrom
-  type-list u h = whole (rw (le-ltb k 14 (omega arith), eq-eqb k 14 u) (on-map (λ t. list t) P (typeOf (left - 1) rest) h))
+  type-list u h = rw (le-ltb k 14 (omega arith), eq-eqb k 14 u) (on-map (λ t. list t) P (typeOf left rest) h)
 
-  pub type-brand : 14 ≤ k → (k ≡ 14 → ⊥) → k < 18 → On (times (read.scopeOf (typeOf (left - 1))) end b rest)
-      (λ ss. P (branded k a ss)) → On (typeOf left rs) P
+  pub type-brand : 14 ≤ k → (k ≡ 14 → ⊥) → k < 18
+      → On (times (read.scopeOf (typeOf left)) end b rest) (λ ss. P (branded k a ss))
+      → On (typeFrom (typeOf left) k a b c rest) P
   unfolding typeFrom
-  type-brand u v w h = whole (rw (le-ltb k 14 u, ne-eqb k 14 v, lt-ltb k 18 w)
-      (on-map (branded k a) P (times (read.scopeOf (typeOf (left - 1))) end b rest) h))
+  type-brand u v w h = rw (le-ltb k 14 u, ne-eqb k 14 v, lt-ltb k 18 w)
+      (on-map (branded k a) P (times (read.scopeOf (typeOf left)) end b rest) h)
 
-  pub type-pointer : 18 ≤ k → P (pointer a b c) → On (typeOf left rs) P
+  pub type-pointer : 18 ≤ k → P (pointer a b c) → On (typeFrom (typeOf left) k a b c rest) P
   unfolding typeFrom
-  type-pointer u h = whole (rw (le-ltb k 14 (omega arith), ne-eqb k 14 (λ e. omega arith), le-ltb k 18 u) h)
+  type-pointer u h = rw (le-ltb k 14 (omega arith), ne-eqb k 14 (λ e. omega arith), le-ltb k 18 u) h
 
 -- the kind of a type is that of its row; no row has a kind above 18
 branded-kind : (k a : ℕ) (ss : Scopes) → 14 < k → k < 18 → kind (branded k a ss) ≡ k
@@ -88,41 +112,60 @@ below : (k : ℕ) (z : Bool) → ltb k 18 ≡ z → k < 18 → cond z k 18 ≡ k
 below k true e h = refl
 below k false e h = let u = ltb-false k 18 e in let v : ⊥ = omega arith in absurd v
 
+from-kind : (left k a b c : ℕ) (q : Rows) → On (typeFrom (typeOf left) k a b c q) (λ ty. kind ty ≡ cond (ltb k 18) k 18)
+unfolding typeFrom
+from-kind left k a b c q = go (ltb k 14) (eqb k 14) (ltb k 18) (eqb a 0) refl refl refl
+  where
+    go : (x y z w : Bool) → ltb k 14 ≡ x → eqb k 14 ≡ y → ltb k 18 ≡ z
+        → On (cond x (got (plain k)) (cond y (mapR (λ t. list t) (typeOf left))
+        (cond z (mapR (branded k a) (times (read.scopeOf (typeOf left)) end b)) (got (cond w anyPointer (parameter b c))))) q)
+        (λ ty. kind ty ≡ cond z k 18)
+    go true y z w e f g = let u = ltb-true k 14 e in sym (below k z g (omega arith))
+    go false true z w e f g =
+        let u = eqb-true k 14 f in
+        on-map (λ t. list t) (λ ty. kind ty ≡ cond z k 18) (typeOf left q)
+        (on-all {P = λ ty. kind (list ty) ≡ cond z k 18} (λ t. sym (below k z g (omega arith) ∙ u)) (typeOf left q))
+    go false false true w e f g =
+        let u = ltb-false k 14 e in let v = eqb-false k 14 f in
+        on-map (branded k a) (λ ty. kind ty ≡ k) (times (read.scopeOf (typeOf left)) end b q)
+        (on-all {P = λ ss. kind (branded k a ss) ≡ k} (λ ss. branded-kind k a ss (omega arith) (ltb-true k 18 g))
+        (times (read.scopeOf (typeOf left)) end b q))
+    go false false false true e f g = refl
+    go false false false false e f g = refl
+
 pub type-kind : (left : ℕ) (rs : Rows) → On (typeOf left rs) (λ ty. kind ty ≡ kindAt rs)
-unfolding typeOf typeFrom
+unfolding typeOf
 type-kind zero rs = as-type (λ (f : Reader Ty). On (f rs) (λ ty. kind ty ≡ kindAt rs)) (lineAt rs) _ _ (λ k a b c e. tt) tt
 type-kind (suc n) rs =
     as-type (λ (f : Reader Ty). On (f rs) (λ ty. kind ty ≡ kindAt rs)) (lineAt rs) _ _
-    (λ k a b c e. rw e (go k a b c (ltb k 14) (eqb k 14) (ltb k 18) (eqb a 0) refl refl refl (restOf rs))) tt
-  where
-    go : (k a b c : ℕ) (x y z w : Bool) → ltb k 14 ≡ x → eqb k 14 ≡ y → ltb k 18 ≡ z → (q : Rows)
-        → On (cond x (got (plain k)) (cond y (mapR (λ t. list t) (typeOf n))
-        (cond z (mapR (branded k a) (times (read.scopeOf (typeOf n)) end b)) (got (cond w anyPointer (parameter b c))))) q)
-        (λ ty. kind ty ≡ cond z k 18)
-    go k a b c true y z w e f g q = let u = ltb-true k 14 e in sym (below k z g (omega arith))
-    go k a b c false true z w e f g q =
-        let u = eqb-true k 14 f in
-        on-map (λ t. list t) (λ ty. kind ty ≡ cond z k 18) (typeOf n q)
-        (on-all {P = λ ty. kind (list ty) ≡ cond z k 18} (λ t. sym (below k z g (omega arith) ∙ u)) (typeOf n q))
-    go k a b c false false true w e f g q =
-        let u = ltb-false k 14 e in let v = eqb-false k 14 f in
-        on-map (branded k a) (λ ty. kind ty ≡ k) (times (read.scopeOf (typeOf n)) end b q)
-        (on-all {P = λ ss. kind (branded k a ss) ≡ k} (λ ss. branded-kind k a ss (omega arith) (ltb-true k 18 g))
-        (times (read.scopeOf (typeOf n)) end b q))
-    go k a b c false false false true e f g q = refl
-    go k a b c false false false false e f g q = refl
+    (λ k a b c e. rw e (from-kind n k a b c (restOf rs))) tt
 
 -- ---- what `type_string` gives for lists, enums and brands: a claim `Q` of it
 
-pub of-kind : (sheet : Sheet) (leaf : Leaf) (left : ℕ) (rs : Rows) (k : ℕ) → k ≡ kindAt rs → (Q : Out Str → Type 0)
-    → On (typeOf left rs) (λ ty. Q (listString (sheet .root) leaf k (typeString ty sheet (elementLeaf k))))
-    → On (typeOf left rs) (λ ty. Q (typeString (list ty) sheet leaf))
-unfolding typeString
-of-kind sheet leaf left rs k at Q h =
-    on-two (λ ty. kind ty ≡ kindAt rs) (λ ty. Q (listString (sheet .root) leaf k (typeString ty sheet (elementLeaf k))))
-    (λ ty. Q (typeString (list ty) sheet leaf)) (typeOf left rs)
-    (λ ty e g. subst (λ (j : ℕ). Q (listString (sheet .root) leaf j (typeString ty sheet (elementLeaf j)))) (at ∙ sym e) g)
-    (type-kind left rs) h
+-- a list, by its element's row: an element of a kind above 17 is an AnyPointer
+module _ (sheet : Sheet) (leaf : Leaf) (left k a b c : ℕ) (rest : Rows) (Q : Out Str → Type 0) where
+  by-kind : (j : ℕ) → j ≡ cond (ltb k 18) k 18
+      → On (typeFrom (typeOf left) k a b c rest) (λ ty. Q (listString (sheet .root) leaf j (typeString ty sheet (elementLeaf j))))
+      → On (typeFrom (typeOf left) k a b c rest) (λ ty. Q (typeString (list ty) sheet leaf))
+  unfolding typeString
+  by-kind j at h =
+      on-two (λ ty. kind ty ≡ cond (ltb k 18) k 18)
+      (λ ty. Q (listString (sheet .root) leaf j (typeString ty sheet (elementLeaf j))))
+      (λ ty. Q (typeString (list ty) sheet leaf)) (typeFrom (typeOf left) k a b c rest)
+      (λ ty e g. subst (λ (j : ℕ). Q (listString (sheet .root) leaf j (typeString ty sheet (elementLeaf j)))) (at ∙ sym e) g)
+      (from-kind left k a b c rest) h
+
+  pub list-of : k < 18
+      → On (typeFrom (typeOf left) k a b c rest) (λ ty. Q (listString (sheet .root) leaf k (typeString ty sheet (elementLeaf k))))
+      → On (typeFrom (typeOf left) k a b c rest) (λ ty. Q (typeString (list ty) sheet leaf))
+  list-of u h = by-kind k (sym (below k (ltb k 18) refl u)) h
+
+  pub list-of-any : 18 ≤ k → Q (refused 6)
+      → On (typeFrom (typeOf left) k a b c rest) (λ ty. Q (typeString (list ty) sheet leaf))
+  unfolding listString
+  list-of-any u q = by-kind 18 (rw (le-ltb k 18 u) refl)
+      (on-all {P = λ ty. Q (listString (sheet .root) leaf 18 (typeString ty sheet (elementLeaf 18)))} (λ ty. q)
+      (typeFrom (typeOf left) k a b c rest))
 
 -- structs and interfaces have the same text
 brand-type : (sheet : Sheet) (leaf : Leaf) (k id : ℕ) (ss : Scopes) → (k ≡ 15 → ⊥)
@@ -134,24 +177,31 @@ brand-type sheet leaf k id ss z = rw (ne-eqb k 15 z) (go (eqb k 16))
     go true = refl
     go false = refl
 
-module _ (sheet : Sheet) (leaf : Leaf) (left : ℕ) (rs rest : Rows) (k a b c : ℕ) (l : Line) (z : left ≡ 0 → ⊥)
-    (at : l ≡ lineAt rs) (is : l ≡ Typ k a b c) (next : rest ≡ restOf rs) (Q : Out Str → Type 0) where
-  pub type-enum : k ≡ 15 → Q (getQualifiedModule sheet a) → On (typeOf left rs) (λ ty. Q (typeString ty sheet leaf))
+module _ (sheet : Sheet) (leaf : Leaf) (left : ℕ) (rest : Rows) (k a b c : ℕ) (Q : Out Str → Type 0) where
+  pub type-enum : k ≡ 15 → Q (getQualifiedModule sheet a)
+      → On (typeFrom (typeOf left) k a b c rest) (λ ty. Q (typeString ty sheet leaf))
   unfolding typeString
   type-enum e h =
-      type-brand left rs rest k a b c l z at is next (λ ty. Q (typeString ty sheet leaf)) (omega arith) (λ y. omega arith)
-      (omega arith)
+      type-brand left rest k a b c (λ ty. Q (typeString ty sheet leaf)) (omega arith) (λ y. omega arith) (omega arith)
       (on-all {P = λ ss. Q (typeString (branded k a ss) sheet leaf)} (λ ss. rw (eq-eqb k 15 e) h)
-      (times (read.scopeOf (typeOf (left - 1))) end b rest))
+      (times (read.scopeOf (typeOf left)) end b rest))
 
   pub type-branded : 14 ≤ k → (k ≡ 14 → ⊥) → (k ≡ 15 → ⊥) → k < 18
-      → On (times (read.scopeOf (typeOf (left - 1))) end b rest) (λ ss. Q (typeString (struct a ss) sheet leaf))
-      → On (typeOf left rs) (λ ty. Q (typeString ty sheet leaf))
+      → On (times (read.scopeOf (typeOf left)) end b rest) (λ ss. Q (typeString (struct a ss) sheet leaf))
+      → On (typeFrom (typeOf left) k a b c rest) (λ ty. Q (typeString ty sheet leaf))
   type-branded u v w x h =
-      type-brand left rs rest k a b c l z at is next (λ ty. Q (typeString ty sheet leaf)) u v x
+      type-brand left rest k a b c (λ ty. Q (typeString ty sheet leaf)) u v x
       (on-one (λ ss. Q (typeString (struct a ss) sheet leaf)) (λ ss. Q (typeString (branded k a ss) sheet leaf))
-      (times (read.scopeOf (typeOf (left - 1))) end b rest)
+      (times (read.scopeOf (typeOf left)) end b rest)
       (λ ss g. subst Q (brand-type sheet leaf k a ss w) g) h)
+
+  pub type-any : 18 ≤ k → a ≡ 0 → Q (typeString anyPointer sheet leaf)
+      → On (typeFrom (typeOf left) k a b c rest) (λ ty. Q (typeString ty sheet leaf))
+  type-any u z h = type-pointer left rest k a b c (λ ty. Q (typeString ty sheet leaf)) u (rw (eq-eqb a 0 z) h)
+
+  pub type-parameter : 18 ≤ k → (a ≡ 0 → ⊥) → Q (typeString (parameter b c) sheet leaf)
+      → On (typeFrom (typeOf left) k a b c rest) (λ ty. Q (typeString ty sheet leaf))
+  type-parameter u z h = type-pointer left rest k a b c (λ ty. Q (typeString ty sheet leaf)) u (rw (ne-eqb a 0 z) h)
 
 -- ---- so many of something
 

@@ -1,5 +1,5 @@
--- Where things stand in a sheet, told by rows: what follows a type or a scope, the scope of a brand that counts, a node's
--- parameters, and the index of the nodes. Assumes nothing.
+-- Where things stand in a sheet, told by rows: what follows a type or a scope, the scope of a brand that counts, and the chain of
+-- a node's parents. Assumes nothing.
 use mathlib.Core.Path.{_≡_}
 use mathlib.Core.List.{List, [], _∷_}
 use mathlib.Core.Option.{Option, none, some}
@@ -8,20 +8,25 @@ use lib.Dec.{eqb, ltb}
 use lib.ListN.{drop, take, length, getD}
 use Rattle.text.specs.Bytes.{Str, cond}
 use Rattle.row.specs.Rows.{rows, restOf}
-use Rattle.row.specs.Line.{lineOf, lineAt, textOf, textAt, asNode, asParameter, asType, asScope}
+use Rattle.row.specs.Line.{lineOf, lineAt, asType, asScope}
 use Rattle.row.specs.declared.Line.{Line}
-use Rattle.row.specs.declared.Line.the-variants as line
 use Rattle.tree.specs.Tree.{Node, Sheet, end}
 use Rattle.tree.specs.Reader.{Rows, Reading, got, no}
 use Rattle.tree.specs.Read as read
-pub use Rattle.tree.specs.Index.{On, Has, Indexed}
+pub use Rattle.tree.specs.Index.{On, Has}
+use Rattle.nodes.specs.Index.{Indexed, lookup}
+pub use Rattle.nodes.specs.Index.{sheetOf}
+unfoldable pub use Rattle.nodes.specs.Index.{namesOf}
+use Rattle.nodes.specs.declared.Found.{Found}
+use Rattle.nodes.specs.declared.Found.the-variants as found
 use Rattle.codegen_types.specs.Out.{Out, ok, refused, _then_}
-use Rattle.codegen_types.specs.TypeString.{Scope, scopesOf, scopeOf, nodeOf, argumentsOf, accumulate}
+use Rattle.codegen_types.specs.TypeString.{Scope, scopesOf, scopeOf, argumentsOf, accumulate}
 use Rattle.codegen_types.specs.declared.Refusal.{Refusal}
 use Rattle.codegen_types.specs.declared.Refusal.the-variants.{None, Number}
+use Rattle.find.specs.declared.TypeRow.{TypeRow}
 use Rattle.find.specs.declared.Links.{Links}
-use Rattle.find.specs.declared.Found.{Found}
-use Rattle.find.specs.declared.Found.the-variants.{At, Nothing}
+use Rattle.find.specs.declared.Step.{Step}
+use Rattle.find.specs.declared.Step.the-variants as step
 
 -- ---- what is read at a position
 
@@ -30,16 +35,26 @@ abbrev pub After : {A : Type 0} → Reading A → (Rows → Type 0) → Type 0
 After (got a rs) P = P rs
 After (no k rs) P = Unit {0}
 
--- the rows at a position that was found
-abbrev pub rowsFound : Str → Found → Option Rows
-rowsFound s (At at) = some (rows (drop at s))
-rowsFound s Nothing = none
-
 -- ---- types and scopes
 
 -- the kind of the type that comes first; no T row has a kind above 18
 abbrev pub kindAt : Rows → ℕ
 kindAt rs = asType (lineAt rs) (λ k a b c. cond (ltb k 18) k 18) 0
+
+-- the numbers of a T line, 0 for another line, and the position of the row after it
+abbrev pub typeRow : Line → ℕ → TypeRow
+typeRow l next = record {
+  kind = asType l (λ k a b c. k) 0;
+  a = asType l (λ k a b c. a) 0;
+  b = asType l (λ k a b c. b) 0;
+  c = asType l (λ k a b c. c) 0;
+  next = next;
+}
+
+-- the T row at a position
+pub record TypeRowAt (s : Str) (at : ℕ) (r : TypeRow) : Type 0 where
+  pub row : r ≡ typeRow (lineAt (rows (drop at s))) (r .next)
+  pub next : rows (drop (r .next) s) ≡ restOf (rows (drop at s))
 
 -- how many types, scopes or bindings a line announces: a list one, a brand its scopes, a bind its bindings
 unfoldable pub owed : Line → ℕ
@@ -79,44 +94,6 @@ abbrev pub ScopeAt : ℕ → Sheet → Rows → Option Scope → Type 0
 ScopeAt left sheet [] o = o ≡ none
 ScopeAt left sheet (r ∷ rs) o = ScopeHere left sheet (r ∷ rs) o
 
--- ---- nodes
-
--- the names of the P rows that stand first
-unfoldable pub namesOf : Rows → List Str
-namesOf [] = []
-namesOf (r ∷ rs) = asParameter (lineOf r) (textOf r ∷ namesOf rs) []
-
--- the name with this number
-unfoldable pub nameAt : List Str → ℕ → Option Str
-nameAt [] k = none
-nameAt (p ∷ ps) zero = some p
-nameAt (p ∷ ps) (suc k) = nameAt ps k
-
--- the text at a position that was found
-abbrev pub textFound : Str → Found → Option Str
-textFound s (At at) = some (textAt (rows (drop at s)))
-textFound s Nothing = none
-
--- the parent that an N row names
-abbrev pub parentAt : Rows → ℕ
-parentAt rs = asNode (lineAt rs) (λ i p s t g c o. p) 0
-
--- a node's N row comes first, and its P rows after it
-pub record NodeHere (rs : Rows) (n : Node) : Type 0 where
-  pub line : lineAt rs ≡ line.Node (n .id) (n .parent) (n .scope) (n .isStruct) (n .generic) (n .tagCount) (n .tagOffset)
-  pub theMod : textAt rs ≡ n .theMod
-  pub params : namesOf (restOf rs) ≡ n .params
-
--- a sheet by its root and its nodes
-abbrev pub sheetOf : Str → List Node → Sheet
-sheetOf root ns = record { root = root; nodes = ns }
-
--- the position in the index of an id
-unfoldable pub lookup : ℕ → List ℕ → List ℕ → Found
-lookup id [] ats = Nothing
-lookup id (i ∷ ids) [] = Nothing
-lookup id (i ∷ ids) (a ∷ ats) = cond (eqb i id) (At a) (lookup id ids ats)
-
 -- ---- the chain of a node's parents
 
 -- how a chain ends: after a node without a parent, or with a refusal
@@ -132,18 +109,25 @@ before root s scopes (i ∷ is) (p ∷ ps) o =
     argumentsOf root (namesOf (rows (drop p s))) (scopeOf i scopes) then λ arguments.
     before root s scopes is ps o then λ outer. ok (arguments ∷ outer)
 
--- the names of the parameters of the node with an id
-unfoldable pub namesFor : List Node → ℕ → Out (List Str)
-namesFor ns id = nodeOf ns id then λ n. ok (n .params)
+-- the next node of a chain that has these ids, or its refusal
+abbrev pub orFive : Found → Step
+orFive (found.At n) = step.Node n
+orFive found.Nothing = step.Refused 5
 
--- a chain of at most 16 nodes has the nodes that `accumulate` visits, and its refusal, whatever the scopes of the brand are
-pub record ChainOf (s ids ats : List ℕ) (id : ℕ) (c : Links) : Type 0 where
+abbrev pub stepOf : List ℕ → List ℕ → ℕ → Step
+stepOf index ids id = cond (read.among id ids) (step.Refused 4) (orFive (lookup index id))
+
+-- a chain of at most 16 nodes, none of them twice, has the nodes that `accumulate` visits, and its refusal, whatever the scopes
+-- of the brand are; and how many parameters each node has
+pub record ChainOf (s index : List ℕ) (id : ℕ) (c : Links) : Type 0 where
   pub few : c .count ≤ 16
   pub ids-size : length (c .ids) ≡ 16
   pub params-size : length (c .params) ≡ 16
-  pub each : (ns : List Node) → Indexed s ns ids ats → (k : ℕ) → k < c .count
-      → namesFor ns (getD (c .ids) k 0) ≡ ok (namesOf (rows (drop (getD (c .params) k 0) s)))
-  pub all : (root : Str) (ns : List Node) → Indexed s ns ids ats → (scopes : List (ℕ × Scope))
+  pub counts-size : length (c .counts) ≡ 16
+  pub once : (j k : ℕ) → j < k → k < c .count → getD (c .ids) j 0 ≡ getD (c .ids) k 0 → ⊥
+  pub each : (ns : List Node) → Indexed s ns index → (k : ℕ) → k < c .count
+      → getD (c .counts) k 0 ≡ length (namesOf (rows (drop (getD (c .params) k 0) s)))
+  pub all : (root : Str) (ns : List Node) → Indexed s ns index → (scopes : List (ℕ × Scope))
       → accumulate (sheetOf root ns) scopes 16 id
       ≡ before root s scopes (take (c .count) (c .ids)) (take (c .count) (c .params)) (endOf (c .refusal))
 

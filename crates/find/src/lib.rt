@@ -1,136 +1,54 @@
-// Where things stand in a sheet, by position: a node by its id, the scope of a brand that counts, a node's parameters, and what
-// follows a type or a scope. Positions past the end, or of other rows, have an answer too.
+// Where things stand in a sheet, by position: what follows a type or a scope, the chain of a node's parents, and the scopes of a
+// brand that count. Positions past the end, or of other rows, have an answer too.
 use codegen_types::Refusal;
+use nodes::Entry;
+use nodes::Found;
 use row::Line;
-ghost use mathlib.Core.Bool.{true, false};
-ghost use mathlib.Core.Option.{none};
 ghost use mathlib.Core.Path.{_≡_};
-ghost use lib.Dec.{eqb};
 ghost use lib.ListN.{drop, length};
-ghost use Rattle.row.specs.Line.{asParameter};
-ghost use Rattle.row.specs.Rows.{rows, restOf};
+ghost use Rattle.text.specs.Bytes.{Str};
+ghost use Rattle.row.specs.Rows.{rows};
 ghost use Rattle.tree.specs.Read.{among};
-ghost use Rattle.find.specs.Find.{kindAt, owed, pastRows, lastScope, rowsFound};
-ghost use Rattle.find.specs.Find.{namesOf, nameAt, textFound, parentAt, lookup, ChainOf, Placed, Noted};
+ghost use Rattle.find.specs.Find.{typeRow, TypeRowAt, kindAt, owed, pastRows, stepOf, ChainOf, Placed, Noted};
 
-// A position in the sheet, or none.
-pub enum Found {
-    At(usize),
-    Nothing,
+// What a T row says of a type: its numbers, and where what belongs to it begins.
+pub struct TypeRow {
+    pub kind: u64,
+    pub a: u64,
+    pub b: u64,
+    pub c: u64,
+    pub next: usize,
 }
 
-// The position of the node with this id, from the index: the nodes' ids and their positions.
-pub fn node(ids: &[u64], ats: &[usize], id: u64) -> Found
-    ensures { λ r. ⌜ r ≡ lookup id (now (ids .entry)) (now (ats .entry)) ⌝ }
+// What a line says as a T row, with where the next row begins. Of another line the numbers are 0.
+pub fn as_type(line: Line, next: usize) -> TypeRow
+    ensures { λ r. ⌜ r ≡ typeRow line next ⌝ }
 {
-    let mut i = 0;
-    while i < ids.len() {
-        if ats.len() <= i {
-            return Found::Nothing;
-        }
-        if ids[i] == id {
-            return Found::At(ats[i]);
-        }
-        i += 1;
+    let Line::Typ { kind, a, b, c } = line else {
+        return TypeRow {
+            kind: 0,
+            a: 0,
+            b: 0,
+            c: 0,
+            next,
+        };
+    };
+    TypeRow {
+        kind,
+        a,
+        b,
+        c,
+        next,
     }
-    Found::Nothing
 }
 
-// Whether an id is one of these.
-pub fn among(ids: &[u64], id: u64) -> bool
-    ensures { λ r. ⌜ r ≡ among id (now (ids .entry)) ⌝ }
-{
-    let mut i = 0;
-    while i < ids.len() {
-        if ids[i] == id {
-            return true;
-        }
-        i += 1;
-    }
-    false
-}
-
-// What an N row says of a node: its parent, and where its P rows begin.
-pub struct NodeRow {
-    pub parent: u64,
-    pub params: usize,
-}
-
-// The N row at a position. Of another row the parent is 0.
-pub fn node_row(s: &[u8], at: usize) -> NodeRow
-    ensures { λ r. ⌜ (r .parent ≡ parentAt (rows (drop at (now (s .entry))))) ×
-        (rows (drop (r .params) (now (s .entry))) ≡ restOf (rows (drop at (now (s .entry))))) ⌝ }
+// The T row at a position.
+pub fn type_row(s: &[u8], at: usize) -> TypeRow
+    ensures { λ r. ⌜ TypeRowAt (now (s .entry)) at r ⌝ }
 {
     let g = row::next(s, at);
     let line = g.line;
-    match line {
-        Line::Node {
-            id: _,
-            parent,
-            scope: _,
-            is_struct: _,
-            generic: _,
-            tag_count: _,
-            tag_offset: _,
-        } => NodeRow {
-            parent,
-            params: g.next,
-        },
-        _ => NodeRow {
-            parent: 0,
-            params: g.next,
-        },
-    }
-}
-
-// Whether a row is a P row.
-pub fn is_parameter(line: Line) -> bool
-    ensures { λ r. ⌜ r ≡ asParameter line true false ⌝ }
-{
-    match line {
-        Line::Parameter => true,
-        _ => false,
-    }
-}
-
-// Whether there are so many parameters from a position on.
-pub fn count_is(s: &[u8], from: usize, count: u64) -> bool
-    ensures { λ r. ⌜ r ≡ eqb count (length (namesOf (rows (drop from (now (s .entry)))))) ⌝ }
-{
-    let mut at = from;
-    let mut n = count;
-    while 0 < n {
-        let g = row::next(s, at);
-        let line = g.line;
-        if !is_parameter(line) {
-            return false;
-        }
-        at = g.next;
-        n -= 1;
-    }
-    let g = row::next(s, at);
-    let line = g.line;
-    !is_parameter(line)
-}
-
-// The position of the parameter with this number, counted from 0.
-pub fn parameter(s: &[u8], from: usize, index: u64) -> Found
-    ensures { λ r. ⌜ textFound (now (s .entry)) r ≡ nameAt (namesOf (rows (drop from (now (s .entry))))) index ⌝ }
-{
-    let mut at = from;
-    let mut n = index;
-    loop {
-        let g = row::next(s, at);
-        let line = g.line;
-        if !is_parameter(line) {
-            return Found::Nothing;
-        }
-        if n == 0 {
-            return Found::At(at);
-        }
-        at = g.next;
-        n -= 1;
-    }
+    as_type(line, g.next)
 }
 
 // The kind of the type at a position; no T row has one above 18.
@@ -148,11 +66,15 @@ pub fn kind(s: &[u8], at: usize) -> u64
     else {
         return 0;
     };
-    if kind < 18 { kind } else { 18 }
+    if kind < codegen_types::ANY_POINTER {
+        kind
+    } else {
+        codegen_types::ANY_POINTER
+    }
 }
 
 // How many types, scopes or bindings follow a row that belong to it.
-pub fn owed(line: Line) -> u64
+fn owed(line: Line) -> u64
     ensures { λ r. ⌜ r ≡ owed line ⌝ }
 {
     match line {
@@ -162,13 +84,13 @@ pub fn owed(line: Line) -> u64
             b,
             c: _,
         } => {
-            if kind < 14 {
+            if kind < codegen_types::LIST {
                 return 0;
             }
-            if kind == 14 {
+            if kind == codegen_types::LIST {
                 return 1;
             }
-            if kind < 18 {
+            if kind < codegen_types::ANY_POINTER {
                 return b;
             }
             0
@@ -183,7 +105,7 @@ pub fn owed(line: Line) -> u64
     }
 }
 
-// The position after so many types, scopes or bindings.
+// The position after so many types, scopes or bindings. A run of U rows is passed over at once.
 pub fn past(s: &[u8], from: usize, count: u64) -> usize
     ensures { λ r. ⌜ rows (drop r (now (s .entry))) ≡ pastRows (rows (drop from (now (s .entry)))) count ⌝ }
 {
@@ -191,6 +113,12 @@ pub fn past(s: &[u8], from: usize, count: u64) -> usize
     let mut n = count;
     while 0 < n {
         if s.len() <= at {
+            return at;
+        }
+        let run = row::unbound_run(s, at, n);
+        at += 2 * run as usize;
+        n -= run;
+        if n == 0 {
             return at;
         }
         let g = row::next(s, at);
@@ -205,79 +133,93 @@ pub fn past(s: &[u8], from: usize, count: u64) -> usize
     at
 }
 
-// The position of the last of so many scopes that has this id. What belongs to the last of them need not be passed over.
-pub fn scope(s: &[u8], from: usize, count: u64, id: u64) -> Found
-    ensures { λ r. ⌜ rowsFound (now (s .entry)) r ≡ lastScope id count (rows (drop from (now (s .entry)))) none ⌝ }
-{
-    let mut at = from;
-    let mut n = count;
-    let mut found = Found::Nothing;
-    while 0 < n {
-        let g = row::next(s, at);
-        let line = g.line;
-        let Line::Scope {
-            id: i,
-            bind: _,
-            count: _,
-        } = line
-        else {
-            return found;
-        };
-        if i == id {
-            found = Found::At(at);
-        }
-        if n == 1 {
-            return found;
-        }
-        at = past(s, g.next, owed(line));
-        n -= 1;
-    }
-    found
-}
-
-// The chain of a node's parents, innermost first: the ids of its nodes, where their P rows begin, and the refusal at its end.
+// The chain of a node's parents, innermost first: the ids of its nodes, where their P rows begin, how many these are, and the
+// refusal at its end.
 pub struct Links {
     pub ids: [u64; 16],
     pub params: [usize; 16],
+    pub counts: [u64; 16],
     pub count: usize,
     pub refusal: Refusal,
 }
 
-// The chain of parents from a node on: 4 after 16 nodes, 5 at a node that is not there.
-pub fn chain(s: &[u8], ids: &[u64], ats: &[usize], id: u64) -> Links
-    ensures { λ r. ⌜ ChainOf (now (s .entry)) (now (ids .entry)) (now (ats .entry)) id r ⌝ }
+// The next node of a chain, or the number of the chain's refusal.
+enum Step {
+    Node(Entry),
+    Refused(u8),
+}
+
+// Whether an id is one of these.
+fn among(ids: &[u64], id: u64) -> bool
+    ensures { λ r. ⌜ r ≡ among id (now (ids .entry)) ⌝ }
 {
-    let mut nodes = [0u64; 16];
-    let mut params = [0usize; 16];
-    let mut k: usize = 0;
-    let mut current = id;
-    while k < 16 {
-        let Found::At(at) = node(ids, ats, current) else {
-            return Links {
-                ids: nodes,
-                params,
-                count: k,
-                refusal: Refusal::Number(5),
-            };
-        };
-        let row = node_row(s, at);
-        nodes[k] = current;
-        params[k] = row.params;
-        k += 1;
-        if row.parent == 0 {
-            return Links {
-                ids: nodes,
-                params,
-                count: k,
-                refusal: Refusal::None,
-            };
+    let mut i = 0;
+    while i < ids.len() {
+        if ids[i] == id {
+            return true;
         }
-        current = row.parent;
+        i += 1;
+    }
+    false
+}
+
+// The node with an id, for a chain that has these ids: 4 where it is one of them, since then the chain has no end; 5 where it is
+// not there.
+fn climb(index: &[u64], ids: &[u64], id: u64) -> Step
+    ensures { λ r. ⌜ r ≡ stepOf (now (index .entry)) (now (ids .entry)) id ⌝ }
+{
+    if among(ids, id) {
+        return Step::Refused(4);
+    }
+    match nodes::find(index, id) {
+        Found::At(node) => Step::Node(node),
+        Found::Nothing => Step::Refused(5),
+    }
+}
+
+// The chain of parents from a node on: 4 after 16 nodes.
+pub fn chain(index: &[u64], id: u64) -> Links
+    ensures { λ r. ⌜ ((s : Str) → ChainOf s (now (index .entry)) id r) ⌝ }
+{
+    let mut ids = [0u64; 16];
+    let mut params = [0usize; 16];
+    let mut counts = [0u64; 16];
+    let mut count: usize = 0;
+    let mut current = id;
+    while count < 16 {
+        match climb(index, &ids[..count], current) {
+            Step::Refused(number) => {
+                return Links {
+                    ids,
+                    params,
+                    counts,
+                    count,
+                    refusal: Refusal::Number(number),
+                };
+            }
+            Step::Node(node) => {
+                ids[count] = current;
+                params[count] = node.params;
+                counts[count] = node.count;
+                count += 1;
+                if node.parent == 0 {
+                    return Links {
+                        ids,
+                        params,
+                        counts,
+                        count,
+                        refusal: Refusal::None,
+                    };
+                }
+                current = node.parent;
+            }
+        }
     }
     Links {
-        ids: nodes,
+        ids,
         params,
-        count: k,
+        counts,
+        count,
         refusal: Refusal::Number(4),
     }
 }

@@ -1,3 +1,3 @@
-pub mod Laws
+pub mod RefusalLaws
 pub mod ResultLaws
 pub mod TextLaws

@@ -1,5 +1,6 @@
--- The result type of a getter, by the kind of its slot. Assumes nothing.
-use mathlib.Core.Path.{_≡_, refl, sym, ap, _∙_}
+-- The result type of a getter, by the kind of its slot: one equation of outcomes for each arm of the code, then the arm's text
+-- behind the arrow. Assumes nothing.
+use mathlib.Core.Path.{_≡_, refl, sym, ap, _∙_, subst}
 use mathlib.Core.Bool.{Bool, true, false, not}
 use mathlib.Core.List.{List, [], _∷_, _++_, append-assoc}
 use Prim.Native.Nat.{ℕ, zero, suc, _<_, _≤_}
@@ -7,103 +8,94 @@ use native.Mathlib.Omega.{arith}
 use borrow.Author.Tests.{eq-eqb, ne-eqb, eqb-true, le-leb, lt-leb}
 use lib.Dec.{eqb}
 use lib.ListN.{getD, drop}
-use mathlib.Core.Logic.{_⊎_, inl, inr, ⊎-elim}
 use Rattle.text.specs.Bytes.{Str, ascii, cond, both, same}
 use Rattle.text.specs.Text.{Wrote}
 use Rattle.text.specs.declared.Text.{Text}
 use Rattle.text.proofs.Laws.{_⨾_}
 use Rattle.tree.specs.Tree as tree
 use Rattle.tree.specs.Tree.{Ty, plain, list, enum, struct, interface, anyPointer, parameter, kind, Scopes, Sheet}
+use Rattle.row.specs.Rows.{rows}
+use Rattle.tree.specs.Read.{typeOf}
 use Rattle.tree.specs.Reader.{Reading}
-use Rattle.codegen_types.specs.Out.{Out, ok, refused, _then_}
+use Rattle.tree.specs.Index.{On}
+use Rattle.codegen_types.specs.Out.{Out, ok, refused, _then_, refusalOf}
 use Rattle.codegen_types.specs.Leaf.{display}
 use Rattle.codegen_types.specs.TypeString.{typeString, getQualifiedModule, primitives, isPointer}
+use Rattle.codegen_types.specs.Primitive.{primitiveText}
+use Rattle.codegen_types.specs.Written.{Writes}
 use Rattle.codegen_types.specs.declared.Leaf.{Leaf}
 use Rattle.codegen_types.specs.declared.Leaf.the-variants.{Client}
-use Rattle.find.specs.Find.{On, Has}
-use Rattle.find.proofs.Laws.{on-one}
-use Rattle.type_parts.specs.Parts.{Writes}
-use Rattle.slot.specs.Slot.{HasId, SlotIs}
-use Rattle.slot.specs.declared.Slot.{Slot}
-use Rattle.codegen_types.specs.Primitive.{primitiveText}
+use Rattle.codegen_types.specs.declared.Written.{Written}
+use Rattle.codegen_types.specs.declared.Refusal.the-variants.{None}
+use Rattle.codegen_types.proofs.Laws.{refusal-then}
+use Rattle.codegen_types.proofs.WrittenLaws.{whole, none, text-of, around}
+use Rattle.find.proofs.Laws.{on-one, on-has}
+use Rattle.field.specs.Slot.{HasId, SlotIs, SlotField, SlotHere}
+use Rattle.field.specs.declared.Slot.{Slot}
 use Rattle.codegen.specs.Getter.{moduleLeaf, isOptionField, optional, resultType, asFunction}
-use Rattle.find.proofs.Laws.{on-has}
-use Rattle.getter.specs.Result.{arrow, enumResult, fallibleResult, resultOut}
+use Rattle.getter.specs.Result.{arrow, enumResult, fallibleResult, yes, resultOut}
+use Rattle.getter.proofs.RefusalLaws.{client-same, refused-is}
 
 -- ---- texts that may be refused
-
--- `Writes` by name, so that its places are found
-pub record Told (o : Out Str) (l : List ℕ) (t : Text) (l′ : List ℕ) (t′ : Text) : Type 0 where
-  pub writes : Writes o l t l′ t′
-
-module _ {l : List ℕ} {t : Text} {l₁ : List ℕ} {t₁ : Text} {l₂ : List ℕ} {t₂ : Text} where
-  pub then-told : {a : Str} (f : Str → Str) (o : Out Str) → Wrote l t a l₁ t₁ → Told (o then λ w. ok (f w)) l₁ t₁ l₂ t₂
-      → Told (o then λ w. ok (a ++ f w)) l t l₂ t₂
-  then-told f (ok w) x y = record { writes = x ⨾ y .writes }
-  then-told f (refused k) x y = record { writes = tt }
-
-  pub told-then : {a : Str} (f : Str → Str) (o : Out Str) → Told (o then λ w. ok (f w)) l t l₁ t₁ → Wrote l₁ t₁ a l₂ t₂
-      → Told (o then λ w. ok (f w ++ a)) l t l₂ t₂
-  told-then f (ok w) x y = record { writes = x .writes ⨾ y }
-  told-then f (refused k) x y = record { writes = tt }
-
-module _ {l : List ℕ} {t : Text} {l′ : List ℕ} {t′ : Text} where
-  pub told-whole : (o : Out Str) → Writes o l t l′ t′ → Told (o then λ w. ok w) l t l′ t′
-  told-whole (ok w) x = record { writes = x }
-  told-whole (refused k) x = record { writes = tt }
-
-  pub retold : (f g : Str → Str) (o : Out Str) → ((w : Str) → f w ≡ g w) → Told (o then λ w. ok (f w)) l t l′ t′
-      → Told (o then λ w. ok (g w)) l t l′ t′
-  retold f g (ok w) e x = record { writes = rw (e w) at (x .writes) }
-  retold f g (refused k) e x = record { writes = tt }
-
-  told-twice : (f g : Str → Str) (o : Out Str) → Told (o then λ w. ok (g (f w))) l t l′ t′
-      → Told ((o then λ w. ok (f w)) then λ v. ok (g v)) l t l′ t′
-  told-twice f g (ok w) x = x
-  told-twice f g (refused k) x = record { writes = tt }
-
-  told-ext : (f g : Str → Out Str) (o : Out Str) → ((w : Str) → f w ≡ g w) → Told (o then f) l t l′ t′ → Told (o then g) l t l′ t′
-  told-ext f g (ok w) e x = rw (e w) at x
-  told-ext f g (refused k) e x = record { writes = tt }
-
--- the text of whatever type is read, in an option or between two texts
-module _ (g : Reading Ty) (sheet : Sheet) (leaf : Leaf) where
-  pub on-option : {l : List ℕ} {t : Text} {l₁ : List ℕ} {t₁ : Text} {l₂ : List ℕ} {t₂ : Text} {l₃ : List ℕ} {t₃ : Text}
-      → Wrote l t (ascii "Option<") l₁ t₁ → On g (λ ty. Writes (typeString ty sheet leaf) l₁ t₁ l₂ t₂)
-      → Wrote l₂ t₂ (ascii ">") l₃ t₃
-      → On g (λ ty. Writes (typeString ty sheet leaf then λ w. ok (optional true w)) l t l₃ t₃)
-  on-option {l} {t} {l₁} {t₁} {l₂} {t₂} {l₃} {t₃} a x b =
-      on-one (λ ty. Writes (typeString ty sheet leaf) l₁ t₁ l₂ t₂)
-      (λ ty. Writes (typeString ty sheet leaf then λ w. ok (optional true w)) l t l₃ t₃) g
-      (λ ty y. told-then (λ w. ascii "Option<" ++ w) (typeString ty sheet leaf)
-      (then-told (λ w. w) (typeString ty sheet leaf) a (told-whole (typeString ty sheet leaf) y)) b .writes) x
-
-  pub on-fallible : {l : List ℕ} {t : Text} {l₁ : List ℕ} {t₁ : Text} {l₂ : List ℕ} {t₂ : Text} {l₃ : List ℕ} {t₃ : Text}
-      (root : Str) (option : Bool)
-      → Wrote l t (root ++ ascii "::Result<") l₁ t₁
-      → On g (λ ty. Writes (typeString ty sheet leaf then λ w. ok (optional option w)) l₁ t₁ l₂ t₂)
-      → Wrote l₂ t₂ (ascii ">") l₃ t₃
-      → On g (λ ty. Writes (typeString ty sheet leaf then λ w. ok (fallibleResult root (optional option w))) l t l₃ t₃)
-  on-fallible {l} {t} {l₁} {t₁} {l₂} {t₂} {l₃} {t₃} root option a x b =
-      on-one (λ ty. Writes (typeString ty sheet leaf then λ w. ok (optional option w)) l₁ t₁ l₂ t₂)
-      (λ ty. Writes (typeString ty sheet leaf then λ w. ok (fallibleResult root (optional option w))) l t l₃ t₃) g
-      (λ ty y. told-then (λ w. root ++ ascii "::Result<" ++ optional option w) (typeString ty sheet leaf)
-      (then-told (optional option) (typeString ty sheet leaf) a (record { writes = y })) b .writes) x
-
--- a module in the result type of an enum
-pub enum-told :
-    {l : List ℕ} {t : Text} {l₁ : List ℕ} {t₁ : Text} {l₂ : List ℕ} {t₂ : Text} {l₃ : List ℕ} {t₃ : Text} {l₄ : List ℕ}
-    {t₄ : Text} {l₅ : List ℕ} {t₅ : Text} {root : Str} (o : Out Str) → Wrote l t (ascii "::core::result::Result<") l₁ t₁
-    → Writes o l₁ t₁ l₂ t₂
-    → Wrote l₂ t₂ (ascii ",") l₃ t₃ → Wrote l₃ t₃ root l₄ t₄ → Wrote l₄ t₄ (ascii "::NotInSchema>") l₅ t₅
-    → Told (o then λ typ. ok (enumResult root typ)) l t l₅ t₅
-enum-told (ok w) a x b c d = record { writes = a ⨾ x ⨾ b ⨾ c ⨾ d }
-enum-told (refused k) a x b c d = record { writes = tt }
 
 -- a text that is given as it is
 pub then-ok : (o : Out Str) → (o then λ w. ok w) ≡ o
 then-ok (ok w) = refl
 then-ok (refused k) = refl
+
+-- outcomes of which the same is made
+then-same : (o : Out Str) (f g : Str → Out Str) → ((w : Str) → f w ≡ g w) → (o then f) ≡ (o then g)
+then-same (ok w) f g e = e w
+then-same (refused k) f g e = refl
+
+then-twice : (o : Out Str) (f g h : Str → Str) → ((w : Str) → g (f w) ≡ h w)
+    → ((o then λ w. ok (f w)) then λ v. ok (g v)) ≡ (o then λ w. ok (h w))
+then-twice (ok w) f g h e = ap ok (e w)
+then-twice (refused k) f g h e = refl
+
+-- an outcome after one that is refused alike
+after-alike : (o p : Out Str) → refusalOf o ≡ refusalOf p → (o then λ w. p) ≡ p
+after-alike (ok w) p e = refl
+after-alike (refused k) p e = sym (refused-is p k (sym e))
+
+-- bytes in front of what is made of a text, and behind it
+front : {a : Str} {l l₁ l₂ : List ℕ} {t t₁ : Text} {r : Written} (f : Str → Str) (o : Out Str) → Wrote l t a l₁ t₁
+    → Writes (o then λ w. ok (f w)) l₁ t₁ l₂ r → Writes (o then λ w. ok (a ++ f w)) l t l₂ r
+front f (ok w) x y = whole (x ⨾ text-of y) (y .refusal)
+front f (refused k) x y = none (y .refusal)
+
+between : {a b : Str} {l l₁ l₂ l₃ : List ℕ} {t t₁ t₃ : Text} {r q : Written} (f : Str → Str) (o : Out Str) → Wrote l t a l₁ t₁
+    → Writes (o then λ w. ok (f w)) l₁ t₁ l₂ r → Wrote l₂ (r .text) b l₃ t₃ → q .text ≡ t₃ → q .refusal ≡ r .refusal
+    → Writes (o then λ w. ok (a ++ f w ++ b)) l t l₃ q
+between f (ok w) x y z e n = around (ok (f w)) x y z e n
+between f (refused k) x y z e n = around (refused k) x y z e n
+
+-- the text of whatever type is read, in an option or between two texts
+module _ (g : Reading Ty) (sheet : Sheet) (leaf : Leaf) {l l₁ l₂ l₃ : List ℕ} {t t₁ t₃ : Text} {r : Written} (q : Written) where
+  pub on-option : Wrote l t (ascii "Option<") l₁ t₁ → On g (λ ty. Writes (typeString ty sheet leaf) l₁ t₁ l₂ r)
+      → Wrote l₂ (r .text) (ascii ">") l₃ t₃ → q .text ≡ t₃ → q .refusal ≡ r .refusal
+      → On g (λ ty. Writes (typeString ty sheet leaf then λ w. ok (optional true w)) l t l₃ q)
+  on-option a x b e n =
+      on-one (λ ty. Writes (typeString ty sheet leaf) l₁ t₁ l₂ r)
+      (λ ty. Writes (typeString ty sheet leaf then λ w. ok (optional true w)) l t l₃ q) g
+      (λ ty y. around (typeString ty sheet leaf) a y b e n) x
+
+  pub on-fallible : (root : Str) (option : Bool) → Wrote l t (root ++ ascii "::Result<") l₁ t₁
+      → On g (λ ty. Writes (typeString ty sheet leaf then λ w. ok (optional option w)) l₁ t₁ l₂ r)
+      → Wrote l₂ (r .text) (ascii ">") l₃ t₃ → q .text ≡ t₃ → q .refusal ≡ r .refusal
+      → On g (λ ty. Writes (typeString ty sheet leaf then λ w. ok (fallibleResult root (optional option w))) l t l₃ q)
+  on-fallible root option a x b e n =
+      on-one (λ ty. Writes (typeString ty sheet leaf then λ w. ok (optional option w)) l₁ t₁ l₂ r)
+      (λ ty. Writes (typeString ty sheet leaf then λ w. ok (fallibleResult root (optional option w))) l t l₃ q) g
+      (λ ty y. between (optional option) (typeString ty sheet leaf) a y b e n) x
+
+-- a module in the result type of an enum
+pub enum-told : {l l₁ l₂ l₃ l₄ l₅ : List ℕ} {t t₁ t₃ t₄ : Text} {r : Written} {root : Str} (q : Written) (o : Out Str)
+    → Wrote l t (ascii "::core::result::Result<") l₁ t₁ → Writes o l₁ t₁ l₂ r → Wrote l₂ (r .text) (ascii ",") l₃ t₃
+    → Wrote l₃ t₃ root l₄ t₄ → Wrote l₄ t₄ (ascii "::NotInSchema>") l₅ (q .text) → q .refusal ≡ r .refusal
+    → Writes (o then λ typ. ok (enumResult root typ)) l t l₅ q
+enum-told q (ok w) a x b c d n = whole (a ⨾ text-of x ⨾ b ⨾ c ⨾ d) (n ∙ x .refusal)
+enum-told q (refused k) a x b c d n = none (n ∙ x .refusal)
 
 -- ---- functions
 
@@ -157,58 +149,47 @@ unfolding apart same
 prim-arrow isFn zero h = absurd (h refl)
 prim-arrow isFn (suc k) h = fn-arrow isFn (primitiveText (suc k)) (prim-apart (drop 1 primitives) refl k)
 
+-- no result type of a pointer is ()
+fallible-arrow : (isFn : Bool) (root typ : Str) → arrow isFn ++ fallibleResult root typ
+    ≡ asFunction isFn (fallibleResult root typ)
+fallible-arrow isFn root typ =
+    fn-arrow isFn (fallibleResult root typ)
+    (rw (append-assoc (root ++ ascii "::Result<") typ (ascii ">"), append-assoc root (ascii "::Result<") (typ ++ ascii ">"))
+    (not-unit root (ascii ":Result<" ++ (typ ++ ascii ">"))))
+
+optional-arrow : (isFn option : Bool) (typ : Str) → same typ (ascii "()") ≡ false
+    → arrow isFn ++ optional option typ ≡ asFunction isFn (optional option typ)
+unfolding same
+optional-arrow isFn true typ e = fn-arrow isFn (optional true typ) refl
+optional-arrow isFn false typ e = fn-arrow isFn typ e
+
 -- ---- the slot's option
 
-pub option-either : (s : tree.Slot) → (isOptionField s ≡ refused 9) ⊎ (isOptionField s ≡ ok (cond (eqb (s .option) 0) false true))
-option-either s = go (eqb (s .option) 0) (both (isPointer (s .ty)) (cond (eqb (kind (s .ty)) 17) false true))
-  where
-    go : (none fits : Bool)
-        → (cond none (ok false) (cond fits (ok true) (refused 9)) ≡ refused 9)
-        ⊎ (cond none (ok false) (cond fits (ok true) (refused 9)) ≡ ok (cond none false true))
-    go true fits = inr refl
-    go false true = inr refl
-    go false false = inl refl
+-- whether a slot of this type may have one
+abbrev mayHave : Ty → Bool
+mayHave t = both (isPointer t) (cond (eqb (kind t) 17) false true)
 
 -- an option that cannot be is not there
-no-option : (s : tree.Slot) → both (isPointer (s .ty)) (cond (eqb (kind (s .ty)) 17) false true) ≡ false
-    → isOptionField s ≡ ok (cond (eqb (s .option) 0) false true) → cond (eqb (s .option) 0) false true ≡ false
-no-option s e = go (eqb (s .option) 0) (both (isPointer (s .ty)) (cond (eqb (kind (s .ty)) 17) false true)) e
+no-option : (s : tree.Slot) → mayHave (s .ty) ≡ false → yes (isOptionField s) ≡ false
+no-option s e = go (eqb (s .option) 0) (mayHave (s .ty)) e
   where
-    go : (none fits : Bool) → fits ≡ false → cond none (ok false) (cond fits (ok true) (refused 9)) ≡ ok (cond none false true)
-        → cond none false true ≡ false
-    go true fits f g = refl
-    go false true f g = f
-    go false false f g = let z : _≡_ {A = ℕ} 0 1 = cc in let w : ⊥ = omega arith in absurd w
+    go : (absent fits : Bool) → fits ≡ false → yes (cond absent (ok false) (cond fits (ok true) (refused 9))) ≡ false
+    go true fits f = refl
+    go false true f = f
+    go false false f = refl
 
--- the result type of a type, in an option or not
-resultOf : Sheet → Ty → Leaf → Bool → Bool → Out Str
-resultOf sheet t leaf option isFn =
-    typeString t sheet leaf then λ inner. resultType sheet t (optional option inner) then λ result. ok (asFunction isFn result)
-
--- with the slot's option, where that is not refused
-result-from : {l : List ℕ} {t : Text} {l′ : List ℕ} {t′ : Text} (sheet : Sheet) (s : tree.Slot) (isReader isFn : Bool)
-    → (isOptionField s ≡ ok (cond (eqb (s .option) 0) false true)
-    → Told (resultOf sheet (s .ty) (moduleLeaf isReader) (cond (eqb (s .option) 0) false true) isFn) l t l′ t′)
-    → Told (resultOut sheet s isReader isFn) l t l′ t′
-unfolding resultOf
-result-from {l} {t} {l′} {t′} sheet s isReader isFn f = ⊎-elim bad (λ e. record { writes = rw e (f e .writes) }) (option-either s)
+-- one that can be is as the slot says
+has-option : (s : tree.Slot) (r : Slot) → SlotIs r s → mayHave (s .ty) ≡ true
+    → yes (isOptionField s) ≡ not (eqb (r .option) 0)
+has-option s r is e = rw (is .option) (go (eqb (r .option) 0) (mayHave (s .ty)) e)
   where
-    nine : Out Bool
-    nine = refused 9
+    go : (absent fits : Bool) → fits ≡ true → yes (cond absent (ok false) (cond fits (ok true) (refused 9))) ≡ not absent
+    go true fits f = refl
+    go false true f = refl
+    go false false f = f
 
-    none : (o : Out Str)
-        → Writes (o then λ inner. nine then λ b. resultType sheet (s .ty) (optional b inner) then λ result. ok
-        (asFunction isFn result))
-        l t l′ t′
-    none (ok w) = tt
-    none (refused k) = tt
+-- ---- the type of a slot by its kind
 
-    bad : isOptionField s ≡ refused 9 → Told (resultOut sheet s isReader isFn) l t l′ t′
-    bad e = record { writes = rw e (none (typeString (s .ty) sheet (moduleLeaf isReader))) }
-
--- ---- the arms
-
--- the type of a slot by its kind
 plain-is : (t : Ty) (a k : ℕ) → HasId t a → kind t ≡ k → k ≤ 11 → t ≡ plain k
 plain-is (plain j) a k h e le = ap plain e
 plain-is (list t) a k h e le = let z : ⊥ = omega arith in absurd z
@@ -236,6 +217,16 @@ at-enum P (interface i ss) a h e p = let z : ⊥ = omega arith in absurd z
 at-enum P anyPointer a h e p = let z : ⊥ = omega arith in absurd z
 at-enum P (parameter i k) a h e p = let z : ⊥ = omega arith in absurd z
 
+pub at-interface : (P : Ty → Type 0) (t : Ty) (a : ℕ) → HasId t a → kind t ≡ 17
+    → ((i : ℕ) (ss : Scopes) → P (interface i ss)) → P t
+at-interface P (plain k) a h e p = let z : ⊥ = omega arith in absurd z
+at-interface P (list t) a h e p = let z : ⊥ = omega arith in absurd z
+at-interface P (enum i ss) a h e p = let z : ⊥ = omega arith in absurd z
+at-interface P (struct i ss) a h e p = let z : ⊥ = omega arith in absurd z
+at-interface P (interface i ss) a h e p = p i ss
+at-interface P anyPointer a h e p = let z : ⊥ = omega arith in absurd z
+at-interface P (parameter i k) a h e p = let z : ⊥ = omega arith in absurd z
+
 pub at-any : (P : Ty → Type 0) (t : Ty) (a : ℕ) → HasId t a → kind t ≡ 18 → a ≡ 0 → P anyPointer → P t
 at-any P (plain k) a h e z p = let w : ⊥ = omega arith in absurd w
 at-any P (list t) a h e z p = let w : ⊥ = omega arith in absurd w
@@ -245,12 +236,7 @@ at-any P (interface i ss) a h e z p = let w : ⊥ = omega arith in absurd w
 at-any P anyPointer a h e z p = p
 at-any P (parameter i k) a h e z p = absurd (h z)
 
--- the result type of an interface
-client-result : (sheet : Sheet) (t : Ty) (typ : Str) → kind t ≡ 17
-    → resultType sheet t typ ≡ (typeString t sheet Client then λ client. ok (fallibleResult (sheet .root) client))
-client-result sheet t typ e = rw e refl
-
--- of every other pointer
+-- the result type of every pointer that can fail but an interface
 fails-result : (sheet : Sheet) (t : Ty) (a : ℕ) (typ : Str) → HasId t a → 11 < kind t → (kind t ≡ 15 → ⊥) → (kind t ≡ 17 → ⊥)
     → (kind t ≡ 18 → a ≡ 0 → ⊥)
     → resultType sheet t typ ≡ ok (fallibleResult (sheet .root) typ)
@@ -263,99 +249,80 @@ fails-result sheet (interface i ss) a typ h lo n15 n17 any = absurd (n17 refl)
 fails-result sheet anyPointer a typ h lo n15 n17 any = absurd (any refl h)
 fails-result sheet (parameter i k) a typ h lo n15 n17 any = refl
 
--- no result type of a pointer is ()
-fallible-arrow : (isFn : Bool) (root typ : Str) → arrow isFn ++ fallibleResult root typ
-    ≡ asFunction isFn (fallibleResult root typ)
-fallible-arrow isFn root typ =
-    fn-arrow isFn (fallibleResult root typ)
-    (rw (append-assoc (root ++ ascii "::Result<") typ (ascii ">"), append-assoc root (ascii "::Result<") (typ ++ ascii ">"))
-    (not-unit root (ascii ":Result<" ++ (typ ++ ascii ">"))))
+-- ---- the arms
 
-optional-arrow : (isFn option : Bool) (typ : Str) → same typ (ascii "()") ≡ false
-    → arrow isFn ++ optional option typ ≡ asFunction isFn (optional option typ)
-unfolding same
-optional-arrow isFn true typ e = fn-arrow isFn (optional true typ) refl
-optional-arrow isFn false typ e = fn-arrow isFn typ e
+-- the result type of a type, in an option or not
+resultOf : Sheet → Ty → Leaf → Bool → Bool → Out Str
+resultOf sheet t leaf option isFn =
+    typeString t sheet leaf then λ inner. resultType sheet t (optional option inner) then λ result. ok (asFunction isFn result)
 
-module _ {l : List ℕ} {t : Text} {l′ : List ℕ} {t′ : Text}
-    (sheet : Sheet) (s : tree.Slot) (isReader isFn : Bool) (r : Slot) (is : SlotIs r s) where
-  pub result-prim : r .kind ≤ 11 → Wrote l t (asFunction isFn (primitiveText (r .kind))) l′ t′
-      → Told (resultOut sheet s isReader isFn) l t l′ t′
+module _ (sheet : Sheet) (s : tree.Slot) (isReader isFn : Bool) (r : Slot) (is : SlotIs r s) where
+  with-option : (option : Bool) → yes (isOptionField s) ≡ option
+      → resultOut sheet s isReader isFn ≡ resultOf sheet (s .ty) (moduleLeaf isReader) option isFn
   unfolding resultOf
-  result-prim le w =
-      result-from sheet s isReader isFn
-      (λ e. record {
-        writes = rw (no-option s (rw (is .kind, lt-leb 12 (r .kind) (omega arith)) refl) e)
-            (here (s .ty) (is .id) (is .kind));
-      })
-    where
-      here : (ty : Ty) → HasId ty (r .id) → kind ty ≡ r .kind
-          → Writes (resultOf sheet ty (moduleLeaf isReader) false isFn) l t l′ t′
-      here ty h e =
-          at-plain (λ ty. Writes (resultOf sheet ty (moduleLeaf isReader) false isFn) l t l′ t′) ty (r .id) (r .kind) h e le
-          (rw (
-            prim-text sheet (moduleLeaf isReader) (r .kind) le,
-            ne-eqb (r .kind) 15 (λ z. let q : ⊥ = omega arith in absurd q),
-            ne-eqb (r .kind) 17 (λ z. let q : ⊥ = omega arith in absurd q),
-            ne-eqb (r .kind) 18 (λ z. let q : ⊥ = omega arith in absurd q),
-            le-leb (r .kind) 11 le,
-          ) w)
+  with-option option e = rw e refl
 
-  pub result-enum : {l₁ : List ℕ} {t₁ : Text} → r .kind ≡ 15 → Wrote l t (arrow isFn) l₁ t₁
-      → Writes (getQualifiedModule sheet (r .id) then λ typ. ok (enumResult (sheet .root) typ)) l₁ t₁ l′ t′
-      → Told (resultOut sheet s isReader isFn) l t l′ t′
+  prim-out : r .kind ≤ 11 → resultOut sheet s isReader isFn ≡ ok (asFunction isFn (primitiveText (r .kind)))
+  unfolding resultOf
+  prim-out le =
+      with-option false (no-option s (rw (is .kind, lt-leb 12 (r .kind) (omega arith)) refl))
+      ∙ at-plain (λ ty. resultOf sheet ty (moduleLeaf isReader) false isFn ≡ ok (asFunction isFn (primitiveText (r .kind))))
+      (s .ty) (r .id) (r .kind) (is .id) (is .kind) le
+      (rw (
+        prim-text sheet (moduleLeaf isReader) (r .kind) le,
+        ne-eqb (r .kind) 15 (λ z. let q : ⊥ = omega arith in absurd q),
+        ne-eqb (r .kind) 17 (λ z. let q : ⊥ = omega arith in absurd q),
+        ne-eqb (r .kind) 18 (λ z. let q : ⊥ = omega arith in absurd q),
+        le-leb (r .kind) 11 le,
+      ) refl)
+
+  enum-out : r .kind ≡ 15 → resultOut sheet s isReader isFn
+      ≡ (getQualifiedModule sheet (r .id) then λ m. ok (arrow isFn ++ enumResult (sheet .root) m))
   unfolding resultOf typeString same
-  result-enum k w x =
-      result-from sheet s isReader isFn
-      (λ e. record {
-        writes = rw (no-option s (rw (is .kind ∙ k) refl) e)
-            (at-enum (λ ty. Writes (resultOf sheet ty (moduleLeaf isReader) false isFn) l t l′ t′) (s .ty) (r .id) (is .id)
-            (is .kind ∙ k) (λ ss. told .writes));
-      })
-    where
-      told : Told (getQualifiedModule sheet (r .id) then λ m. ok (asFunction isFn (enumResult (sheet .root) m))) l t l′ t′
-      told =
-          retold (λ m. arrow isFn ++ enumResult (sheet .root) m) (λ m. asFunction isFn (enumResult (sheet .root) m))
-          (getQualifiedModule sheet (r .id))
-          (λ m. fn-arrow isFn (enumResult (sheet .root) m) refl)
-          (then-told (enumResult (sheet .root)) (getQualifiedModule sheet (r .id)) w (record { writes = x }))
+  enum-out k =
+      with-option false (no-option s (rw (is .kind ∙ k) refl))
+      ∙ at-enum (λ ty. resultOf sheet ty (moduleLeaf isReader) false isFn
+      ≡ (getQualifiedModule sheet (r .id) then λ m. ok (arrow isFn ++ enumResult (sheet .root) m)))
+      (s .ty) (r .id) (is .id) (is .kind ∙ k)
+      (λ ss. then-same (getQualifiedModule sheet (r .id)) (λ m. ok (asFunction isFn (enumResult (sheet .root) m)))
+      (λ m. ok (arrow isFn ++ enumResult (sheet .root) m))
+      (λ m. ap ok (sym (fn-arrow isFn (enumResult (sheet .root) m) refl))))
 
-  result-client : {l₁ : List ℕ} {t₁ : Text} → r .kind ≡ 17 → Wrote l t (arrow isFn) l₁ t₁
-      → Writes (typeString (s .ty) sheet Client then λ typ. ok (fallibleResult (sheet .root) typ)) l₁ t₁ l′ t′
-      → Told (resultOut sheet s isReader isFn) l t l′ t′
+  client-out : r .kind ≡ 17 → resultOut sheet s isReader isFn
+      ≡ (typeString (s .ty) sheet Client then λ c. ok (arrow isFn ++ fallibleResult (sheet .root) c))
   unfolding resultOf
-  result-client k w x =
-      result-from sheet s isReader isFn
-      (λ e. record { writes = rw (no-option s (rw (is .kind ∙ k) refl) e) (go (typeString (s .ty) sheet (moduleLeaf isReader))) })
+  client-out k =
+      with-option false (no-option s (rw (is .kind ∙ k) refl))
+      ∙ at-interface (λ ty. resultOf sheet ty (moduleLeaf isReader) false isFn
+      ≡ (typeString ty sheet Client then λ c. ok (arrow isFn ++ fallibleResult (sheet .root) c)))
+      (s .ty) (r .id) (is .id) (is .kind ∙ k)
+      (λ i ss. then-same (typeString (interface i ss) sheet (moduleLeaf isReader))
+      (λ inner. (client i ss then λ c. ok (fallibleResult (sheet .root) c)) then λ result. ok (asFunction isFn result))
+      (λ inner. result i ss)
+      (λ inner. then-twice (client i ss) (fallibleResult (sheet .root)) (asFunction isFn)
+      (λ c. arrow isFn ++ fallibleResult (sheet .root) c) (λ c. sym (fallible-arrow isFn (sheet .root) c)))
+      ∙ after-alike (typeString (interface i ss) sheet (moduleLeaf isReader)) (result i ss)
+      (client-same sheet i ss (moduleLeaf isReader)
+      ∙ sym (refusal-then (client i ss) (λ c. arrow isFn ++ fallibleResult (sheet .root) c))))
     where
-      told : Told ((typeString (s .ty) sheet Client then λ c. ok (fallibleResult (sheet .root) c)) then λ result. ok
-          (asFunction isFn result)) l t l′ t′
-      told =
-          told-twice (fallibleResult (sheet .root)) (asFunction isFn) (typeString (s .ty) sheet Client)
-          (retold (λ c. arrow isFn ++ fallibleResult (sheet .root) c) (λ c. asFunction isFn (fallibleResult (sheet .root) c))
-          (typeString (s .ty) sheet Client) (λ c. fallible-arrow isFn (sheet .root) c)
-          (then-told (fallibleResult (sheet .root)) (typeString (s .ty) sheet Client) w (record { writes = x })))
+      client : ℕ → Scopes → Out Str
+      client i ss = typeString (interface i ss) sheet Client
 
-      go : (o : Out Str) → Writes (o then λ inner. resultType sheet (s .ty) inner then λ result. ok
-          (asFunction isFn result)) l t l′ t′
-      go (ok inner) = rw (client-result sheet (s .ty) inner (is .kind ∙ k)) (told .writes)
-      go (refused j) = tt
+      result : ℕ → Scopes → Out Str
+      result i ss = client i ss then λ c. ok (arrow isFn ++ fallibleResult (sheet .root) c)
 
-  result-any : {l₁ : List ℕ} {t₁ : Text} → r .kind ≡ 18 → r .id ≡ 0 → Wrote l t (arrow isFn) l₁ t₁
-      → Writes (typeString (s .ty) sheet (moduleLeaf isReader) then λ typ. ok
-      (optional (cond (eqb (s .option) 0) false true) typ)) l₁ t₁ l′ t′
-      → Told (resultOut sheet s isReader isFn) l t l′ t′
+  any-out : r .kind ≡ 18 → r .id ≡ 0 → resultOut sheet s isReader isFn
+      ≡ (typeString (s .ty) sheet (moduleLeaf isReader) then λ w. ok (arrow isFn ++ optional (not (eqb (r .option) 0)) w))
   unfolding resultOf typeString
-  result-any {l₁} {t₁} k i w x =
-      result-from sheet s isReader isFn
-      (λ e. record {
-        writes = at-any (λ ty. Writes (typeString ty sheet (moduleLeaf isReader) then λ typ. ok (optional option typ)) l₁ t₁ l′ t′
-            → Writes (resultOf sheet ty (moduleLeaf isReader) option isFn) l t l′ t′) (s .ty) (r .id) (is .id) (is .kind ∙ k) i
-            (λ y. rw (optional-arrow isFn option text other) at (w ⨾ y)) x;
-      })
+  any-out k i =
+      with-option option (has-option s r is (rw (is .kind ∙ k) refl))
+      ∙ at-any (λ ty. resultOf sheet ty (moduleLeaf isReader) option isFn
+      ≡ (typeString ty sheet (moduleLeaf isReader) then λ w. ok (arrow isFn ++ optional option w)))
+      (s .ty) (r .id) (is .id) (is .kind ∙ k) i
+      (ap ok (sym (optional-arrow isFn option text other)))
     where
       option : Bool
-      option = cond (eqb (s .option) 0) false true
+      option = not (eqb (r .option) 0)
 
       text : Str
       text = sheet .root ++ ascii "::any_pointer::" ++ display (moduleLeaf isReader)
@@ -365,21 +332,20 @@ module _ {l : List ℕ} {t : Text} {l′ : List ℕ} {t′ : Text}
           rw (append-assoc (sheet .root) (ascii "::any_pointer::") (display (moduleLeaf isReader)))
           (not-unit (sheet .root) (ascii ":any_pointer::" ++ display (moduleLeaf isReader)))
 
-  result-fails : {l₁ : List ℕ} {t₁ : Text} → 11 < r .kind → (r .kind ≡ 15 → ⊥) → (r .kind ≡ 17 → ⊥)
-      → (r .kind ≡ 18 → r .id ≡ 0 → ⊥) → Wrote l t (arrow isFn) l₁ t₁
-      → Writes (typeString (s .ty) sheet (moduleLeaf isReader) then λ typ. ok
-      (fallibleResult (sheet .root) (optional (cond (eqb (s .option) 0) false true) typ)))
-      l₁ t₁ l′ t′ → Told (resultOut sheet s isReader isFn) l t l′ t′
+  fails-out : 11 < r .kind → (r .kind ≡ 15 → ⊥) → (r .kind ≡ 17 → ⊥) → (r .kind ≡ 18 → r .id ≡ 0 → ⊥)
+      → resultOut sheet s isReader isFn ≡ (typeString (s .ty) sheet (moduleLeaf isReader) then λ w. ok
+      (arrow isFn ++ fallibleResult (sheet .root) (optional (not (eqb (r .option) 0)) w)))
   unfolding resultOf
-  result-fails lo n15 n17 any w x =
-      result-from sheet s isReader isFn
-      (λ e. told-ext (λ inner. ok (asFunction isFn (fallibleResult (sheet .root) (optional option inner))))
-      (λ inner. resultType sheet (s .ty) (optional option inner) then λ result. ok (asFunction isFn result))
-      (typeString (s .ty) sheet (moduleLeaf isReader))
-      (λ inner. sym (rw (result (optional option inner)) refl)) told)
+  fails-out lo n15 n17 any =
+      with-option option
+      (has-option s r is (rw (is .kind, le-leb 12 (r .kind) (omega arith), ne-eqb _ _ n15, ne-eqb _ _ n17) refl))
+      ∙ then-same (typeString (s .ty) sheet (moduleLeaf isReader))
+      (λ w. resultType sheet (s .ty) (optional option w) then λ result. ok (asFunction isFn result))
+      (λ w. ok (arrow isFn ++ fallibleResult (sheet .root) (optional option w)))
+      (λ w. rw (result (optional option w)) (ap ok (sym (fallible-arrow isFn (sheet .root) (optional option w)))))
     where
       option : Bool
-      option = cond (eqb (s .option) 0) false true
+      option = not (eqb (r .option) 0)
 
       result : (typ : Str) → resultType sheet (s .ty) typ ≡ ok (fallibleResult (sheet .root) typ)
       result typ =
@@ -387,23 +353,7 @@ module _ {l : List ℕ} {t : Text} {l′ : List ℕ} {t′ : Text}
           (λ e. n17 (sym (is .kind) ∙ e))
           (λ e. any (sym (is .kind) ∙ e))
 
-      told : Told (typeString (s .ty) sheet (moduleLeaf isReader) then λ inner. ok
-          (asFunction isFn (fallibleResult (sheet .root) (optional option inner)))) l t l′ t′
-      told =
-          retold (λ w. arrow isFn ++ fallibleResult (sheet .root) (optional option w))
-          (λ w. asFunction isFn (fallibleResult (sheet .root) (optional option w)))
-          (typeString (s .ty) sheet (moduleLeaf isReader)) (λ w. fallible-arrow isFn (sheet .root) (optional option w))
-          (then-told (λ w. fallibleResult (sheet .root) (optional option w))
-          (typeString (s .ty) sheet (moduleLeaf isReader)) w (record { writes = x }))
-
 -- ---- the code's tests
-
-pub option-is : (s : tree.Slot) (r : Slot) → SlotIs r s → not (eqb (r .option) 0) ≡ cond (eqb (s .option) 0) false true
-option-is s r is = rw (is .option) (go (eqb (r .option) 0))
-  where
-    go : (b : Bool) → not b ≡ cond b false true
-    go true = refl
-    go false = refl
 
 -- untyped: kind 18 and id 0
 module _ (k a : ℕ) (b : Bool) (e : b ≡ both (eqb k 18) (eqb a 0)) where
@@ -427,36 +377,56 @@ module _ (k a : ℕ) (b : Bool) (e : b ≡ both (eqb k 18) (eqb a 0)) where
       let g : both (eqb k 18) (eqb a 0) ≡ true = rw (eq-eqb k 18 h, eq-eqb a 0 i) refl in
       let z : _≡_ {A = ℕ} 0 1 = cc in omega arith
 
--- ---- the arms whose type is read in the sheet
+-- ---- the arms' texts: behind the arrow, of the type that is read in the sheet
 
-module _ {l : List ℕ} {t : Text} {l′ : List ℕ} {t′ : Text} {l₁ : List ℕ} {t₁ : Text} (sheet : Sheet) (s : tree.Slot)
-    (isReader isFn : Bool) (r : Slot)
-    (is : SlotIs r s) (arrowed : Wrote l t (arrow isFn) l₁ t₁) (g : Reading Ty) (here : Has g (λ ty. ty ≡ s .ty)) where
-  pub client-here : r .kind ≡ 17 → On g (λ ty. Writes
-      (typeString ty sheet Client then λ typ. ok (fallibleResult (sheet .root) typ)) l₁ t₁ l′ t′)
-      → Told (resultOut sheet s isReader isFn) l t l′ t′
-  client-here k x =
-      result-client sheet s isReader isFn r is k arrowed
-      (on-has (λ ty. Writes (typeString ty sheet Client then λ typ. ok (fallibleResult (sheet .root) typ)) l₁ t₁ l′ t′) g
-      (s .ty) x here)
+module _ (sheet : Sheet) (isReader isFn : Bool) (bytes : Str) (r : Slot) (f : SlotField) (h : SlotHere bytes r f) where
+  abbrev out : Out Str
+  out = resultOut sheet (f .slot) isReader isFn
 
-  module _ (leaf : Leaf) (leaf-is : leaf ≡ moduleLeaf isReader) where
-    pub any-here : r .kind ≡ 18 → r .id ≡ 0
-        → On g (λ ty. Writes (typeString ty sheet leaf then λ typ. ok (optional (not (eqb (r .option) 0)) typ)) l₁ t₁ l′ t′)
-        → Told (resultOut sheet s isReader isFn) l t l′ t′
-    any-here k i x =
-        result-any sheet s isReader isFn r is k i arrowed
-        (rw (option-is s r is, leaf-is) at
-        (on-has (λ ty. Writes (typeString ty sheet leaf then λ typ. ok
-        (optional (not (eqb (r .option) 0)) typ)) l₁ t₁ l′ t′) g (s .ty) x here))
+  abbrev read : Reading Ty
+  read = typeOf 16 (rows (drop (r .typ) bytes))
 
-    pub fails-here : 11 < r .kind → (r .kind ≡ 15 → ⊥) → (r .kind ≡ 17 → ⊥) → (r .kind ≡ 18 → r .id ≡ 0 → ⊥)
-        → On g (λ ty. Writes (typeString ty sheet leaf then λ typ. ok
-        (fallibleResult (sheet .root) (optional (not (eqb (r .option) 0)) typ))) l₁ t₁ l′ t′)
-        → Told (resultOut sheet s isReader isFn) l t l′ t′
-    fails-here lo n15 n17 any x =
-        result-fails sheet s isReader isFn r is lo n15 n17 any arrowed
-        (rw (option-is s r is, leaf-is) at
-        (on-has (λ ty. Writes (typeString ty sheet leaf then λ typ. ok
-        (fallibleResult (sheet .root) (optional (not (eqb (r .option) 0)) typ))) l₁ t₁ l′ t′)
-        g (s .ty) x here))
+  pub prim-here : {l l′ : List ℕ} {t t₁ : Text} {q : Written} → r .kind ≤ 11
+      → Wrote l t (asFunction isFn (primitiveText (r .kind))) l′ t₁ → (q .text ≡ t₁) × (q .refusal ≡ None) → Writes out l t l′ q
+  prim-here {l} {l′} {t} le w n =
+      rw (prim-out sheet (f .slot) isReader isFn r (h .slot) le)
+      (whole (subst (λ (x : Text). Wrote l t (asFunction isFn (primitiveText (r .kind))) l′ x) (sym (n .0)) w) (n .1))
+
+  module _ {l l₁ l′ : List ℕ} {t t₁ : Text} {q : Written} (arrowed : Wrote l t (arrow isFn) l₁ t₁) where
+    pub enum-here : r .kind ≡ 15
+        → Writes (getQualifiedModule sheet (r .id) then λ typ. ok (enumResult (sheet .root) typ)) l₁ t₁ l′ q
+        → Writes out l t l′ q
+    enum-here k x =
+        rw (enum-out sheet (f .slot) isReader isFn r (h .slot) k)
+        (front (enumResult (sheet .root)) (getQualifiedModule sheet (r .id)) arrowed x)
+
+    pub client-here : r .kind ≡ 17
+        → On read (λ ty. Writes (typeString ty sheet Client then λ typ. ok (fallibleResult (sheet .root) typ)) l₁ t₁ l′ q)
+        → Writes out l t l′ q
+    client-here k x =
+        rw (client-out sheet (f .slot) isReader isFn r (h .slot) k)
+        (front (fallibleResult (sheet .root)) (typeString (f .slot .ty) sheet Client) arrowed
+        (on-has (λ ty. Writes (typeString ty sheet Client then λ typ. ok (fallibleResult (sheet .root) typ)) l₁ t₁ l′ q)
+        read (f .slot .ty) x (h .typ)))
+
+    module _ (leaf : Leaf) (leaf-is : leaf ≡ moduleLeaf isReader) where
+      pub any-here : r .kind ≡ 18 → r .id ≡ 0
+          → On read (λ ty. Writes (typeString ty sheet leaf then λ typ. ok (optional (not (eqb (r .option) 0)) typ)) l₁ t₁ l′ q)
+          → Writes out l t l′ q
+      any-here k i x =
+          rw (any-out sheet (f .slot) isReader isFn r (h .slot) k i, ← leaf-is)
+          (front (optional (not (eqb (r .option) 0))) (typeString (f .slot .ty) sheet leaf) arrowed
+          (on-has (λ ty. Writes (typeString ty sheet leaf then λ typ. ok (optional (not (eqb (r .option) 0)) typ)) l₁ t₁ l′ q)
+          read (f .slot .ty) x (h .typ)))
+
+      pub fails-here : 11 < r .kind → (r .kind ≡ 15 → ⊥) → (r .kind ≡ 17 → ⊥) → (r .kind ≡ 18 → r .id ≡ 0 → ⊥)
+          → On read (λ ty. Writes (typeString ty sheet leaf then λ typ. ok
+          (fallibleResult (sheet .root) (optional (not (eqb (r .option) 0)) typ))) l₁ t₁ l′ q)
+          → Writes out l t l′ q
+      fails-here lo n15 n17 any x =
+          rw (fails-out sheet (f .slot) isReader isFn r (h .slot) lo n15 n17 any, ← leaf-is)
+          (front (λ w. fallibleResult (sheet .root) (optional (not (eqb (r .option) 0)) w))
+          (typeString (f .slot .ty) sheet leaf) arrowed
+          (on-has (λ ty. Writes (typeString ty sheet leaf then λ typ. ok
+          (fallibleResult (sheet .root) (optional (not (eqb (r .option) 0)) typ))) l₁ t₁ l′ q)
+          read (f .slot .ty) x (h .typ)))

@@ -1,8 +1,8 @@
--- A getter's text: the result type, the code and the declaration, where nothing is refused. Assumes nothing.
+-- A getter's text: the result type, a newline, the code and the declaration. Its refusal: the type's, then the option's, then
+-- the default's, in the Rust's order. By the outcome of each step. Assumes nothing.
 use mathlib.Core.Path.{_≡_, refl, sym, ap, _∙_}
 use mathlib.Core.Bool.{Bool, true, false}
 use mathlib.Core.List.{List, []}
-use mathlib.Core.Logic.{⊎-elim}
 use Prim.Native.Nat.{ℕ, _≤_}
 use borrow.Author.Tests.{eqb-true, leb-true}
 use lib.Dec.{eqb, leb}
@@ -12,42 +12,45 @@ use Rattle.text.specs.Lines.{stringify}
 use Rattle.text.specs.Text.{Wrote}
 use Rattle.text.specs.declared.Text.{Text}
 use Rattle.text.proofs.Laws.{_⨾_}
+use Rattle.names.specs.Names.{defaultName}
 use Rattle.row.specs.Rows.{rows}
-use Rattle.row.specs.Line.{textAt}
 use Rattle.tree.specs.Tree as tree
 use Rattle.tree.specs.Tree.{kind, Sheet}
-use Rattle.tree.specs.Reader.{Rows}
 use Rattle.tree.specs.Read.{hasWords, wordsOf}
-use Rattle.names.specs.Names.{defaultName}
-use Rattle.codegen_types.specs.Out.{Out, ok, refused}
+use Rattle.tree.specs.Index.{Has}
+use Rattle.codegen_types.specs.Out.{Out, ok, refused, refusalOf}
 use Rattle.codegen_types.specs.TypeString.{typeString}
-use Rattle.codegen_types.specs.declared.Leaf.{Leaf}
-use Rattle.find.specs.Find.{On, Has}
-use Rattle.find.proofs.Laws.{on-two}
-use Rattle.type_parts.specs.Parts.{Writes}
-use Rattle.slot.specs.Slot.{SlotIs, SlotField, slotFieldOf, SlotHere}
-use Rattle.slot.proofs.Laws.{name-at}
-use Rattle.slot.specs.declared.Slot.{Slot}
-use Rattle.codegen.specs.WordArray.{wordArrayDeclaration}
 use Rattle.codegen_types.specs.Primitive.{primitiveText}
-use Rattle.codegen.specs.Getter.{moduleLeaf, isOptionField, optional, resultType, asFunction, fragmentOf, getterCode}
-use Rattle.codegen.specs.Getter.{defaultDeclaration, declared, getterText, getterRequest}
-use Rattle.getter.specs.Result.{Here, Words, resultOut}
-use Rattle.getter.proofs.ResultLaws.{Told, at-plain, prim-text, option-either}
+use Rattle.codegen_types.specs.Written.{Writes, firstOf}
+use Rattle.codegen_types.specs.declared.Leaf.{Leaf}
+use Rattle.codegen_types.specs.declared.Refusal.{Refusal}
+use Rattle.codegen_types.specs.declared.Refusal.the-variants.{None, Number}
+use Rattle.codegen_types.specs.declared.Written.{Written}
+use Rattle.codegen_types.proofs.WrittenLaws.{whole, none, text-of}
+use Rattle.field.specs.Slot.{SlotIs, SlotField, SlotHere}
+use Rattle.field.specs.declared.Slot.{Slot}
+use Rattle.codegen.specs.WordArray.{wordArrayDeclaration}
+use Rattle.codegen.specs.Getter.{moduleLeaf, isOptionField, optional, resultType, asFunction, fragmentOf, getterFragment}
+use Rattle.codegen.specs.Getter.{getterCode, defaultDeclaration, declared, getterText, getterRequest}
+use Rattle.getter.specs.Result.{yes, resultOut}
+use Rattle.getter.proofs.RefusalLaws.{ok-is, result-ok, option-is}
+use Rattle.getter.proofs.ResultLaws.{at-plain, prim-text}
 
 -- ---- the declaration
 
-module _ (bytes root name : Str) (r : Slot) (sl : tree.Slot) (h : Words bytes r sl) where
-  pub words-text : hasWords (r .explicit) (r .kind) ≡ true
-      → declared (defaultDeclaration root name sl) ≡ stringify (wordArrayDeclaration root (defaultName name) (sl .words) true)
-  words-text e = rw (h .slot .explicit, h .slot .kind, e) refl
+module _ (bytes : Str) (r : Slot) (f : SlotField) (h : SlotHere bytes r f) where
+  pub words-here : r .kind ≡ r .default → hasWords (r .explicit) (r .kind) ≡ true
+      → Has (wordsOf true (rows (drop (r .words) bytes))) (λ ws. ws ≡ f .slot .words)
+  words-here k e = rw (← k, e) at (h .words)
 
-  pub words-here : hasWords (r .explicit) (r .kind) ≡ true
-      → Has (wordsOf true (rows (drop (r .words) bytes))) (λ ws. ws ≡ sl .words)
-  words-here e = rw (← h .same, e) at (h .words)
+  pub words-text : (root name : Str) → hasWords (r .explicit) (r .kind) ≡ true
+      → declared (defaultDeclaration root name (f .slot))
+      ≡ stringify (wordArrayDeclaration root (defaultName name) (f .slot .words) true)
+  words-text root name e = rw (h .slot .explicit, h .slot .kind, e) refl
 
-  pub no-words : hasWords (r .explicit) (r .kind) ≡ false → declared (defaultDeclaration root name sl) ≡ []
-  no-words e = rw (h .slot .explicit, h .slot .kind, e) refl
+  pub no-words : (root name : Str) → hasWords (r .explicit) (r .kind) ≡ false
+      → declared (defaultDeclaration root name (f .slot)) ≡ []
+  no-words root name e = rw (h .slot .explicit, h .slot .kind, e) refl
 
 -- ---- the whole
 
@@ -78,69 +81,98 @@ codeText root name s isReader isFn r =
     stringify (getterCode s isReader (cond (eqb (s .option) 0) false true)
     (fragmentOf root name s isReader isFn (primitiveText (r .kind))))
 
-module _ {l : List ℕ} {t : Text} {l₁ : List ℕ} {t₁ : Text} {l₂ : List ℕ} {t₂ : Text} {l₃ : List ℕ} {t₃ : Text}
-    {l₄ : List ℕ} {t₄ : Text} (sheet : Sheet) (name : Str) (s : tree.Slot) (isReader isFn : Bool) (r : Slot)
-    (is : SlotIs r s) where
-  pub getter-told : Told (resultOut sheet s isReader isFn) l t l₁ t₁ → Wrote l₁ t₁ (unit 10) l₂ t₂
-      → (s .default .kind ≡ kind (s .ty) → Wrote l₂ t₂ (codeText (sheet .root) name s isReader isFn r) l₃ t₃)
-      → (s .default .kind ≡ kind (s .ty) → Wrote l₃ t₃ (declared (defaultDeclaration (sheet .root) name s)) l₄ t₄)
-      → Told (getterRequest sheet name s isReader isFn) l t l₄ t₄
+-- a slot r of the tree's s: what its result type x, the newline, the code and the declaration leave, and the refusals of its
+-- option and its default
+module _ (sheet : Sheet) (name : Str) (s : tree.Slot) (isReader isFn : Bool) (r : Slot) (is : SlotIs r s)
+    {l l₁ l₂ l₃ l₄ : List ℕ} {t t₂ t₃ : Text} {p q : Written} (x : Writes (resultOut sheet s isReader isFn) l t l₁ p)
+    (newline : Wrote l₁ (p .text) (unit 10) l₂ t₂)
+    (code : s .default .kind ≡ kind (s .ty) → Wrote l₂ t₂ (codeText (sheet .root) name s isReader isFn r) l₃ t₃)
+    (decl : s .default .kind ≡ kind (s .ty) → Wrote l₃ t₃ (declared (defaultDeclaration (sheet .root) name s)) l₄ (q .text))
+    (of-option of-default : Refusal) (option-told : of-option ≡ refusalOf (isOptionField s))
+    (default-told : (typ : Str) → of-default ≡ refusalOf (getterFragment (sheet .root) name s isReader isFn typ))
+    (first : q .refusal ≡ firstOf (p .refusal) (firstOf of-option of-default)) where
+  abbrev leaf : Leaf
+  leaf = moduleLeaf isReader
+
+  abbrev Told : Type 0
+  Told = Writes (getterRequest sheet name s isReader isFn) l t l₄ q
+
+  -- the type is refused
+  by-type : (k : ℕ) → typeString (s .ty) sheet leaf ≡ refused k → Told
   unfolding getterRequest getterText
-  getter-told x n code decl = record { writes = types (typeString (s .ty) sheet (moduleLeaf isReader)) refl }
+  by-type k e =
+      let y : Writes (refused k) l t l₁ p = rw e at x in
+      rw e (none (first ∙ ap (λ (z : Refusal). firstOf z (firstOf of-option of-default)) (y .refusal)))
+
+  -- the type has a text, and so has the result type
+  module _ (w result : Str) (typ : typeString (s .ty) sheet leaf ≡ ok w)
+      (res : resultType sheet (s .ty) (optional (yes (isOptionField s)) w) ≡ ok result) where
+    given : Writes (ok (asFunction isFn result)) l t l₁ p
+    given = rw (typ, res) at x
+
+    -- the option is refused
+    by-option : (k : ℕ) → isOptionField s ≡ refused k → Told
+    unfolding getterRequest getterText
+    by-option k e =
+        let n : of-option ≡ Number k = option-told ∙ ap refusalOf e in
+        rw (typ, e) (none (first ∙ rw (given .refusal, n) refl))
+
+    -- or not
+    module _ (b : Bool) (e : isOptionField s ≡ ok b) where
+      own : q .refusal ≡ of-default
+      own =
+          let n : of-option ≡ None = option-told ∙ ap refusalOf e in
+          first ∙ rw (given .refusal, n) refl
+
+      result-is : resultType sheet (s .ty) (optional b w) ≡ ok result
+      result-is = rw e at res
+
+      by-default : eqb (kind (s .ty)) (s .default .kind) ≡ false → Told
+      unfolding getterRequest getterText
+      by-default n =
+          let d : of-default ≡ Number 10 = default-told w ∙ rw n refl in
+          rw (typ, e, result-is, n) (none (own ∙ d))
+
+      by-none : eqb (kind (s .ty)) (s .default .kind) ≡ true → Told
+      unfolding getterRequest getterText
+      by-none n =
+          let k : s .default .kind ≡ kind (s .ty) = sym (eqb-true (kind (s .ty)) (s .default .kind) n) in
+          let d : of-default ≡ None = default-told w ∙ rw n refl in
+          rw (typ, e, result-is, n, option-is s b e, ← fragment-typ sheet (sheet .root) name s isReader isFn r is leaf w typ)
+          (whole (text-of given ⨾ newline ⨾ code k ⨾ decl k) (own ∙ d))
+
+    told : (o : Out Bool) → isOptionField s ≡ o → (b : Bool) → eqb (kind (s .ty)) (s .default .kind) ≡ b → Told
+    told (refused k) e b n = by-option k e
+    told (ok option) e false n = by-default option e n
+    told (ok option) e true n = by-none option e n
+
+  getter-told : Told
+  getter-told = types (typeString (s .ty) sheet leaf) refl
     where
-      option : Bool
-      option = cond (eqb (s .option) 0) false true
+      types : (o : Out Str) → typeString (s .ty) sheet leaf ≡ o → Told
+      types (refused k) e = by-type k e
+      types (ok w) e =
+          let result = ok-is (resultType sheet (s .ty) (optional (yes (isOptionField s)) w))
+          (result-ok sheet (s .ty) (r .id) leaf (optional (yes (isOptionField s)) w) (is .id) (ap refusalOf e)) in
+          told w (result .given) e (result .is) (isOptionField s) refl (eqb (kind (s .ty)) (s .default .kind)) refl
 
-      kinds : (w result : Str) → typeString (s .ty) sheet (moduleLeaf isReader) ≡ ok w → isOptionField s ≡ ok option
-          → resultType sheet (s .ty) (optional option w) ≡ ok result → (b : Bool) → eqb (kind (s .ty)) (s .default .kind) ≡ b
-          → Writes (getterRequest sheet name s isReader isFn) l t l₄ t₄
-      kinds w result et eo er true eb =
-          let k : s .default .kind ≡ kind (s .ty) = sym (eqb-true (kind (s .ty)) (s .default .kind) eb) in
-          let y : Wrote l t (asFunction isFn result) l₁ t₁ = rw (et, eo, er) at (x .writes) in
-          rw (et, eo, er, eb, ← fragment-typ sheet (sheet .root) name s isReader isFn r is (moduleLeaf isReader) w et) (y ⨾ n
-          ⨾ code k ⨾ decl k)
-      kinds w result et eo er false eb = rw (et, eo, er, eb) tt
-
-      results : (w : Str) → typeString (s .ty) sheet (moduleLeaf isReader) ≡ ok w → isOptionField s ≡ ok option
-          → (o : Out Str) → resultType sheet (s .ty) (optional option w) ≡ o
-          → Writes (getterRequest sheet name s isReader isFn) l t l₄ t₄
-      results w et eo (ok result) er = kinds w result et eo er (eqb (kind (s .ty)) (s .default .kind)) refl
-      results w et eo (refused k) er = rw (et, eo, er) tt
-
-      bad : (w : Str) → typeString (s .ty) sheet (moduleLeaf isReader) ≡ ok w → isOptionField s ≡ refused 9
-          → Writes (getterRequest sheet name s isReader isFn) l t l₄ t₄
-      bad w et eo = rw (et, eo) tt
-
-      types : (o : Out Str) → typeString (s .ty) sheet (moduleLeaf isReader) ≡ o
-          → Writes (getterRequest sheet name s isReader isFn) l t l₄ t₄
-      types (ok w) et =
-          ⊎-elim (bad w et) (λ eo. results w et eo (resultType sheet (s .ty) (optional option w)) refl) (option-either s)
-      types (refused k) et = rw et tt
-
--- the slot that is read at an F row
-pub getter-on : {l₁ : List ℕ} {t₁ : Text} {l₂ : List ℕ} {t₂ : Text} {l₃ : List ℕ} {t₃ : Text} {l₄ : List ℕ} {t₄ : Text}
-    (l : List ℕ) (t : Text) (bytes : Str) (r : Slot) (rs : Rows) (name : Str) (sheet : Sheet) (isReader isFn : Bool)
-    → On (slotFieldOf rs) (λ f. SlotHere bytes r f) → name ≡ textAt rs
-    → ((sl : tree.Slot) → Here bytes r sl → Writes (resultOut sheet sl isReader isFn) l t l₁ t₁) → Wrote l₁ t₁ (unit 10) l₂ t₂
+-- the slot that was read, by its name's bytes
+pub getter-here : {l₁ l₂ l₃ l₄ : List ℕ} {t₂ t₃ : Text} {p : Written} {of-option of-default of-slot : Refusal} (q : Written)
+    (l : List ℕ) (t : Text) (bytes : Str) (r : Slot) (name : Str) (sheet : Sheet) (isReader isFn : Bool)
+    → ((f : SlotField) → SlotHere bytes r f → name ≡ f .name)
+    → ((f : SlotField) → SlotHere bytes r f → Writes (resultOut sheet (f .slot) isReader isFn) l t l₁ p)
+    → Wrote l₁ (p .text) (unit 10) l₂ t₂
     → ((sl : tree.Slot) → SlotIs r sl → sl .default .kind ≡ kind (sl .ty)
     → Wrote l₂ t₂ (codeText (sheet .root) name sl isReader isFn r) l₃ t₃)
-    → ((sl : tree.Slot) → Words bytes r sl → Wrote l₃ t₃ (declared (defaultDeclaration (sheet .root) name sl)) l₄ t₄)
-    → On (slotFieldOf rs) (λ f. Writes (getterRequest sheet (f .name) (f .slot) isReader isFn) l t l₄ t₄)
-getter-on {l₄ = l₄} {t₄ = t₄} l t bytes r rs name sheet isReader isFn here text x n code decl =
-    on-two (λ f. SlotHere bytes r f) (λ f. f .name
-    ≡ textAt rs) (λ f. Writes (getterRequest sheet (f .name) (f .slot) isReader isFn) l t l₄ t₄)
-    (slotFieldOf rs) found here (name-at rs)
-  where
-    found : (f : SlotField) → SlotHere bytes r f → f .name ≡ textAt rs
-        → Writes (getterRequest sheet (f .name) (f .slot) isReader isFn) l t l₄ t₄
-    found f h e =
-        rw (e ∙ sym text)
-        (getter-told sheet name (f .slot) isReader isFn r (h .slot)
-        (record { writes = x (f .slot) (record { slot = h .slot; typ = h .typ }) }) n
-        (λ k. code (f .slot) (h .slot) k)
-        (λ k. decl (f .slot) (record {
-          slot = h .slot;
-          same = sym (h .slot .kind) ∙ sym k ∙ h .slot .default;
-          words =
-              h .words;
-        })) .writes)
+    → ((f : SlotField) → SlotHere bytes r f → r .kind ≡ r .default
+    → Wrote l₃ t₃ (declared (defaultDeclaration (sheet .root) name (f .slot))) l₄ (q .text))
+    → ((sl : tree.Slot) → SlotIs r sl → of-option ≡ refusalOf (isOptionField sl))
+    → ((sl : tree.Slot) (root name typ : Str) (isReader isFn : Bool) → SlotIs r sl
+    → of-default ≡ refusalOf (getterFragment root name sl isReader isFn typ))
+    → of-slot ≡ firstOf of-option of-default → q .refusal ≡ firstOf (p .refusal) of-slot
+    → (f : SlotField) → SlotHere bytes r f → Writes (getterRequest sheet (f .name) (f .slot) isReader isFn) l t l₄ q
+getter-here {p = p} {of-option} {of-default} q l t bytes r name sheet isReader isFn named x newline code decl o d own first f h =
+    rw (← named f h)
+    (getter-told sheet name (f .slot) isReader isFn r (h .slot) (x f h) newline (code (f .slot) (h .slot))
+    (λ k. decl f h (sym (h .slot .kind) ∙ sym k ∙ h .slot .default)) of-option of-default (o (f .slot) (h .slot))
+    (λ typ. d (f .slot) (sheet .root) name typ isReader isFn (h .slot)) (first ∙ ap (firstOf (p .refusal)) own))

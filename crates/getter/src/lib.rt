@@ -1,28 +1,31 @@
-// A slot's getter: `getter_text` of codegen.rs, its refusal and its text, from the sheet's rows.
+// A slot's getter: `getter_text` of codegen.rs, its text and its refusal, from a slot that was read.
 use codegen_types::Leaf;
 use codegen_types::Lifetime;
 use codegen_types::Refusal;
-use slot::Slot;
+use codegen_types::Written;
+use field::Slot;
 use text::Text;
 ghost use mathlib.Core.Path.{_≡_};
-ghost use mathlib.Core.Bool.{Bool, true, false};
+ghost use mathlib.Core.Bool.{Bool};
 ghost use lib.ListN.{drop};
 ghost use lib.Dec.{eqb};
-ghost use Rattle.text.specs.Bytes.{both};
+ghost use Rattle.text.specs.Bytes.{Str, both};
 ghost use Rattle.text.specs.Text.{Wrote};
 ghost use Rattle.row.specs.Rows.{rows};
 ghost use Rattle.tree.specs.Tree as tree;
 ghost use Rattle.tree.specs.Read.{typeOf};
+ghost use Rattle.tree.specs.Index.{On};
+ghost use Rattle.nodes.specs.Index.{ForAll};
 ghost use Rattle.codegen_types.specs.Out.{ok, _then_, refusalOf};
 ghost use Rattle.codegen_types.specs.TypeString.{typeString, getQualifiedModule};
-ghost use Rattle.find.specs.Find.{On};
-ghost use Rattle.slot.specs.Slot.{slotFieldOf, SlotOn};
-ghost use Rattle.type_refusal.specs.Told as refusal;
-ghost use Rattle.type_parts.specs.Parts.{Writes, ForAll};
 ghost use Rattle.codegen_types.specs.Primitive.{primitiveText};
-ghost use Rattle.codegen.specs.Getter.{moduleLeaf, optional, asFunction, defaultDeclaration, declared, getterRequest};
-ghost use Rattle.getter.specs.Result.{optionFits, Here, Words, arrow, enumResult, fallibleResult, resultOut};
+ghost use Rattle.codegen_types.specs.Written.{Writes};
+ghost use Rattle.field.specs.Slot.{SlotIs, SlotField, SlotHere};
+ghost use Rattle.codegen.specs.Getter.{moduleLeaf, isOptionField, optional, asFunction, getterFragment};
+ghost use Rattle.codegen.specs.Getter.{defaultDeclaration, declared, getterRequest};
+ghost use Rattle.getter.specs.Result.{arrow, enumResult, fallibleResult, resultOut};
 
+// The leaf of a Reader's getter, or a Builder's.
 fn module_leaf(is_reader: bool) -> Leaf
     ensures { λ r. ⌜ r ≡ moduleLeaf «is_reader» ⌝ }
 {
@@ -32,49 +35,35 @@ fn module_leaf(is_reader: bool) -> Leaf
     Leaf::Builder(Lifetime::A)
 }
 
-// Whether a slot may have its option: a pointer may, but no interface.
-fn option_fits(option: u64, kind: u64) -> bool
-    ensures { λ r. ⌜ r ≡ optionFits option kind ⌝ }
+// What is_option_field refuses: an option of what is no pointer, or of an interface.
+fn option_refusal(slot: Slot) -> Refusal
+    ensures { λ r. ⌜ ((sl : tree.Slot) → SlotIs slot sl → r ≡ refusalOf (isOptionField sl)) ⌝ }
 {
-    if option == 0 {
-        return true;
+    if slot.option == 0 {
+        return Refusal::None;
     }
-    if kind == 17 {
-        return false;
-    }
-    codegen::is_pointer(kind)
-}
-
-// The refusal of the getter of the slot that is read at a position: its type's, an option that cannot be, or a default that is
-// not of its type.
-pub fn getter_refusal(
-    s: &[u8],
-    ids: &[u64],
-    ats: &[usize],
-    at: usize,
-    slot: Slot,
-    is_reader: bool,
-) -> Refusal
-    ensures { λ r. ⌜ (SlotOn (now (s .entry)) at slot → refusal.ForAll (now (s .entry)) (now (ids .entry)) (now (ats .entry))
-        (λ sheet. On (slotFieldOf (rows (drop at (now (s .entry))))) (λ f. (isFn : Bool)
-        → r ≡ refusalOf (getterRequest sheet (f .name) (f .slot) «is_reader» isFn)))) ⌝ }
-{
-    let leaf = module_leaf(is_reader);
-    let refusal = type_refusal::type_refusal(s, ids, ats, slot.typ, leaf);
-    if let Refusal::Number(number) = refusal {
-        return Refusal::Number(number);
-    }
-    if !option_fits(slot.option, slot.kind) {
+    if slot.kind == 17 {
         return Refusal::Number(9);
     }
-    if slot.kind != slot.default {
-        return Refusal::Number(10);
+    if codegen::is_pointer(slot.kind) {
+        return Refusal::None;
     }
-    Refusal::None
+    Refusal::Number(9)
+}
+
+// What getter_fragment refuses: a default that is not of the slot's type.
+fn default_refusal(slot: Slot) -> Refusal
+    ensures { λ r. ⌜ ((sl : tree.Slot) (root name typ : Str) (isReader isFn : Bool) → SlotIs slot sl
+        → r ≡ refusalOf (getterFragment root name sl isReader isFn typ)) ⌝ }
+{
+    if slot.kind == slot.default {
+        return Refusal::None;
+    }
+    Refusal::Number(10)
 }
 
 // The arrow in front of a function's result type.
-fn arrow(t: Text, buf: &mut [u8], is_fn: bool) -> Text
+fn arrow(is_fn: bool, t: Text, buf: &mut [u8]) -> Text
     ensures { λ r. ⌜ Wrote (now (buf .entry)) t (arrow «is_fn») (now (buf .exit)) r ⌝ }
 {
     if is_fn {
@@ -84,7 +73,7 @@ fn arrow(t: Text, buf: &mut [u8], is_fn: bool) -> Text
 }
 
 // The result type of a Bool or a number, and of Void, which a function leaves out.
-fn prim_result(t: Text, buf: &mut [u8], kind: u64, is_fn: bool) -> Text
+fn prim_result(kind: u64, is_fn: bool, t: Text, buf: &mut [u8]) -> Text
     ensures { λ r. ⌜ Wrote (now (buf .entry)) t (asFunction «is_fn» (primitiveText kind)) (now (buf .exit)) r ⌝ }
 {
     if kind == 0 {
@@ -93,76 +82,72 @@ fn prim_result(t: Text, buf: &mut [u8], kind: u64, is_fn: bool) -> Text
         }
         return t.bytes(buf, b"()");
     }
-    let t = arrow(t, buf, is_fn);
+    let t = arrow(is_fn, t, buf);
     codegen_types::type_name(t, buf, kind)
 }
 
 // The result type of an enum, whose node has this id.
-fn enum_result(
-    root: &[u8],
-    s: &[u8],
-    ids: &[u64],
-    ats: &[usize],
-    id: u64,
-    t: Text,
-    buf: &mut [u8],
-) -> Text
-    ensures { λ r. ⌜ ForAll (now (root .entry)) (now (s .entry)) (now (ids .entry)) (now (ats .entry)) (λ sheet.
+fn enum_result(root: &[u8], s: &[u8], index: &[u64], id: u64, t: Text, buf: &mut [u8]) -> Written
+    ensures { λ r. ⌜ ForAll (now (root .entry)) (now (s .entry)) (now (index .entry)) (λ sheet.
         Writes (getQualifiedModule sheet id then λ typ. ok (enumResult (now (root .entry)) typ))
         (now (buf .entry)) t (now (buf .exit)) r) ⌝ }
 {
     let t = t.bytes(buf, b"::core::result::Result<");
-    let t = type_parts::qualified_module(root, s, ids, ats, id, t, buf);
-    let t = t.bytes(buf, b",");
+    let typ = type_parts::qualified_module(s, index, id, t, buf);
+    let t = typ.text.bytes(buf, b",");
     let t = t.bytes(buf, root);
-    t.bytes(buf, b"::NotInSchema>")
+    let t = t.bytes(buf, b"::NotInSchema>");
+    let refusal = typ.refusal;
+    Written { text: t, refusal }
 }
 
 // The type at a position, in an option or not.
 fn optional_type(
     root: &[u8],
     s: &[u8],
-    ids: &[u64],
-    ats: &[usize],
+    index: &[u64],
     at: usize,
     leaf: Leaf,
     option: bool,
     t: Text,
     buf: &mut [u8],
-) -> Text
-    ensures { λ r. ⌜ ForAll (now (root .entry)) (now (s .entry)) (now (ids .entry)) (now (ats .entry)) (λ sheet.
+) -> Written
+    ensures { λ r. ⌜ ForAll (now (root .entry)) (now (s .entry)) (now (index .entry)) (λ sheet.
         On (typeOf 16 (rows (drop at (now (s .entry))))) (λ ty.
         Writes (typeString ty sheet leaf then λ typ. ok (optional option typ)) (now (buf .entry)) t (now (buf .exit)) r)) ⌝ }
 {
     if option {
         let t = t.bytes(buf, b"Option<");
-        let t = type_string::type_string(root, s, ids, ats, at, leaf, t, buf);
-        return t.bytes(buf, b">");
+        let typ = type_string::type_string(root, s, index, at, leaf, t, buf);
+        let t = typ.text.bytes(buf, b">");
+        let refusal = typ.refusal;
+        return Written { text: t, refusal };
     }
-    type_string::type_string(root, s, ids, ats, at, leaf, t, buf)
+    type_string::type_string(root, s, index, at, leaf, t, buf)
 }
 
 // The result type of what can fail.
 fn fallible_result(
     root: &[u8],
     s: &[u8],
-    ids: &[u64],
-    ats: &[usize],
+    index: &[u64],
     at: usize,
     leaf: Leaf,
     option: bool,
     t: Text,
     buf: &mut [u8],
-) -> Text
-    ensures { λ r. ⌜ ForAll (now (root .entry)) (now (s .entry)) (now (ids .entry)) (now (ats .entry)) (λ sheet.
+) -> Written
+    ensures { λ r. ⌜ ForAll (now (root .entry)) (now (s .entry)) (now (index .entry)) (λ sheet.
         On (typeOf 16 (rows (drop at (now (s .entry))))) (λ ty.
         Writes (typeString ty sheet leaf then λ typ. ok (fallibleResult (now (root .entry)) (optional option typ)))
         (now (buf .entry)) t (now (buf .exit)) r)) ⌝ }
 {
     let t = t.bytes(buf, root);
     let t = t.bytes(buf, b"::Result<");
-    let t = optional_type(root, s, ids, ats, at, leaf, option, t, buf);
-    t.bytes(buf, b">")
+    let typ = optional_type(root, s, index, at, leaf, option, t, buf);
+    let t = typ.text.bytes(buf, b">");
+    let refusal = typ.refusal;
+    Written { text: t, refusal }
 }
 
 // Whether a type of this kind and id is an AnyPointer that is no parameter.
@@ -175,74 +160,78 @@ fn is_untyped(kind: u64, id: u64) -> bool
     false
 }
 
-// The result type of a getter.
+// The result type of a getter. Its refusal is the type's.
 fn result_type(
     root: &[u8],
     s: &[u8],
-    ids: &[u64],
-    ats: &[usize],
+    index: &[u64],
     slot: Slot,
     is_reader: bool,
     is_fn: bool,
     t: Text,
     buf: &mut [u8],
-) -> Text
-    ensures { λ r. ⌜ ForAll (now (root .entry)) (now (s .entry)) (now (ids .entry)) (now (ats .entry)) (λ sheet.
-        (sl : tree.Slot) → Here (now (s .entry)) slot sl
-        → Writes (resultOut sheet sl «is_reader» «is_fn») (now (buf .entry)) t (now (buf .exit)) r) ⌝ }
+) -> Written
+    ensures { λ r. ⌜ ForAll (now (root .entry)) (now (s .entry)) (now (index .entry)) (λ sheet.
+        (f : SlotField) → SlotHere (now (s .entry)) slot f
+        → Writes (resultOut sheet (f .slot) «is_reader» «is_fn») (now (buf .entry)) t (now (buf .exit)) r) ⌝ }
 {
     let kind = slot.kind;
     if kind <= 11 {
-        return prim_result(t, buf, kind, is_fn);
+        let t = prim_result(kind, is_fn, t, buf);
+        return codegen_types::whole(t);
     }
-    let t = arrow(t, buf, is_fn);
+    let t = arrow(is_fn, t, buf);
     if kind == 15 {
-        return enum_result(root, s, ids, ats, slot.id, t, buf);
+        return enum_result(root, s, index, slot.id, t, buf);
     }
     if kind == 17 {
-        return fallible_result(root, s, ids, ats, slot.typ, Leaf::Client, false, t, buf);
+        return fallible_result(root, s, index, slot.typ, Leaf::Client, false, t, buf);
     }
     let leaf = module_leaf(is_reader);
     let option = slot.option != 0;
     if is_untyped(kind, slot.id) {
-        return optional_type(root, s, ids, ats, slot.typ, leaf, option, t, buf);
+        return optional_type(root, s, index, slot.typ, leaf, option, t, buf);
     }
-    fallible_result(root, s, ids, ats, slot.typ, leaf, option, t, buf)
+    fallible_result(root, s, index, slot.typ, leaf, option, t, buf)
 }
 
 // The declaration of the default, if there is one.
-fn declaration(t: Text, buf: &mut [u8], root: &[u8], name: &[u8], s: &[u8], slot: Slot) -> Text
-    ensures { λ r. ⌜ ((sl : tree.Slot) → Words (now (s .entry)) slot sl → Wrote (now (buf .entry)) t
-        (declared (defaultDeclaration (now (root .entry)) (now (name .entry)) sl)) (now (buf .exit)) r) ⌝ }
+fn declaration(root: &[u8], s: &[u8], name: &[u8], slot: Slot, t: Text, buf: &mut [u8]) -> Text
+    ensures { λ r. ⌜ ((f : SlotField) → SlotHere (now (s .entry)) slot f → slot .kind ≡ slot .default
+        → Wrote (now (buf .entry)) t (declared (defaultDeclaration (now (root .entry)) (now (name .entry)) (f .slot)))
+        (now (buf .exit)) r) ⌝ }
 {
     if tree::has_words(slot.explicit, slot.kind) {
-        return pointer_constants::word_array_declaration(t, buf, root, name, s, slot.words);
+        return pointer_constants::word_array_declaration(root, s, name, slot, t, buf);
     }
     t
 }
 
-// The text of the getter of the slot that is read at a position: the result type, a newline, the code, and the declaration of
-// the default if there is one.
+// The text of a slot's getter: the result type, a newline, the code, and the declaration of the default if there is one. The
+// type's refusal is met first, then the option's, then the default's.
 pub fn getter(
     root: &[u8],
     s: &[u8],
-    ids: &[u64],
-    ats: &[usize],
-    at: usize,
+    index: &[u64],
     slot: Slot,
     is_reader: bool,
     is_fn: bool,
     t: Text,
     buf: &mut [u8],
-) -> Text
-    ensures { λ r. ⌜ (SlotOn (now (s .entry)) at slot
-        → ForAll (now (root .entry)) (now (s .entry)) (now (ids .entry)) (now (ats .entry)) (λ sheet.
-        On (slotFieldOf (rows (drop at (now (s .entry))))) (λ f.
-        Writes (getterRequest sheet (f .name) (f .slot) «is_reader» «is_fn») (now (buf .entry)) t (now (buf .exit)) r))) ⌝ }
+) -> Written
+    ensures { λ r. ⌜ ForAll (now (root .entry)) (now (s .entry)) (now (index .entry)) (λ sheet.
+        (f : SlotField) → SlotHere (now (s .entry)) slot f
+        → Writes (getterRequest sheet (f .name) (f .slot) «is_reader» «is_fn») (now (buf .entry)) t (now (buf .exit)) r) ⌝ }
 {
-    let name = row::text(s, at);
-    let t = result_type(root, s, ids, ats, slot, is_reader, is_fn, t, buf);
-    let t = t.byte(buf, b'\n');
-    let t = codegen_getter::code(t, buf, root, name, slot, is_reader, is_fn);
-    declaration(t, buf, root, name, s, slot)
+    let name = slot.name(s);
+    let result = result_type(root, s, index, slot, is_reader, is_fn, t, buf);
+    let t = result.text.byte(buf, b'\n');
+    let t = codegen_getter::code(root, name, slot, is_reader, is_fn, t, buf);
+    let t = declaration(root, s, name, slot, t, buf);
+    let of_type = result.refusal;
+    let of_option = option_refusal(slot);
+    let of_default = default_refusal(slot);
+    let of_slot = codegen_types::first(of_option, of_default);
+    let refusal = codegen_types::first(of_type, of_slot);
+    Written { text: t, refusal }
 }

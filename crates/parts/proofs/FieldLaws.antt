@@ -1,8 +1,10 @@
--- Laws of one field: its parts by the letter of its line, and the length of its name. Assumes nothing.
+-- Laws of one field that was read: its name has at most 64 bytes, its parts are those of its arm, and what is written of it is
+-- its unit. Assumes nothing.
 use mathlib.Core.Path.{_≡_, refl}
 use mathlib.Core.Bool.{Bool, true, false}
-use mathlib.Core.List.{[], _∷_}
-use Prim.Native.Nat.{ℕ, _≤_}
+use mathlib.Core.List.{List, [], _∷_}
+use Prim.Native.Nat.{ℕ, _+_, _*_, _≤_}
+use native.Mathlib.Nat.{le-trans, mul-le-mul-right}
 use native.Mathlib.Omega.{arith}
 use lib.Dec.{leb}
 use lib.ListN.{length, getD}
@@ -14,57 +16,104 @@ use Rattle.row.proofs.ReadLaws.{printed-line}
 use Rattle.row.specs.Rows.{restOf}
 use Rattle.row.specs.Line.{lineOf, lineAt, textOf, textAt}
 use Rattle.row.specs.declared.Line.{Line}
-use Rattle.tree.specs.Tree.{Slot, slot}
+use Rattle.row.specs.declared.Line.the-variants as line
+use Rattle.tree.specs.Tree as tree
+use Rattle.tree.specs.Tree.{Arm, slot, group}
 use Rattle.tree.specs.Reader.{Rows, Reading, got, no, _then_}
 use Rattle.tree.specs.Read.{slotOf, field, fieldOf}
+use Rattle.tree.specs.Fields.{FieldsHere, none, more}
 use Rattle.tree.specs.Index.{On}
-use Rattle.parts.specs.Program.{from, partsOf}
+use Rattle.field.specs.Slot.{SlotField, SlotHere}
+use Rattle.field.specs.Field.{SlotIn, GroupHere, GroupIn}
+use Rattle.field.specs.declared.Slot as code
+use Rattle.field.specs.declared.Group.{Group}
+use Rattle.field.specs.declared.Field.the-variants as field-is
+use Rattle.parts.specs.Program.{from, partsOf, fieldText}
+use Rattle.parts.specs.Fit.{partMost, unitMost, Fits, PartsPut, FieldPut}
 use Rattle.parts.specs.declared.Part.the-variants.{GetterReader, Zero}
-use Rattle.row.specs.declared.Line.the-variants as line
+use Rattle.parts.specs.declared.Fit.{Fit}
+use Rattle.parts.specs.declared.Fit.the-variants.{Whole, Short}
 
--- the parts of the field that an F line, a G line begins
-pub slot-parts :
-    (rs : Rows) (o d e p : ℕ) → lineAt rs ≡ line.Field o d e p → On (fieldOf rs) (λ f. partsOf (f .arm) ≡ from GetterReader)
-unfolding fieldOf
-slot-parts rs o d e p i = rw i (go (slotOf o e p (restOf rs)))
-  where
-    go : (g : Reading Slot) → On (g then λ sl. got (field (textAt rs) d (slot sl))) (λ f. partsOf (f .arm) ≡ from GetterReader)
-    go (got sl us) = refl
-    go (no k us) = tt
+-- ---- its name
 
-pub group-parts :
-    (rs : Rows) (i d : ℕ) → lineAt rs ≡ line.Group i d → On (fieldOf rs) (λ f. partsOf (f .arm) ≡ from Zero)
-unfolding fieldOf
-group-parts rs i d e = rw (e, e) refl
-
--- a name has at most 64 bytes
-name-short : (t : Str) → isName t ≡ true → length t ≤ 64
+name-few : (t : Str) → isName t ≡ true → length t ≤ 64
 unfolding isName
-name-short t e = go (sized 64 t) refl e
+name-few t e = go (sized 64 t) refl e
   where
     go : (b : Bool) → sized 64 t ≡ b → cond b (cond (isDigit (getD t 0 0)) false (all isWord t)) false ≡ true → length t ≤ 64
     go true s e = leb-true (length t) 64 (both-true (leb 1 (length t)) (leb (length t) 64) s .1)
     go false s e = let z : _≡_ {A = ℕ} 0 1 = cc in omega arith
 
-pub field-name : (rs : Rows) → On (fieldOf rs) (λ f. (f .name ≡ textAt rs) × (length (f .name) ≤ 64))
+read-few : (rs : Rows) → On (fieldOf rs) (λ f. length (f .name) ≤ 64)
 unfolding fieldOf lineAt textAt
-field-name [] = tt
-field-name (r ∷ rs) = go (lineOf r) refl
+read-few [] = tt
+read-few (r ∷ rs) = go (lineOf r) refl
   where
-    slots : (o d e p : ℕ) → lineOf r ≡ line.Field o d e p → (g : Reading Slot)
-        → On (g then λ sl. got (field (textOf r) d (slot sl))) (λ f. (f .name ≡ textOf r) × (length (f .name) ≤ 64))
-    slots o d e p i (got sl us) = (refl, name-short (textOf r) (printed-line r (line.Field o d e p) tt i .fits .4))
+    slots : (o d e p : ℕ) → lineOf r ≡ line.Field o d e p → (g : Reading tree.Slot)
+        → On (g then λ sl. got (field (textOf r) d (slot sl))) (λ f. length (f .name) ≤ 64)
+    slots o d e p i (got sl us) = name-few (textOf r) (printed-line r (line.Field o d e p) tt i .fits .4)
     slots o d e p i (no k us) = tt
 
-    go : (l : Line) → lineOf r ≡ l → On (fieldOf (r ∷ rs)) (λ f. (f .name ≡ textAt (r ∷ rs)) × (length (f .name) ≤ 64))
+    go : (l : Line) → lineOf r ≡ l → On (fieldOf (r ∷ rs)) (λ f. length (f .name) ≤ 64)
     go line.Root i = rw (i, i) tt
     go (line.Node a b c d e f g) i = rw (i, i) tt
     go line.Parameter i = rw (i, i) tt
     go (line.Field o d e p) i = rw i (slots o d e p i (slotOf o e p (restOf (r ∷ rs))))
-    go (line.Group j d) i = rw (i, i) (refl, name-short (textOf r) (printed-line r (line.Group j d) tt i .fits .2))
+    go (line.Group j d) i = rw (i, i) (name-few (textOf r) (printed-line r (line.Group j d) tt i .fits .2))
     go (line.Typ a b c d) i = rw (i, i) tt
     go (line.Scope a b c) i = rw (i, i) tt
     go line.Unbound i = rw (i, i) tt
     go (line.Value a b) i = rw (i, i) tt
     go (line.Word a) i = rw (i, i) tt
     go line.Bad i = rw (i, i) tt
+
+pub field-few : (rs : Rows) (f : tree.Field) (fs : List tree.Field) → FieldsHere rs (f ∷ fs) → length (f .name) ≤ 64
+field-few rs f fs (more e h) = rw e at (read-few rs)
+
+-- ---- its unit
+
+-- five parts at most, of as many bytes as one has at most
+unit-most : (k n : ℕ) → k ≤ 5 → n ≤ 64 → k * (n + 65554) ≤ unitMost
+unit-most k n h g = le-trans (mul-le-mul-right (n + 65554) h) (omega arith)
+
+fits-unit : (k : ℕ) (l : Str) (name : Str) (r : Fit) → k ≤ 5 → length name ≤ 64 → Fits (k * partMost name) l r
+    → Fits unitMost l r
+fits-unit k l name (Whole n) h g f = omega (arith, unit-most k (length name) h g)
+fits-unit k l name Short h g f = omega (arith, unit-most k (length name) h g)
+
+module _ (root s index : List ℕ) (tag : ℕ) (name l l′ : Str) (r : Fit) where
+  -- what is known of a slot's name and of its parts from the first on
+  pub slot-unit :
+      (sl : code.Slot) → ((f : SlotField) → SlotHere s sl f → name ≡ f .name)
+      → Fits (length (from GetterReader) * partMost name) l r
+      → PartsPut root s index tag (field-is.Slot sl) name GetterReader l′ r
+      → FieldPut root s index tag (field-is.Slot sl) l l′ r
+  unfolding fieldText
+  slot-unit sl named fits put ns x at tag-is is few =
+      let (i, parts) = go (at .1 .arm) is in (
+        fits-unit 5 l name r (omega arith) (rw i few) fits,
+        rw parts (put ns x at (record { tag-is = tag-is; field-is = is; name-is = i })),
+      )
+    where
+      go : (arm : Arm) → SlotIn s sl (at .1 .name) (at .1 .discriminant) arm
+          → (name ≡ at .1 .name) × (partsOf arm ≡ from GetterReader)
+      go (slot t) h = (named _ h, refl)
+      go (group id) h = absurd h
+
+  -- and of a group's
+  pub group-unit :
+      (g : Group) → ((n : Str) (d id : ℕ) → GroupHere s g n d id → name ≡ n)
+      → Fits (length (from Zero) * partMost name) l r
+      → PartsPut root s index tag (field-is.Group g) name Zero l′ r
+      → FieldPut root s index tag (field-is.Group g) l l′ r
+  unfolding fieldText
+  group-unit g named fits put ns x at tag-is is few =
+      let (i, parts) = go (at .1 .arm) is in (
+        fits-unit 1 l name r (omega arith) (rw i few) fits,
+        rw parts (put ns x at (record { tag-is = tag-is; field-is = is; name-is = i })),
+      )
+    where
+      go : (arm : Arm) → GroupIn s g (at .1 .name) (at .1 .discriminant) arm
+          → (name ≡ at .1 .name) × (partsOf arm ≡ from Zero)
+      go (slot t) h = absurd h
+      go (group id) h = (named _ _ _ h, refl)

@@ -1,113 +1,310 @@
--- Laws of the parts that are left at a place: where they begin, and what is left after the first of them. Assumes nothing.
-use mathlib.Core.Path.{_≡_, refl, sym, _∙_}
-use mathlib.Core.Bool.{true}
-use mathlib.Core.List.{List, [], _∷_, _++_}
-use Prim.Native.Nat.{ℕ}
-use lib.ListN.{take, drop}
-use types.Run.{OneOf}
+-- Laws of what is left to print: where a node's fields begin, one turn at each kind of place, and a piece of several turns.
+-- Assumes nothing.
+use mathlib.Core.Path.{_≡_, refl, sym, ap, _∙_}
+use mathlib.Core.List.{List, [], _∷_, _++_, append-assoc, append-nil}
+use mathlib.Core.Option.{Option, none, some}
+use Prim.Native.Nat.{ℕ, zero, suc, _+_, _-_, _*_, _≤_, _<_}
+use native.Mathlib.Nat.{suc-mul}
+use native.Mathlib.Numerals.{add-one}
+use native.Mathlib.Omega.{arith}
+use lib.ListN.{length, take, drop, length-drop, drop-of-length-le}
+use lib.Seq.{drop-nil}
+use types.Run.{OneOf, miss}
 use denote.Enum.Declared.{tagOf}
 use Rattle.text.specs.Bytes.{Str}
-use Rattle.row.proofs.Line.{the-type}
-use Rattle.row.specs.Rows.{rows, restOf}
-use Rattle.row.specs.Line.{lineAt, textAt}
-use Rattle.row.specs.declared.Line.{Line}
-use Rattle.tree.specs.Tree.{Field}
-use Rattle.tree.specs.Reader.{Rows}
-use Rattle.tree.specs.Read.{fieldOf, isField}
-use Rattle.tree.specs.Index.{On, Has}
+use Rattle.row.specs.Rows.{rows}
+use Rattle.row.specs.Line.{textAt}
+use Rattle.row.proofs.Laws.{rows-length}
+use Rattle.tree.specs.Tree as tree
+use Rattle.tree.specs.Tree.{Node}
+use Rattle.tree.specs.Fields.{FieldsHere}
 use Rattle.tree.proofs.OtherLines.{never}
-use Rattle.place.specs.Fields.{FieldsHere, none, more}
-use Rattle.place.specs.Place.{FieldAt}
-use Rattle.requests.specs.Requests.{requestText}
-use Rattle.requests.specs.Told.{OfField}
-use Rattle.place.proofs.PlaceLaws.{past-none}
-use Rattle.place.proofs.FieldsLaws.{none-here}
-use Rattle.parts.specs.Left.{LeftAt, Left, PartMade}
-use Rattle.parts.specs.Program.{from, partsOf, requestOf, headerText, partText, printedPart, ofField, fieldParts}
+use Rattle.nodes.specs.Index.{nth, entryWith, Indexed, Finds}
+use Rattle.nodes.specs.declared.Entry.{Entry}
+use Rattle.nodes.specs.declared.Found.{Found}
+use Rattle.nodes.specs.declared.Found.the-variants as found
+use Rattle.nodes.proofs.Laws.{nth-is}
+use Rattle.field.specs.Field.{FieldIs, ReadsFirst, nextOf}
+use Rattle.field.specs.declared.Field.{Field}
+use Rattle.field.specs.declared.Field.the-variants as field-is
+use Rattle.parts.specs.Program.{eachText, fieldText, nodeText, refusedSheetText}
+use Rattle.parts.specs.Fit.{unitMost, Fits, Puts, FieldPut}
+use Rattle.parts.specs.Left.{sheetIn, LeftAt, Left, mostLeft, Enters, Goes, Gives, Turns, Filled}
+use Rattle.parts.specs.declared.Fit.{Fit}
+use Rattle.parts.specs.declared.Fit.the-variants.{Whole, Short}
 use Rattle.parts.specs.declared.Place.{Place}
-use Rattle.parts.specs.declared.Place.the-variants.{At}
-use Rattle.parts.specs.declared.Part.{Part}
-use Rattle.parts.specs.declared.Part.the-variants.{GetterReader, GetterBuilder, Setter, HaserReader, HaserBuilder, Zero}
-use Rattle.parts.proofs.FieldLaws.{slot-parts, group-parts}
-use Rattle.row.specs.declared.Line.the-variants as line
+use Rattle.parts.specs.declared.Place.the-variants.{Refused, At, End}
+use Rattle.parts.specs.declared.Piece.{Piece}
+use Rattle.parts.proofs.Place.{the-type}
+use Rattle.parts.proofs.FieldLaws.{field-few}
+use Rattle.parts.proofs.FitLaws.{lent, back, lent-length, back-length, before-kept, on-within, taken-on}
 
--- where a field is read, it is the first of those that stand there
-field-first :
-    (rs : Rows) (f : Field) (fs : List Field) → FieldsHere rs (f ∷ fs) → (P : Field → Type 0) → On (fieldOf rs) P → P f
-field-first rs f fs (more e h) P x = rw e at x
+-- ---- the part of a list with a number, and those after it
 
-field-has : (rs : Rows) (f : Field) (fs : List Field) → FieldsHere rs (f ∷ fs) → Has (fieldOf rs) (λ g. g ≡ f)
-field-has rs f fs (more e h) = rw e refl
+nth-below : {A : Type 0} (k : ℕ) (xs : List A) (x : A) → nth k xs ≡ some x → k < length xs
+unfolding nth
+nth-below k [] x e = never cc
+nth-below zero (y ∷ xs) x e = omega arith
+nth-below (suc k) (y ∷ xs) x e = omega (arith, nth-below k xs x e)
 
--- the parts of fields of which the first has its parts from `part` on
-left-here :
-    (s : Str) (q : ℕ) (part : Part) (fs : List Field) → isField (lineAt (rows (drop q s))) ≡ true
-    → On (fieldOf (rows (drop q s))) (λ f. partsOf (f .arm) ≡ from part) → FieldsHere (rows (drop q s)) fs
-    → LeftAt s q part (fieldParts fs)
-unfolding fieldParts
-left-here s q part fs i x (none e) = never cc
-left-here s q part fs i x (more {f = f} {fs = gs} e h) =
-    let y : partsOf (f .arm) ≡ from part = field-first _ f gs (more e h) (λ f. partsOf (f .arm) ≡ from part) x in
-    record { field = f; later = gs; here = more e h; parts = rw y }
+nth-first : {A : Type 0} (k : ℕ) (xs : List A) (x : A) → nth k xs ≡ some x → drop k xs ≡ x ∷ drop (suc k) xs
+unfolding nth
+nth-first k [] x e = never cc
+nth-first zero (y ∷ xs) x e = let z : y ≡ x = cc in rw z
+nth-first (suc k) (y ∷ xs) x e = nth-first k xs x e
 
--- the line l stands at q
-module _ (s : Str) (q : ℕ) (l : Line) (here : l ≡ lineAt (rows (drop q s))) (fs : List Field)
-    (all : FieldsHere (rows (drop q s)) fs) where
-  pub slot-first : (o d e p : ℕ) → l ≡ line.Field o d e p → LeftAt s q GetterReader (fieldParts fs)
-  slot-first o d e p i =
-      let z = sym here ∙ i in left-here s q GetterReader fs (rw z) (slot-parts (rows (drop q s)) o d e p z) all
+nth-past : {A : Type 0} (k : ℕ) (xs : List A) → nth k xs ≡ none → drop k xs ≡ []
+unfolding nth
+nth-past k [] e = drop-nil k
+nth-past zero (y ∷ xs) e = never cc
+nth-past (suc k) (y ∷ xs) e = nth-past k xs e
 
-  pub group-first : (i d : ℕ) → l ≡ line.Group i d → LeftAt s q Zero (fieldParts fs)
-  group-first i d e =
-      let z = sym here ∙ e in left-here s q Zero fs (rw z) (group-parts (rows (drop q s)) i d z) all
+-- ---- the first field of the node with a number
 
-  pub none-first : OneOf (0 ∷ 1 ∷ 2 ∷ 5 ∷ 6 ∷ 7 ∷ 8 ∷ 9 ∷ 10 ∷ []) (tagOf the-type l) → fieldParts fs ≡ []
-  unfolding fieldParts
-  none-first o =
-      let rs = rows (drop q s) in
-      rw (none-here fs 2 rs rs all (past-none rs (restOf rs) l here refl o))
-
--- the next part at q
-module _ (s : Str) (q : ℕ) (part : Part) (at : Field × Part) (ps : List (Field × Part)) (left : LeftAt s q part (at ∷ ps)) where
-  -- another part of the field follows
-  pub same-field : (next : Part) → from part ≡ part ∷ from next → LeftAt s q next ps
-  unfolding ofField
-  same-field next e =
-      let rest = ofField (left .field) (from next) ++ fieldParts (left .later) in
-      let z : at ∷ ps ≡ (left .field, part) ∷ rest = left .parts ∙ rw e in
-      record { field = left .field; later = left .later; here = left .here; parts = cc }
-
-  -- it is the field's last
-  pub last-part : from part ≡ part ∷ [] → ps ≡ fieldParts (left .later)
-  unfolding ofField
-  last-part e =
-      let z : at ∷ ps ≡ (left .field, part) ∷ fieldParts (left .later) = left .parts ∙ rw e in cc
-
-  -- it is this part of the field that stands at q
-  pub next-part : (at ≡ (left .field, part)) × FieldAt s q (left .field)
-  unfolding ofField
-  next-part = (go part (left .parts), field-has (rows (drop q s)) (left .field) (left .later) (left .here))
-    where
-      go : (p : Part) → at ∷ ps ≡ ofField (left .field) (from p) ++ fieldParts (left .later) → at ≡ (left .field, p)
-      go GetterReader e = cc
-      go GetterBuilder e = cc
-      go Setter e = cc
-      go HaserReader e = cc
-      go HaserBuilder e = cc
-      go Zero e = cc
-
--- the header and the text of the next part, once they are known for the field that stands at q
-pub made :
-    (s : Str) (ids ats : List ℕ) (node q : ℕ) (part : Part) (head : Str) (h : ℕ) (buf : Str) (n : ℕ) (next : Place)
-    → ((f : Field) → FieldAt s q f → take h head ≡ headerText part (f .name))
-    → OfField s ids ats (textAt (rows s)) node q (λ sheet at. take n buf ≡ partText (requestText sheet at (requestOf part)))
-    → ((at : Field × Part) (ps : List (Field × Part)) → Left s (At q part) (at ∷ ps) → Left s next ps)
-    → PartMade s ids ats node q part head h buf n next
-unfolding printedPart
-made s ids ats node q part head h buf n next header text after = record {
-  bytes = λ nodes nd at ps index here left.
-      let (is, there) = next-part s q part at ps left in
-      let f = left .field in
-      rw (is, header f there, text nodes (nd, f) index here there);
-  after = after;
+pub enter-out : (index : List ℕ) (k : ℕ) → 64 ≤ k → Enters index k End
+unfolding eachText
+enter-out index k h = record {
+  left = λ s nodes x. let z : length nodes ≤ k = omega (arith, x .few) in rw (drop-of-length-le nodes z);
+  few = λ s. omega arith;
 }
+
+-- what is found for the number
+module _ (index : List ℕ) (k : ℕ) (h : k < 64) (f : Found) (found-is : k < 64 → f ≡ entryWith index k) where
+  finds : (s : Str) (nodes : List Node) → Indexed s nodes index → Finds s index f (nth k nodes)
+  finds s nodes x = rw (found-is h) (nth-is s nodes index k x)
+
+  pub enter-none : f ≡ found.Nothing → Enters index k End
+  unfolding eachText
+  enter-none e = record { left = λ s nodes x. go s nodes (nth k nodes) refl (rw e at (finds s nodes x)); few = λ s. omega arith }
+    where
+      go : (s : Str) (nodes : List Node) (o : Option Node) → nth k nodes ≡ o → Finds s index found.Nothing o
+          → eachText (nodeText (sheetIn s nodes)) (drop k nodes) ≡ []
+      go s nodes (some n) i x = absurd x
+      go s nodes none i x = rw (nth-past k nodes i)
+
+  pub enter-found : (e : Entry) → f ≡ found.At e → Enters index k (At k (e .fields))
+  unfolding eachText nodeText
+  enter-found e i = record {
+    left = λ s nodes x. go s nodes x (nth k nodes) refl (rw i at (finds s nodes x));
+    few = λ s. let a = rows-length (drop (e .fields) s) in let b = length-drop (e .fields) s in most (length s) _ (omega arith);
+  }
+    where
+      most : (m r : ℕ) → r ≤ m → (64 - k) * (m + 2) + r + 1 ≤ (65 - k) * (m + 2)
+      most m r g = let z : 65 - k ≡ suc (64 - k) = omega arith in rw (z, suc-mul (64 - k) (m + 2)) (omega arith)
+
+      go : (s : Str) (nodes : List Node) → Indexed s nodes index → (o : Option Node) → nth k nodes ≡ o
+          → Finds s index (found.At e) o
+          → LeftAt s index k (e .fields) (eachText (nodeText (sheetIn s nodes)) (drop k nodes))
+      go s nodes x (some n) j y = record {
+        nodes = nodes;
+        indexed = x;
+        node = n;
+        numbered = j;
+        fields = n .fields;
+        here = y .fields;
+        is = rw (add-one, nth-first k nodes n j);
+      }
+      go s nodes x none j y = absurd y
+
+-- what is found for the number of a node is its entry
+pub node-found :
+    (s : Str) (nodes : List Node) (index : List ℕ) (k : ℕ) (n : Node) (f : Found) → (k < 64 → f ≡ entryWith index k)
+    → Indexed s nodes index → nth k nodes ≡ some n → Finds s index f (some n)
+node-found s nodes index k n f found-is x i =
+    let below = nth-below k nodes n i in
+    rw i at (finds index k (omega (arith, below, x .few)) f found-is s nodes x)
+
+-- ---- one turn
+
+pub end-turn : (s index : List ℕ) (l l′ : Str) → Turns s index End l l′ (Whole 0) End
+end-turn s index l l′ = record { goes = λ text left. record { rest = text; left = left; joined = refl } }
+
+pub refused-turn :
+    (s index : List ℕ) (k line : ℕ) (l l′ : Str) (r : Fit) → Fits 65536 l r → Puts (refusedSheetText k line) l′ r
+    → Turns s index (Refused k line) l l′ r End
+refused-turn s index k line l l′ (Whole n) fits put = record {
+  goes = λ text left. record { rest = []; left = refl; joined = append-nil (take n l′) ∙ put ∙ sym left };
+}
+refused-turn s index k line l l′ Short fits put = λ text left. omega (arith, fits)
+
+-- the first of the fields that stand at q, as it was read
+record Reads (s : Str) (q : ℕ) (r : Field) (fields : List tree.Field) : Type 0 where
+  first : tree.Field
+  later : List tree.Field
+  all : fields ≡ first ∷ later
+  is : FieldIs s r first
+  next : FieldsHere (rows (drop (nextOf r) s)) later
+  few : length (first .name) ≤ 64
+
+reads : (s : Str) (q : ℕ) (r : Field) (fields : List tree.Field) → FieldsHere (rows (drop q s)) fields
+    → ReadsFirst s r fields → (r ≡ field-is.Nothing → ⊥) → Reads s q r fields
+reads s q r [] here e some-field = absurd (some-field e)
+reads s q r (f ∷ fs) here e some-field = record {
+  first = f;
+  later = fs;
+  all = refl;
+  is = e .0;
+  next = e .1;
+  few = field-few (rows (drop q s)) f fs here;
+}
+
+module _ (s index : List ℕ) (k q : ℕ) (l l′ : Str) (r : Field)
+    (first : (fs : List tree.Field) → FieldsHere (rows (drop q s)) fs → ReadsFirst s r fs) where
+  -- no field stands there: the next node
+  pub none-turn : (next : Place) → r ≡ field-is.Nothing → Enters index (k + 1) next
+      → Turns s index (At k q) l l′ (Whole 0) next
+  unfolding eachText
+  none-turn next e enters = record {
+    goes = λ text left. record {
+      rest = eachText (nodeText (sheetIn s (left .nodes))) (drop (k + 1) (left .nodes));
+      left = enters .left s (left .nodes) (left .indexed);
+      joined = sym (left .is ∙ rw (go (left .fields) (rw e at (first (left .fields) (left .here)))));
+    };
+  }
+    where
+      go : (fs : List tree.Field) → ReadsFirst s field-is.Nothing fs → fs ≡ []
+      go [] h = refl
+      go (f ∷ fs) h = absurd (h .0)
+
+  -- a field, whose unit was written
+  module _ (tag : ℕ) (fit : Fit) (there : r ≡ field-is.Nothing → ⊥)
+      (tagged : (s : Str) (ns : List Node) (n : Node) → Indexed s ns index → nth k ns ≡ some n → n .tagOffset ≡ tag)
+      (put : FieldPut (textAt (rows s)) s index tag r l l′ fit) where
+    field-there : (text : Str) (left : LeftAt s index k q text) → Reads s q r (left .fields)
+    field-there text left = reads s q r (left .fields) (left .here) (first (left .fields) (left .here)) there
+
+    unit-put : (text : Str) (left : LeftAt s index k q text)
+        → Fits unitMost l fit
+        × Puts (fieldText (sheetIn s (left .nodes)) (left .node) (field-there text left .first)) l′ fit
+    unit-put text left =
+        let f = field-there text left in
+        put (left .nodes) (left .indexed) (left .node, f .first)
+        (tagged s (left .nodes) (left .node) (left .indexed) (left .numbered)) (f .is) (f .few)
+
+  pub field-turn :
+      (tag : ℕ) (fit : Fit) → (r ≡ field-is.Nothing → ⊥)
+      → ((s : Str) (ns : List Node) (n : Node) → Indexed s ns index → nth k ns ≡ some n → n .tagOffset ≡ tag)
+      → FieldPut (textAt (rows s)) s index tag r l l′ fit → Turns s index (At k q) l l′ fit (At k (nextOf r))
+  unfolding eachText
+  field-turn tag (Whole n) there tagged put = record {
+    goes = λ text left.
+        let f = field-there tag (Whole n) there tagged put text left in
+        let each = eachText (fieldText (sheetIn s (left .nodes)) (left .node)) in
+        let after = eachText (nodeText (sheetIn s (left .nodes))) (drop (k + 1) (left .nodes)) in
+        record {
+          rest = each (f .later) ++ after;
+          left = record {
+            nodes = left .nodes;
+            indexed = left .indexed;
+            node = left .node;
+            numbered = left .numbered;
+            fields = f .later;
+            here = f .next;
+            is = refl;
+          };
+          joined =
+              sym (append-assoc (take n l′) (each (f .later)) after)
+              ∙ ap (λ (x : Str). x ++ each (f .later) ++ after) (unit-put tag (Whole n) there tagged put text left .1)
+              ∙ sym (left .is ∙ ap (λ (fs : List tree.Field). each fs ++ after) (f .all));
+        };
+  }
+  field-turn tag Short there tagged put = λ text left. unit-put tag Short there tagged put text left .0
+
+-- fewer fields are left, or fewer nodes
+pub field-fewer :
+    (s : Str) (k p q : ℕ) → length (rows (drop q s)) < length (rows (drop p s)) → mostLeft s (At k q) < mostLeft s (At k p)
+field-fewer s k p q h = omega arith
+
+pub node-fewer : (s index : List ℕ) (k q : ℕ) (next : Place) → Enters index (k + 1) next → mostLeft s next < mostLeft s (At k q)
+node-fewer s index k q next enters =
+    let z : 65 - (k + 1) ≡ 64 - k = omega arith in omega (arith, rw z at (enters .few s))
+
+-- ---- a piece
+
+-- a place that is not the end
+pub not-end : (place : Place) → OneOf (0 ∷ 1 ∷ []) (tagOf the-type place) → place ≡ End → ⊥
+not-end (Refused k line) h e = never cc
+not-end (At k q) h e = never cc
+not-end End h e = absurd (miss (0 ∷ 1 ∷ []) 2 tt h)
+
+-- something is left to do there
+some-left : (s : Str) (place : Place) → (place ≡ End → ⊥) → 0 < mostLeft s place
+some-left s (Refused k line) h = omega arith
+some-left s (At k q) h = omega arith
+some-left s End h = absurd (h refl)
+
+-- n bytes of l are what is printed from `place` on up to `next`
+pub record Filling (s index : List ℕ) (place : Place) (l₀ l : Str) (n : ℕ) (next : Place) : Type 0 where
+  pub size : length l ≡ length l₀
+  pub within : n ≤ length l
+  pub gives : Gives s index place (take n l) next
+  pub falls : mostLeft s next ≤ mostLeft s place
+  pub fewer : 0 < n → mostLeft s next < mostLeft s place
+
+module _ (s index : List ℕ) (place : Place) (l₀ : Str) where
+  pub filling-none : Filling s index place l₀ l₀ 0 place
+  filling-none = record {
+    size = refl;
+    within = omega arith;
+    gives = record { goes = λ text left. record { rest = text; left = left; joined = refl } };
+    falls = omega arith;
+    fewer = λ h. let z : ⊥ = omega arith in absurd z;
+  }
+
+  module _ (l : Str) (n : ℕ) (next : Place) (so-far : Filling s index place l₀ l n next) where
+    pub filling-more :
+        (l′ : Str) (m : ℕ) (after : Place) → length l′ ≡ length (lent l n) → m ≤ length l′
+        → Gives s index next (take m l′) after → mostLeft s after < mostLeft s next
+        → Filling s index place l₀ (back l n l′) (n + m) after
+    filling-more l′ m after k h gives falls = record {
+      size = back-length l l′ n (so-far .within) k ∙ so-far .size;
+      within = on-within l l′ n (so-far .within) m h;
+      gives = record {
+        goes = λ text left.
+            let f = so-far .gives .goes text left in
+            let g = gives .goes (f .rest) (f .left) in
+            record {
+              rest = g .rest;
+              left = g .left;
+              joined =
+                  ap (λ (x : Str). x ++ g .rest) (taken-on l l′ n (so-far .within) m h)
+                  ∙ append-assoc (take n l) (take m l′) (g .rest)
+                  ∙ ap (λ (x : Str). take n l ++ x) (g .joined)
+                  ∙ f .joined;
+            };
+      };
+      falls = omega (arith, falls, so-far .falls);
+      fewer = λ _. omega (arith, falls, so-far .falls);
+    }
+
+    -- the end is reached
+    pub filled-end : next ≡ End → Filled s index place l₀ l (record { n = n; next = next })
+    filled-end e = record { gives = so-far .gives; fewer = λ more room text left. rw e (some-left s place more) }
+
+    -- the next unit does not fit
+    pub filled-short :
+        (l′ : Str) (after : Place) → Turns s index next (lent l n) l′ Short after
+        → Filled s index place l₀ (back l n l′) (record { n = n; next = next })
+    filled-short l′ after turn = record {
+      gives = rw (before-kept l l′ n (so-far .within)) (so-far .gives);
+      fewer = λ more room text left.
+          let f = so-far .gives .goes text left in
+          let short : length (lent l n) < unitMost = turn (f .rest) (f .left) in
+          so-far .fewer (omega (arith, short, room, so-far .size, lent-length l n));
+    }
+
+-- ---- the loop over pieces
+
+-- something is left at a place, over a buffer that holds a unit
+pub record Printing (s index : List ℕ) (l₀ l : Str) (place : Place) : Type 0 where
+  pub size : length l ≡ length l₀
+  pub room : unitMost ≤ length l
+  pub rest : Str
+  pub left : Left s index place rest
+
+pub printing-more :
+    (s index : List ℕ) (l₀ l : Str) (place : Place) (l′ : Str) (r : Piece) → Printing s index l₀ l place → length l′ ≡ length l
+    → Filled s index place l l′ r → Printing s index l₀ l′ (r .next)
+printing-more s index l₀ l place l′ r so-far same filled =
+    let g = filled .gives .goes (so-far .rest) (so-far .left) in
+    record { size = same ∙ so-far .size; room = omega (arith, same, so-far .room); rest = g .rest; left = g .left }

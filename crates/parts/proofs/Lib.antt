@@ -1,3 +1,6 @@
+pub mod FitLaws
+pub mod PartLaws
 pub mod FieldLaws
 pub mod LeftLaws
-pub mod TextLaws
+pub mod SheetLaws
+pub mod PieceLaws

@@ -22,8 +22,8 @@ use Rattle.codegen.specs.Default.{primDefault, getterMask}
 use Rattle.codegen.specs.Getter.{getterText, getterRequest}
 use Rattle.codegen.specs.Haser.{generateHaser, haserRequest}
 use Rattle.codegen.specs.Setter.{generateSetter, setterRequest}
-use Rattle.requests.specs.Requests.{requestText}
-use Rattle.parts.specs.Program.{headerText, refusedText, partText, printedPart, ofField, fieldParts, eachText, nodeText}
+use Rattle.requests.specs.Requests.{accessorText}
+use Rattle.parts.specs.Program.{headerText, refusedText, partText, printedPart, fieldText, eachText, nodeText}
 use Rattle.parts.specs.Program.{refusedSheetText, programText}
 
 abbrev isFree : Str
@@ -53,7 +53,7 @@ pub example : programText (admitted isFree) ≡ ended (linesOf (
     ∷ "# haser builder isFree"
     ∷ ""
     ∷ []))
-unfolding programText nodeText eachText fieldParts ofField printedPart partText refusedText headerText requestText setterRequest
+unfolding programText nodeText fieldText eachText printedPart partText refusedText headerText accessorText setterRequest
     generateSetter haserRequest generateHaser getterRequest getterText getterMask primDefault setBoolField getBoolField
     typeString typeFrom typeOf valueOf wordsOf slotOf among overlap fieldOf fieldsUpTo fieldsOf groupIds paramsOf membersOf
     nodeOf nodesOf sheetOf admitted rowText columns textAt textOf textStart lineAt lineOf reader mostBits mostC mostB mostA

@@ -1,44 +1,75 @@
--- Where the printing of a node stands, and which of its parts are left from there. Assumes nothing.
+-- Where the printing of a sheet stands, what is left to print there, and what a piece leaves. Assumes nothing.
 use mathlib.Core.Path.{_≡_}
-use mathlib.Core.List.{List, [], _∷_, _++_}
-use Prim.Native.Nat.{ℕ, _+_, _*_}
+use mathlib.Core.List.{List, [], _++_}
+use mathlib.Core.Option.{some}
+use Prim.Native.Nat.{ℕ, _+_, _-_, _*_, _≤_, _<_}
 use lib.ListN.{length, take, drop}
 use Rattle.text.specs.Bytes.{Str}
 use Rattle.row.specs.Rows.{rows}
 use Rattle.row.specs.Line.{textAt}
-use Rattle.tree.specs.Tree.{Field, Node}
-use Rattle.tree.specs.Index.{Indexed}
-use Rattle.find.specs.Find.{sheetOf}
-use Rattle.place.specs.Fields.{FieldsHere}
-use Rattle.place.specs.Place.{NodeAt}
-use Rattle.parts.specs.Program.{from, printedPart, ofField, fieldParts}
-use Rattle.parts.specs.declared.Part.{Part}
+use Rattle.tree.specs.Tree.{Field, Node, Sheet}
+use Rattle.tree.specs.Fields.{FieldsHere}
+use Rattle.nodes.specs.Index.{Indexed, nth, sheetOf}
+use Rattle.parts.specs.Program.{eachText, fieldText, nodeText, refusedSheetText}
+use Rattle.parts.specs.Fit.{unitMost}
+use Rattle.parts.specs.declared.Fit.{Fit}
+use Rattle.parts.specs.declared.Fit.the-variants.{Whole, Short}
 use Rattle.parts.specs.declared.Place.{Place}
-use Rattle.parts.specs.declared.Place.the-variants.{At, End}
+use Rattle.parts.specs.declared.Place.the-variants.{Refused, At, End}
+use Rattle.parts.specs.declared.Piece.{Piece}
 
--- at a part of the field that stands at q: its parts from this one on are left, then those of the fields after it
-pub record LeftAt (s : Str) (q : ℕ) (part : Part) (ps : List (Field × Part)) : Type 0 where
-  pub field : Field
-  pub later : List Field
-  pub here : FieldsHere (rows (drop q s)) (field ∷ later)
-  pub parts : ps ≡ ofField field (from part) ++ fieldParts later
+-- the sheet with the bytes s and these nodes
+abbrev pub sheetIn : Str → List Node → Sheet
+sheetIn s ns = sheetOf (textAt (rows s)) ns
 
--- the parts that are left at a place
-abbrev pub Left : Str → Place → List (Field × Part) → Type 0
-Left s End ps = ps ≡ []
-Left s (At q part) ps = LeftAt s q part ps
+-- at the fields that stand at q, of the node with a number, in the sheet with the bytes s and this index: the text is that of
+-- these fields and of the nodes after
+pub record LeftAt (s index : List ℕ) (number q : ℕ) (text : Str) : Type 0 where
+  pub nodes : List Node
+  pub indexed : Indexed s nodes index
+  pub node : Node
+  pub numbered : nth number nodes ≡ some node
+  pub fields : List Field
+  pub here : FieldsHere (rows (drop q s)) fields
+  pub is : text ≡ eachText (fieldText (sheetIn s nodes) node) fields
+      ++ eachText (nodeText (sheetIn s nodes)) (drop (number + 1) nodes)
 
--- a bound of how many they are, which falls with each
+-- what is left to print at a place
+abbrev pub Left : (s index : List ℕ) → Place → Str → Type 0
+Left s index (Refused k line) text = text ≡ refusedSheetText k line
+Left s index (At number q) text = LeftAt s index number q text
+Left s index End text = text ≡ []
+
+-- a number that falls with each field and with each node
 abbrev pub mostLeft : Str → Place → ℕ
+mostLeft s (Refused k line) = 1
+mostLeft s (At number q) = (64 - number) * (length s + 2) + length (rows (drop q s)) + 1
 mostLeft s End = 0
-mostLeft s (At q part) = 5 * length (rows (drop q s)) + length (from part)
 
--- the contract of a part whose header is h bytes of `head` and whose text is n bytes of `buf`: in every sheet with these bytes
--- and this index they are the next part of the node, and at `next` the parts after it are left
-pub record PartMade (s ids ats : List ℕ) (node q : ℕ) (part : Part) (head : Str) (h : ℕ) (buf : Str) (n : ℕ) (next : Place) :
-    Type 0 where
-  pub bytes :
-      (nodes : List Node) (nd : Node) (at : Field × Part) (ps : List (Field × Part))
-      → Indexed s nodes ids ats → NodeAt s node nd → Left s (At q part) (at ∷ ps)
-      → take h head ++ take n buf ≡ printedPart (sheetOf (textAt (rows s)) nodes) nd at
-  pub after : (at : Field × Part) (ps : List (Field × Part)) → Left s (At q part) (at ∷ ps) → Left s next ps
+-- a place from which the nodes from a number on are left
+pub record Enters (index : List ℕ) (number : ℕ) (place : Place) : Type 0 where
+  pub left : (s : Str) (nodes : List Node) → Indexed s nodes index
+      → Left s index place (eachText (nodeText (sheetIn s nodes)) (drop number nodes))
+  pub few : (s : Str) → mostLeft s place ≤ (65 - number) * (length s + 2)
+
+-- where `text` is left, a piece is printed, and the rest is left at the next place
+pub record Goes (s index : List ℕ) (next : Place) (piece text : Str) : Type 0 where
+  pub rest : Str
+  pub left : Left s index next rest
+  pub joined : piece ++ rest ≡ text
+
+-- whatever is left at a place is the piece and what is left at the next
+pub record Gives (s index : List ℕ) (place : Place) (piece : Str) (next : Place) : Type 0 where
+  pub goes : (text : Str) → Left s index place text → Goes s index next piece text
+
+-- one turn at a place over the buffer l: what is taken is a piece; l is too short only if it has less than a unit has at most
+abbrev pub Turns : (s index : List ℕ) → Place → (l l′ : Str) → Fit → Place → Type 0
+Turns s index place l l′ (Whole n) next = Gives s index place (take n l′) next
+Turns s index place l l′ Short next = (text : Str) → Left s index place text → length l < unitMost
+
+-- the contract of a piece: it is what is left up to the next place; over a buffer that holds a unit, less is left there, unless
+-- the place is the end
+pub record Filled (s index : List ℕ) (place : Place) (l l′ : Str) (r : Piece) : Type 0 where
+  pub gives : Gives s index place (take (r .n) l′) (r .next)
+  pub fewer : (place ≡ End → ⊥) → unitMost ≤ length l → (text : Str) → Left s index place text
+      → mostLeft s (r .next) < mostLeft s place

@@ -1,3 +1,5 @@
 pub mod Program
+pub mod Fit
 pub mod Left
+pub mod Pieces
 pub mod Examples

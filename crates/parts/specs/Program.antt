@@ -10,9 +10,9 @@ use Rattle.tree.specs.Tree.{Arm, slot, group, Field, Node, Sheet}
 use Rattle.tree.specs.Read as read
 use Rattle.tree.specs.Read.{Admitted}
 use Rattle.codegen_types.specs.Out.{Out, ok, refused}
-use Rattle.requests.specs.Requests.{requestText}
-use Rattle.requests.specs.declared.Request.{Request}
-use Rattle.requests.specs.declared.Request.the-variants as request
+use Rattle.requests.specs.Requests.{accessorText}
+use Rattle.requests.specs.declared.Accessor.{Accessor}
+use Rattle.requests.specs.declared.Accessor.the-variants as accessor
 use Rattle.parts.specs.declared.Part.{Part}
 use Rattle.parts.specs.declared.Part.the-variants.{GetterReader, GetterBuilder, Setter, HaserReader, HaserBuilder, Zero}
 
@@ -30,14 +30,14 @@ abbrev pub partsOf : Arm → List Part
 partsOf (slot s) = from GetterReader
 partsOf (group id) = from Zero
 
--- what is requested for a part: a getter in the form that is not a function
-abbrev pub requestOf : Part → Request
-requestOf GetterReader = request.Getter true false
-requestOf GetterBuilder = request.Getter false false
-requestOf Setter = request.Setter
-requestOf HaserReader = request.Haser true
-requestOf HaserBuilder = request.Haser false
-requestOf Zero = request.Zeroing
+-- the accessor that is asked for a part: a getter in the form that is not a function
+abbrev pub accessorOf : Part → Accessor
+accessorOf GetterReader = accessor.Getter true false
+accessorOf GetterBuilder = accessor.Getter false false
+accessorOf Setter = accessor.Setter
+accessorOf HaserReader = accessor.Haser true
+accessorOf HaserBuilder = accessor.Haser false
+accessorOf Zero = accessor.Zeroing
 
 -- a header up to the name
 abbrev pub opening : Part → Str
@@ -56,34 +56,27 @@ headerText part name = opening part ++ name ++ unit 10
 unfoldable pub refusedText : ℕ → Str
 refusedText k = ascii "refused " ++ decimal k ++ unit 10
 
--- what stands under a header: the text, if the buffer of 65,536 bytes holds it, else 22; or the refusal's number
+-- what stands under a header: the text, if it has at most 65,536 bytes, else 22; or the refusal's number
 unfoldable pub partText : Out Str → Str
 partText (ok s) = cond (ltb 65536 (length s)) (refusedText 22) s
 partText (refused k) = refusedText k
 
--- a part of a field of a sheet: its header, and what stands under it
-unfoldable pub printedPart : Sheet → Node → Field × Part → Str
-printedPart sheet n at =
-    headerText (at .1) (at .0 .name) ++ partText (requestText sheet (n, at .0) (requestOf (at .1)))
-
--- parts of one field, each with the field
-unfoldable pub ofField : Field → List Part → List (Field × Part)
-ofField f [] = []
-ofField f (p ∷ ps) = (f, p) ∷ ofField f ps
-
--- the parts of fields, field by field
-unfoldable pub fieldParts : List Field → List (Field × Part)
-fieldParts [] = []
-fieldParts (f ∷ fs) = ofField f (partsOf (f .arm)) ++ fieldParts fs
+-- a part of a field of a node: its header, and what stands under it
+unfoldable pub printedPart : Sheet → Node × Field → Part → Str
+printedPart sheet at part = headerText part (at .1 .name) ++ partText (accessorText sheet at (accessorOf part))
 
 -- the text of each, one after the other
 unfoldable pub eachText : {A : Type 0} → (A → Str) → List A → Str
 eachText text [] = []
 eachText text (x ∷ xs) = text x ++ eachText text xs
 
--- what is printed of a node: the parts of its fields
+-- what is printed of a field: its parts
+unfoldable pub fieldText : Sheet → Node → Field → Str
+fieldText sheet n f = eachText (printedPart sheet (n, f)) (partsOf (f .arm))
+
+-- what is printed of a node: its fields
 unfoldable pub nodeText : Sheet → Node → Str
-nodeText sheet n = eachText (printedPart sheet n) (fieldParts (n .fields))
+nodeText sheet n = eachText (fieldText sheet n) (n .fields)
 
 -- what is printed of a refused sheet: all that is printed
 unfoldable pub refusedSheetText : ℕ → ℕ → Str

@@ -1,30 +1,33 @@
-// The parts that the program `accessors` prints: document 01's headers and texts, in their order.
-use requests::Answer;
-use requests::Request;
-use row::Line;
+// What the program `accessors` prints: document 01's headers and texts, in their order, in pieces as large as the output buffer
+// holds. All that is printed of a field is a unit: its parts, one behind the other, each written once, straight into the buffer.
+use codegen_types::Refusal;
+use field::Field;
+use field::Group;
+use field::Slot;
+use requests::Accessor;
 use text::Text;
-use tree::Walk;
 
 mod print;
 
+pub use print::claims;
 pub use print::print_sheet;
 ghost use mathlib.Core.Path.{_≡_};
-ghost use mathlib.Core.List.{List, _∷_};
-ghost use Prim.Native.Nat.{_+_, _*_, _≤_, _<_};
-ghost use lib.ListN.{length, take, drop};
-ghost use Rattle.io.specs.Counts.{Counts};
+ghost use mathlib.Core.List.{_∷_};
+ghost use Prim.Native.Nat.{_*_};
+ghost use lib.ListN.{length};
 ghost use Rattle.text.specs.Text.{Wrote};
-ghost use Rattle.row.specs.Rows.{rows};
-ghost use Rattle.row.specs.Line.{textAt};
-ghost use Rattle.tree.specs.Tree.{Field, Node};
-ghost use Rattle.place.specs.Fields.{FieldsHere};
-ghost use Rattle.place.specs.Place.{NodeAt, FieldAt};
-ghost use Rattle.requests.specs.Requests.{requestText};
+ghost use Rattle.field.specs.declared.Field.the-variants as field-is;
+ghost use Rattle.requests.specs.Requests.{accessorText};
 ghost use Rattle.requests.specs.Told.{OfField};
-ghost use Rattle.parts.specs.declared.Place.the-variants.{At};
-ghost use Rattle.parts.specs.Program.{requestOf, headerText, refusedText, partText, fieldParts, refusedSheetText};
+ghost use Rattle.parts.specs.Program.{from, accessorOf, headerText, refusedText, partText};
 ghost use Rattle.parts.specs.Program.{opening as Program·opening};
-ghost use Rattle.parts.specs.Left.{Left, mostLeft, PartMade};
+ghost use Rattle.parts.specs.Fit.{partMost, fitOf, Within, Fits, Puts, partsAfter, PartPut, PartsPut, FieldPut};
+
+// The bytes that a unit has at most: five parts, each a header of at most 17 + 64 + 1 bytes and a text of at most 65,536.
+pub const UNIT_SIZE: usize = 328090;
+
+// The bytes that a text has at most; a longer one is refused with 22.
+const TEXT_SIZE: usize = 65536;
 
 // A part of a field: the first five are those of a slot, the last is a group's.
 enum Part {
@@ -36,41 +39,74 @@ enum Part {
     Zero,
 }
 
-// Where the printing of a node stands: at a part of the field at a position, or past the node's last part.
+// The part after a part of the same field, or none.
+enum Next {
+    Is(Part),
+    Nothing,
+}
+
+// What a text takes of a buffer that it begins: so many bytes, or more than there are.
+enum Fit {
+    Whole(usize),
+    Short,
+}
+
+// Where the printing of a sheet stands: at the refusal of the sheet; at a field of the node with a number, from 0, or at what
+// stands after its last; at the end.
 enum Place {
-    At { field: usize, part: Part },
+    Refused { number: u64, line: usize },
+    At { node: usize, field: usize },
     End,
 }
 
-// A part that is made: how many bytes of the two buffers are its header and its text, and where the next part stands.
-struct Made {
-    header: usize,
-    text: usize,
+// What the next unit takes of a buffer, and the place after it.
+struct Turn {
+    fit: Fit,
     next: Place,
 }
 
-// What is requested for a part.
-fn asked(part: Part) -> Request
-    ensures { λ r. ⌜ r ≡ requestOf part ⌝ }
+// A piece: so many bytes of the buffer, and the place after them.
+struct Piece {
+    n: usize,
+    next: Place,
+}
+
+// The accessor that is asked for a part: a getter in the form that is not a function.
+fn asked(part: Part) -> Accessor
+    ensures { λ r. ⌜ r ≡ accessorOf part ⌝ }
 {
     match part {
-        Part::GetterReader => Request::Getter {
+        Part::GetterReader => Accessor::Getter {
             is_reader: true,
             is_fn: false,
         },
-        Part::GetterBuilder => Request::Getter {
+        Part::GetterBuilder => Accessor::Getter {
             is_reader: false,
             is_fn: false,
         },
-        Part::Setter => Request::Setter,
-        Part::HaserReader => Request::Haser { is_reader: true },
-        Part::HaserBuilder => Request::Haser { is_reader: false },
-        Part::Zero => Request::Zeroing,
+        Part::Setter => Accessor::Setter,
+        Part::HaserReader => Accessor::Haser { is_reader: true },
+        Part::HaserBuilder => Accessor::Haser { is_reader: false },
+        Part::Zero => Accessor::Zeroing,
+    }
+}
+
+// The part after a part.
+fn next_part(part: Part) -> Next
+    ensures { λ r. ⌜ from part ≡ part ∷ partsAfter r ⌝ }
+{
+    match part {
+        Part::GetterReader => Next::Is(Part::GetterBuilder),
+        Part::GetterBuilder => Next::Is(Part::Setter),
+        Part::Setter => Next::Is(Part::HaserReader),
+        Part::HaserReader => Next::Is(Part::HaserBuilder),
+        Part::HaserBuilder => Next::Nothing,
+        Part::Zero => Next::Nothing,
     }
 }
 
 // The header of a part up to the name.
-fn opening(t: Text, buf: &mut [u8], part: Part) -> Text
+fn opening(part: Part, t: Text, buf: &mut [u8]) -> Text
     ensures { λ r. ⌜ Wrote (now (buf .entry)) t (Program·opening part) (now (buf .exit)) r ⌝ }
 {
     match part {
@@ -83,161 +119,159 @@ fn opening(t: Text, buf: &mut [u8], part: Part) -> Text
     }
 }
 
-// The header of a part of the field at a position: so many bytes of the buffer. A field's name has at most 64.
-fn header(s: &[u8], field: usize, part: Part, buf: &mut [u8; 128]) -> usize
-    ensures count { λ r. ⌜ Counts r (now (buf .exit)) ⌝ }
-    ensures said { λ r. ⌜ ((f : Field) → FieldAt (now (s .entry)) field f
-        → take r (now (buf .exit)) ≡ headerText part (f .name)) ⌝ }
+// The header of a part of the field with a name.
+fn header(name: &[u8], part: Part, t: Text, buf: &mut [u8]) -> Text
+    ensures { λ r. ⌜ Wrote (now (buf .entry)) t (headerText part (now (name .entry))) (now (buf .exit)) r ⌝ }
 {
-    let t = opening(Text::at(0), buf, part);
-    let t = t.bytes(buf, row::text(s, field));
-    let t = t.byte(buf, b'\n');
-    programs::filled(t, buf)
+    let t = opening(part, t, buf);
+    let t = t.bytes(buf, name);
+    t.byte(buf, b'\n')
 }
 
-// What stands under the header of a refused part: so many bytes of the buffer.
-fn refused(number: u64, buf: &mut [u8; 65536]) -> usize
-    ensures count { λ r. ⌜ Counts r (now (buf .exit)) ⌝ }
-    ensures said { λ r. ⌜ take r (now (buf .exit)) ≡ refusedText number ⌝ }
+// What the text that a state ends takes of the buffer that it begins.
+fn taken(t: Text, buf: &[u8]) -> Fit
+    ensures { λ r. ⌜ r ≡ fitOf (t .at) (length (now (buf .entry))) ⌝ }
+{
+    let n = t.fill();
+    if buf.len() < n {
+        return Fit::Short;
+    }
+    Fit::Whole(n)
+}
+
+// What stands under the header of a refused part.
+fn refused(number: u64, buf: &mut [u8]) -> Fit
+    ensures within { λ r. ⌜ Within r (now (buf .exit)) ⌝ }
+    ensures fits { λ r. ⌜ Fits 65536 (now (buf .entry)) r ⌝ }
+    ensures said { λ r. ⌜ Puts (refusedText number) (now (buf .exit)) r ⌝ }
 {
     let t = Text::at(0).bytes(buf, b"refused ");
     let t = t.number(buf, number);
     let t = t.byte(buf, b'\n');
-    programs::filled(t, buf)
+    taken(t, buf)
 }
 
-// What stands under the header of a part, for the node and the field at two positions: so many bytes of the buffer, which the
-// text has whole.
+// What stands under the header of a part of a field that was read. Where its text is refused or too long, the refusal is written
+// over it.
 fn under_header(
+    root: &[u8],
     s: &[u8],
-    ids: &[u64],
-    ats: &[usize],
-    node: usize,
-    field: usize,
+    index: &[u64],
+    tag: u64,
+    field: Field,
     part: Part,
-    buf: &mut [u8; 65536],
-) -> usize
-    ensures count { λ r. ⌜ Counts r (now (buf .exit)) ⌝ }
-    ensures said { λ r. ⌜ OfField (now (s .entry)) (now (ids .entry)) (now (ats .entry)) (textAt (rows (now (s .entry))))
-        node field (λ sheet at. take r (now (buf .exit)) ≡ partText (requestText sheet at (requestOf part))) ⌝ }
+    buf: &mut [u8],
+) -> Fit
+    ensures within { λ r. ⌜ Within r (now (buf .exit)) ⌝ }
+    ensures fits { λ r. ⌜ Fits 65536 (now (buf .entry)) r ⌝ }
+    ensures said { λ r. ⌜ OfField (now (root .entry)) (now (s .entry)) (now (index .entry)) tag field
+        (λ sheet at. Puts (partText (accessorText sheet at (accessorOf part))) (now (buf .exit)) r) ⌝ }
 {
-    match requests::answer_at(s, ids, ats, node, field, asked(part), Text::at(0), buf) {
-        Answer::Done(t) => programs::filled(t, buf),
-        Answer::Refused { number, line: _ } => refused(number, buf),
+    let accessor = asked(part);
+    let written = requests::write_accessor(root, s, index, tag, field, accessor, Text::at(0), buf);
+    let refusal = written.refusal;
+    if let Refusal::Number(number) = refusal {
+        return refused(number as u64, buf);
     }
-}
-
-// The first part of the fields that stand at a position.
-fn first_of(s: &[u8], at: usize) -> Place
-    ensures parts { λ r. ⌜ ((fs : List Field) → FieldsHere (rows (drop at (now (s .entry)))) fs
-        → Left (now (s .entry)) r (fieldParts fs)) ⌝ }
-    ensures most { λ r. ⌜ mostLeft (now (s .entry)) r ≤ 5 * length (rows (drop at (now (s .entry)))) + 5 ⌝ }
-{
-    let g = row::next(s, at);
-    let l = g.line;
-    match l {
-        Line::Field {
-            offset: _,
-            discriminant: _,
-            explicit: _,
-            option: _,
-        } => Place::At {
-            field: at,
-            part: Part::GetterReader,
-        },
-        Line::Group {
-            id: _,
-            discriminant: _,
-        } => Place::At {
-            field: at,
-            part: Part::Zero,
-        },
-        _ => Place::End,
+    let t = written.text;
+    if TEXT_SIZE < t.fill() {
+        return refused(22, buf);
     }
+    taken(t, buf)
 }
 
-// The first part of the node at a position.
-fn first(s: &[u8], node: usize) -> Place
-    ensures { λ r. ⌜ ((n : Node) → NodeAt (now (s .entry)) node n → Left (now (s .entry)) r (fieldParts (n .fields))) ⌝ }
-{
-    first_of(s, place::first_field(s, node))
-}
-
-// The first part of the fields after the field at a position.
-fn next_field(s: &[u8], field: usize) -> Place
-    ensures parts { λ r. ⌜ ((f : Field) (fs : List Field) → FieldsHere (rows (drop field (now (s .entry)))) (f ∷ fs)
-        → Left (now (s .entry)) r (fieldParts fs)) ⌝ }
-    ensures most { λ r. ⌜ mostLeft (now (s .entry)) r ≤ 5 * length (rows (drop field (now (s .entry)))) ⌝ }
-{
-    match place::after_field(s, field) {
-        Walk::Next { at } => first_of(s, at),
-        Walk::Refused { number: _, at: _ } => Place::End,
-    }
-}
-
-// Where the part after a part of the field at a position stands.
-fn after(s: &[u8], field: usize, part: Part) -> Place
-    ensures parts { λ r. ⌜ ((at : Field × Part) (ps : List (Field × Part))
-        → Left (now (s .entry)) (At field part) (at ∷ ps) → Left (now (s .entry)) r ps) ⌝ }
-    ensures fewer { λ r. ⌜ mostLeft (now (s .entry)) r < mostLeft (now (s .entry)) (At field part) ⌝ }
-{
-    match part {
-        Part::GetterReader => Place::At {
-            field,
-            part: Part::GetterBuilder,
-        },
-        Part::GetterBuilder => Place::At {
-            field,
-            part: Part::Setter,
-        },
-        Part::Setter => Place::At {
-            field,
-            part: Part::HaserReader,
-        },
-        Part::HaserReader => Place::At {
-            field,
-            part: Part::HaserBuilder,
-        },
-        Part::HaserBuilder => next_field(s, field),
-        Part::Zero => next_field(s, field),
-    }
-}
-
-// A part of the field at a position: its header into `head`, its text into `buf`.
-fn make(
+// A part of a field that was read: its header, and what stands under it.
+fn write_part(
+    root: &[u8],
     s: &[u8],
-    ids: &[u64],
-    ats: &[usize],
-    node: usize,
-    field: usize,
+    index: &[u64],
+    tag: u64,
+    field: Field,
+    name: &[u8],
     part: Part,
-    head: &mut [u8; 128],
-    buf: &mut [u8; 65536],
-) -> Made
-    ensures header { λ r. ⌜ Counts (r .header) (now (head .exit)) ⌝ }
-    ensures text { λ r. ⌜ Counts (r .text) (now (buf .exit)) ⌝ }
-    ensures made { λ r. ⌜ PartMade (now (s .entry)) (now (ids .entry)) (now (ats .entry)) node field part
-        (now (head .exit)) (r .header) (now (buf .exit)) (r .text) (r .next) ⌝ }
-    ensures fewer { λ r. ⌜ mostLeft (now (s .entry)) (r .next) < mostLeft (now (s .entry)) (At field part) ⌝ }
+    out: &mut [u8],
+) -> Fit
+    ensures within { λ r. ⌜ Within r (now (out .exit)) ⌝ }
+    ensures fits { λ r. ⌜ Fits (partMost (now (name .entry))) (now (out .entry)) r ⌝ }
+    ensures said { λ r. ⌜ PartPut (now (root .entry)) (now (s .entry)) (now (index .entry)) tag field (now (name .entry)) part
+        (now (out .exit)) r ⌝ }
 {
-    let header = header(s, field, part, head);
-    let text = under_header(s, ids, ats, node, field, part, buf);
-    Made {
-        header,
-        text,
-        next: after(s, field, part),
+    let t = header(name, part, Text::at(0), out);
+    let n = t.fill();
+    if out.len() < n {
+        return Fit::Short;
+    }
+    match under_header(root, s, index, tag, field, part, &mut out[n..]) {
+        Fit::Whole(m) => Fit::Whole(n + m),
+        Fit::Short => Fit::Short,
     }
 }
 
-// What is printed of a refused sheet: so many bytes of the buffer.
-fn refused_sheet(number: u64, line: usize, buf: &mut [u8; 128]) -> usize
-    ensures count { λ r. ⌜ Counts r (now (buf .exit)) ⌝ }
-    ensures said { λ r. ⌜ take r (now (buf .exit)) ≡ refusedSheetText number line ⌝ }
+// The parts of a field from one on.
+fn write_parts(
+    root: &[u8],
+    s: &[u8],
+    index: &[u64],
+    tag: u64,
+    field: Field,
+    name: &[u8],
+    first: Part,
+    out: &mut [u8],
+) -> Fit
+    ensures within { λ r. ⌜ Within r (now (out .exit)) ⌝ }
+    ensures fits { λ r. ⌜ Fits (length (from first) * partMost (now (name .entry))) (now (out .entry)) r ⌝ }
+    ensures said { λ r. ⌜ PartsPut (now (root .entry)) (now (s .entry)) (now (index .entry)) tag field (now (name .entry)) first
+        (now (out .exit)) r ⌝ }
 {
-    let t = Text::at(0).bytes(buf, b"refused ");
-    let t = t.number(buf, number);
-    let t = t.bytes(buf, b" line ");
-    let t = t.number(buf, line as u64);
-    let t = t.byte(buf, b'\n');
-    programs::filled(t, buf)
+    let mut part = first;
+    let mut n: usize = 0;
+    loop {
+        let fit = write_part(root, s, index, tag, field, name, part, &mut out[n..]);
+        let Fit::Whole(m) = fit else {
+            return Fit::Short;
+        };
+        n += m;
+        let Next::Is(next) = next_part(part) else {
+            return Fit::Whole(n);
+        };
+        part = next;
+    }
+}
+
+// All that is printed of a slot.
+fn write_slot(root: &[u8], s: &[u8], index: &[u64], tag: u64, slot: Slot, out: &mut [u8]) -> Fit
+    ensures within { λ r. ⌜ Within r (now (out .exit)) ⌝ }
+    ensures said { λ r. ⌜ FieldPut (now (root .entry)) (now (s .entry)) (now (index .entry)) tag (field-is.Slot slot)
+        (now (out .entry)) (now (out .exit)) r ⌝ }
+{
+    let name = slot.name(s);
+    write_parts(
+        root,
+        s,
+        index,
+        tag,
+        Field::Slot(slot),
+        name,
+        Part::GetterReader,
+        out,
+    )
+}
+
+// All that is printed of a group.
+fn write_group(root: &[u8], s: &[u8], index: &[u64], tag: u64, group: Group, out: &mut [u8]) -> Fit
+    ensures within { λ r. ⌜ Within r (now (out .exit)) ⌝ }
+    ensures said { λ r. ⌜ FieldPut (now (root .entry)) (now (s .entry)) (now (index .entry)) tag (field-is.Group group)
+        (now (out .entry)) (now (out .exit)) r ⌝ }
+{
+    let name = group.name(s);
+    write_parts(
+        root,
+        s,
+        index,
+        tag,
+        Field::Group(group),
+        name,
+        Part::Zero,
+        out,
+    )
 }

@@ -1,60 +1,210 @@
-// Prints what document 01 says of a sheet. No contract can say what is printed: what is proved is each part's bytes and which
-// part comes next (`make`), where a node's parts begin (`first`), and a refused sheet's line (`refused_sheet`). That they are
-// printed in this order, one node after the other as the index has them, is what the two loops here are to be read for.
+// Prints a sheet piece by piece. Each piece is as many whole units as the output buffer holds; the unit that does not fit behind
+// them is the first of the next piece. No contract can say what is written: what is proved is that the pieces which `fill` makes
+// from `start` on, one after the other, are all that document 01 says (`claims`). That each is written once, in this order, is
+// what the loop of `print_from` is to be read for.
+use crate::Fit;
+use crate::Piece;
 use crate::Place;
-use crate::first;
-use crate::make;
-use crate::refused_sheet;
+use crate::Turn;
+use crate::UNIT_SIZE;
+use crate::taken;
+use crate::write_group;
+use crate::write_slot;
+use field::Field;
 use libc::STDOUT_FILENO;
+use nodes::Found;
 use sheet::Answer;
+use text::Text;
+ghost use mathlib.Core.Path.{_≡_};
+ghost use mathlib.Core.List.{List};
+ghost use mathlib.Core.Option.{some};
+ghost use Prim.Native.Nat.{_+_, _≤_, _<_};
+ghost use lib.ListN.{length};
+ghost use Rattle.io.specs.Counts.{Counts};
+ghost use Rattle.text.specs.Bytes.{Str};
+ghost use Rattle.row.specs.Rows.{rows};
+ghost use Rattle.row.specs.Line.{textAt};
+ghost use Rattle.tree.specs.Tree.{Node};
+ghost use Rattle.tree.specs.Read.{admitted};
+ghost use Rattle.nodes.specs.Index.{Indexed, nth};
+ghost use Rattle.parts.specs.Program.{refusedSheetText, programText};
+ghost use Rattle.parts.specs.Fit.{unitMost, Within, Fits, Puts};
+ghost use Rattle.parts.specs.Left.{Left, mostLeft, Enters, Turns, Filled};
+ghost use Rattle.parts.specs.Pieces.{PiecesHold};
+ghost use Rattle.parts.specs.declared.Place.the-variants.{At, End};
 
-// The parts of the node at a position, one after the other.
-fn print_node(s: &[u8], ids: &[u64], ats: &[usize], node: usize) {
-    let mut head = [0u8; 128];
-    let mut buf = io::large_buffer();
-    let mut place = first(s, node);
+// The first field of the node with a number. There are at most 64 nodes.
+fn enter(index: &[u64], node: usize) -> Place
+    ensures { λ r. ⌜ Enters (now (index .entry)) node r ⌝ }
+{
+    if 64 <= node {
+        return Place::End;
+    }
+    match nodes::nth(index, node) {
+        Found::At(entry) => Place::At {
+            node,
+            field: entry.fields,
+        },
+        Found::Nothing => Place::End,
+    }
+}
+
+// The first field of the node after the one with a number.
+fn next_node(index: &[u64], node: usize) -> Place
+    ensures { λ r. ⌜ Enters (now (index .entry)) (node + 1) r ⌝ }
+{
+    if 64 <= node {
+        return Place::End;
+    }
+    enter(index, node + 1)
+}
+
+// The offset of the tag of the node with a number.
+fn tag_of(index: &[u64], node: usize) -> u64
+    ensures { λ r. ⌜ ((s : Str) (ns : List Node) (n : Node) → Indexed s ns (now (index .entry)) → nth node ns ≡ some n
+        → n .tagOffset ≡ r) ⌝ }
+{
+    match nodes::nth(index, node) {
+        Found::At(entry) => entry.tag_offset,
+        Found::Nothing => 0,
+    }
+}
+
+// Where the printing of a sheet begins. The sheet is admitted, and its nodes are put into the index.
+fn start(s: &[u8], index: &mut [u64]) -> Place
+    ensures { λ r. ⌜ (1025 ≤ length (now (index .entry))
+        → Left (now (s .entry)) (now (index .exit)) r (programText (admitted (now (s .entry))))) ⌝ }
+{
+    let verdict = sheet::admit(s, index);
+    match verdict {
+        Answer::Sheet => enter(index, 0),
+        Answer::Refused { number, line } => Place::Refused { number, line },
+    }
+}
+
+// What is printed of a refused sheet.
+fn refused_sheet(number: u64, line: usize, buf: &mut [u8]) -> Fit
+    ensures within { λ r. ⌜ Within r (now (buf .exit)) ⌝ }
+    ensures fits { λ r. ⌜ Fits 65536 (now (buf .entry)) r ⌝ }
+    ensures said { λ r. ⌜ Puts (refusedSheetText number line) (now (buf .exit)) r ⌝ }
+{
+    let t = Text::at(0).bytes(buf, b"refused ");
+    let t = t.number(buf, number);
+    let t = t.bytes(buf, b" line ");
+    let t = t.number(buf, line as u64);
+    let t = t.byte(buf, b'\n');
+    taken(t, buf)
+}
+
+// The unit of the field at a position in the node with a number; nothing where no field stands there.
+fn field_turn(root: &[u8], s: &[u8], index: &[u64], node: usize, at: usize, out: &mut [u8]) -> Turn
+    requires { ⌜ now root ≡ textAt (rows (now s)) ⌝ }
+    ensures within { λ r. ⌜ Within (r .fit) (now (out .exit)) ⌝ }
+    ensures said { λ r. ⌜ Turns (now (s .entry)) (now (index .entry)) (At node at) (now (out .entry)) (now (out .exit))
+        (r .fit) (r .next) ⌝ }
+    ensures fewer { λ r. ⌜ mostLeft (now (s .entry)) (r .next) < mostLeft (now (s .entry)) (At node at) ⌝ }
+{
+    let tag = tag_of(index, node);
+    let read = field::read(s, at);
+    match read {
+        Field::Slot(slot) => Turn {
+            fit: write_slot(root, s, index, tag, slot, out),
+            next: Place::At {
+                node,
+                field: slot.next,
+            },
+        },
+        Field::Group(group) => Turn {
+            fit: write_group(root, s, index, tag, group, out),
+            next: Place::At {
+                node,
+                field: group.next,
+            },
+        },
+        Field::Nothing => Turn {
+            fit: Fit::Whole(0),
+            next: next_node(index, node),
+        },
+    }
+}
+
+// What is printed next at a place, from the start of the buffer on.
+fn step(root: &[u8], s: &[u8], index: &[u64], place: Place, out: &mut [u8]) -> Turn
+    requires { ⌜ now root ≡ textAt (rows (now s)) ⌝ }
+    ensures within { λ r. ⌜ Within (r .fit) (now (out .exit)) ⌝ }
+    ensures said { λ r. ⌜ Turns (now (s .entry)) (now (index .entry)) place (now (out .entry)) (now (out .exit))
+        (r .fit) (r .next) ⌝ }
+    ensures fewer { λ r. ⌜ ((place ≡ End → ⊥) → mostLeft (now (s .entry)) (r .next) < mostLeft (now (s .entry)) place) ⌝ }
+{
+    match place {
+        Place::At { node, field } => field_turn(root, s, index, node, field, out),
+        Place::Refused { number, line } => Turn {
+            fit: refused_sheet(number, line, out),
+            next: Place::End,
+        },
+        Place::End => Turn {
+            fit: Fit::Whole(0),
+            next: Place::End,
+        },
+    }
+}
+
+// The piece that begins at a place: whole units, as many as fit into the buffer.
+fn fill(s: &[u8], index: &[u64], place: Place, out: &mut [u8]) -> Piece
+    ensures count { λ r. ⌜ Counts (r .n) (now (out .exit)) ⌝ }
+    ensures filled { λ r. ⌜ Filled (now (s .entry)) (now (index .entry)) place (now (out .entry)) (now (out .exit)) r ⌝ }
+{
+    let root = row::text(s, 0);
+    let mut next = place;
+    let mut n: usize = 0;
     loop {
-        let Place::At { field, part } = place else {
-            return;
+        if let Place::End = next {
+            return Piece { n, next };
+        }
+        let turn = step(root, s, index, next, &mut out[n..]);
+        let fit = turn.fit;
+        let Fit::Whole(m) = fit else {
+            return Piece { n, next };
         };
-        let made = make(s, ids, ats, node, field, part, &mut head, &mut buf);
-        let header = made.header;
-        let text = made.text;
-        io::write_all(STDOUT_FILENO, &head[..header]);
-        io::write_all(STDOUT_FILENO, &buf[..text]);
-        let next = made.next;
+        n += m;
+        next = turn.next;
+    }
+}
+
+// Prints a sheet from its start on, and tells whether all of it was written.
+fn print_from(s: &[u8], index: &[u64], start: Place, out: &mut [u8]) -> bool
+    requires { ⌜ unitMost ≤ length (now out) ⌝ }
+    requires { ⌜ Left (now s) (now index) start (programText (admitted (now s))) ⌝ }
+{
+    let mut place = start;
+    loop {
+        if let Place::End = place {
+            return true;
+        }
+        let piece = fill(s, index, place, out);
+        let n = piece.n;
+        if !io::write_all(STDOUT_FILENO, &out[..n]) {
+            return false;
+        }
+        let next = piece.next;
         place = next;
     }
 }
 
-// The nodes of an index, one after the other.
-fn print_nodes(s: &[u8], ids: &[u64], ats: &[usize]) {
-    let mut i = 0;
-    while i < ats.len() {
-        print_node(s, ids, ats, ats[i]);
-        i += 1;
+// Prints all that is printed of a sheet, and tells whether all of it was written. The index has room for any sheet's nodes and
+// the buffer for any unit; where one is smaller, nothing is printed.
+pub fn print_sheet(s: &[u8], index: &mut [u64], out: &mut [u8]) -> bool {
+    if index.len() < nodes::INDEX_SIZE {
+        return false;
     }
+    if out.len() < UNIT_SIZE {
+        return false;
+    }
+    let place = start(s, index);
+    print_from(s, index, place, out)
 }
 
-// The line of a refused sheet.
-fn print_refused(number: u64, line: usize) {
-    let mut buf = [0u8; 128];
-    let n = refused_sheet(number, line, &mut buf);
-    io::write_all(STDOUT_FILENO, &buf[..n]);
-}
-
-// All that is printed of a sheet, which is admitted once.
-pub fn print_sheet(s: &[u8]) {
-    let admission = sheet::admit(s);
-    let answer = admission.answer;
-    match answer {
-        Answer::Sheet => {
-            let index = admission.index;
-            let ids = index.ids;
-            let ats = index.ats;
-            let n = index.count;
-            print_nodes(s, &ids[..n], &ats[..n]);
-        }
-        Answer::Refused { number, line } => print_refused(number, line),
-    }
-}
+// Makes it a promise of this crate that the pieces, one after the other, are what document 01 says of the sheet.
+pub fn claims()
+    ensures { λ r. ⌜ PiecesHold ⌝ }
+{}

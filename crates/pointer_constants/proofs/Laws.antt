@@ -20,7 +20,7 @@ use Rattle.row.specs.declared.Line.the-variants as line
 use Rattle.tree.specs.Reader.{Rows, Reading, Reader, got, no, _then_}
 use Rattle.tree.specs.Read.{wordsUpTo, wordsOf}
 use Rattle.tree.proofs.OtherLines.{not-word}
-use Rattle.find.specs.Find.{On, Has}
+use Rattle.tree.specs.Index.{On, Has}
 use Rattle.find.proofs.Laws.{on-map, on-one}
 use Rattle.codegen.specs.WordArray.{bytesFrom, wordBytes, wordsLines, wordArrayDeclaration}
 use Rattle.pointer_constants.specs.Words.{wordsAt, wordLine, wordsText}
@@ -54,9 +54,9 @@ words-are (suc n) rs =
     refl
 
 -- a slot's words
-pub words-of : (rs : Rows) (ws : List ℕ) → Has (wordsOf true rs) (λ x. x ≡ ws) → ws ≡ wordsAt 255 rs
+words-whole : (rs : Rows) (ws : List ℕ) → Has (wordsOf true rs) (λ x. x ≡ ws) → ws ≡ wordsAt 255 rs
 unfolding wordsOf wordsAt
-words-of rs ws =
+words-whole rs ws =
     two (λ (f : Reader (List ℕ)) (xs : List ℕ). Has (f rs) (λ x. x ≡ ws) → ws ≡ xs) (lineAt rs) _ _ _ _
     (λ w. go w (wordsUpTo 254 (restOf rs)) (words-are 254 (restOf rs)))
     (λ h. absurd h)
@@ -65,6 +65,30 @@ words-of rs ws =
         → ws ≡ w ∷ wordsAt 254 (restOf rs)
     go w (got x q) e h = sym h ∙ ap (λ (y : List ℕ). w ∷ y) e
     go w (no k q) e h = absurd h
+
+-- no more rows need be looked at than there are words
+words-short : (n : ℕ) (rs : Rows) → wordsAt (length (wordsAt n rs)) rs ≡ wordsAt n rs
+unfolding wordsAt
+words-short zero rs = refl
+words-short (suc n) rs = go (lineAt rs) refl (words-short n (restOf rs))
+  where
+    go : (l : RowLine) → lineAt rs ≡ l → wordsAt (length (wordsAt n (restOf rs))) (restOf rs) ≡ wordsAt n (restOf rs)
+        → wordsAt (length (asWord l (λ w. w ∷ wordsAt n (restOf rs)) [])) rs ≡ asWord l (λ w. w ∷ wordsAt n (restOf rs)) []
+    go (line.Word w) e h = rw e (ap (λ (x : List ℕ). w ∷ x) h)
+    go line.Root e h = refl
+    go (line.Node i p k x v c o) e h = refl
+    go line.Parameter e h = refl
+    go (line.Field o d x p) e h = refl
+    go (line.Group i d) e h = refl
+    go (line.Typ k a b c) e h = refl
+    go (line.Scope i b c) e h = refl
+    go line.Unbound e h = refl
+    go (line.Value k b) e h = refl
+    go line.Bad e h = refl
+
+pub words-of : (rs : Rows) (ws : List ℕ) (k : ℕ) → Has (wordsOf true rs) (λ x. x ≡ ws) → k ≡ length ws → wordsAt k rs ≡ ws
+words-of rs ws k h e =
+    let z = words-whole rs ws h in rw (e, z) (words-short 255 rs)
 
 pub words-none : (n : ℕ) (rs : Rows) → n ≤ 0 → wordsAt n rs ≡ []
 unfolding wordsAt

@@ -1,15 +1,21 @@
--- Laws of the input's lines, numbers and sheets: what stands from a place on, by the byte there. Assumes nothing.
-use mathlib.Core.Path.{_≡_, refl}
+-- Laws of what was read, and of the input's lines, numbers and sheets: what stands from a place on, by the byte there. Assumes
+-- nothing.
+use mathlib.Core.Path.{_≡_, refl, sym}
 use mathlib.Core.Bool.{Bool, true, false}
 use Prim.Native.Nat.{ℕ, suc, _+_, _-_, _*_, _%_, _<_, _≤_, min}
 use native.Mathlib.Omega.{arith}
 use native.Mathlib.Numerals.{add-one}
 use lib.Dec.{ltb}
 use lib.ListN.{length, getD, take, drop, drop-of-length-le}
-use lib.Seq.{drop-cons}
+use lib.Seq.{drop-cons, length-take-le}
 use borrow.Author.Tests.{eq-eqb, ne-eqb, ltb-false, lt-ltb, le-ltb}
+use Rattle.io.specs.Counts.{Counts}
 use Rattle.text.specs.Bytes.{Str}
 use Rattle.programs.specs.Input.{lineLength, lineEnd, digitOf, numberFrom, numberOf, sheetAfter}
+
+-- so many of a buffer's bytes
+pub counted : (n : ℕ) (l : Str) → n ≤ length l → Counts n l
+counted n l h = (h, sym (length-take-le n l h))
 
 -- where a line ends and where it goes on
 pub line-here : (s : Str) (i : ℕ) → i < length s → getD s i 0 ≡ 10 → lineEnd s i ≡ i

@@ -1,11 +1,20 @@
--- The input of the replay programs: lines, and sheets, each after a line that has its length in decimal. Assumes nothing.
+-- What was read of standard input. The input of the replay programs: lines, and sheets, each after a line that has its length in
+-- decimal. Assumes nothing.
 use mathlib.Core.Bool.{true, false}
 use mathlib.Core.List.{[], _∷_}
 use Prim.Native.Nat.{ℕ, suc, _+_, _-_, _*_, _%_, min}
 use lib.Dec.{eqb, ltb}
 use lib.ListN.{length, take, drop}
 use Rattle.text.specs.Bytes.{Str, cond}
+use Rattle.io.specs.Counts.{Counts}
+use Rattle.programs.specs.declared.Input.{Input}
+use Rattle.programs.specs.declared.Input.the-variants.{Bytes, Failed}
 use Rattle.programs.specs.declared.Sheet.{Sheet}
+
+-- so many bytes of the buffer were read
+abbrev pub Holds : Input → Str → Type 0
+Holds (Bytes n) l = Counts n l
+Holds Failed l = Unit {0}
 
 -- how many bytes stand in front of the first byte 10, or of the end
 unfoldable pub lineLength : Str → ℕ

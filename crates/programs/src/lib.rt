@@ -1,15 +1,54 @@
-// What the programs share: the lines and sheets of their input, and how much of a buffer a text state has filled.
+// What the programs share: reading standard input, the lines and sheets of an input, and how much of a buffer a text state has
+// filled.
+use libc::STDIN_FILENO;
 use text::Text;
 ghost use mathlib.Core.Path.{_≡_};
 ghost use Prim.Native.Nat.{_+_, _≤_, min, max};
 ghost use lib.ListN.{length};
 ghost use Rattle.io.specs.Counts.{Counts};
-ghost use Rattle.programs.specs.Input.{lineEnd, digitOf, numberOf, sheetAfter};
+ghost use Rattle.programs.specs.Input.{Holds, lineEnd, digitOf, numberOf, sheetAfter};
+
+// How often a read that a signal interrupted is tried again.
+const TRIES: usize = 4096;
+
+// What was read: so many bytes at the start of a buffer, or a failure.
+pub enum Input {
+    Bytes(usize),
+    Failed,
+}
 
 // Where a sheet starts and ends among others.
 pub struct Sheet {
     pub start: usize,
     pub end: usize,
+}
+
+// Reads standard input to its end, or until the buffer is full.
+pub fn read_input(buf: &mut [u8]) -> Input
+    ensures { λ r. ⌜ Holds r (now (buf .exit)) ⌝ }
+{
+    let mut n: usize = 0;
+    let mut tries = TRIES;
+    while n < buf.len() {
+        let rest = &mut buf[n..];
+        let got = libc::read(STDIN_FILENO, rest);
+        let m = io::count(got, rest);
+        if 0 < m {
+            n += m;
+            continue;
+        }
+        if got == 0 {
+            return Input::Bytes(n);
+        }
+        if os::errno() != libc::EINTR {
+            return Input::Failed;
+        }
+        if tries == 0 {
+            return Input::Failed;
+        }
+        tries -= 1;
+    }
+    Input::Bytes(n)
 }
 
 // The first byte 10 from a place on, or the end; a place past the end as it is.

@@ -1,21 +1,33 @@
 // Replays what `accessors` prints: reads sheets from standard input, each after a line with its length in decimal, and prints
 // for each what `accessors` prints for it. The files stdin and stdout beside src/ are written by the comparison in oracle/, by
 // capnpc's own functions.
+use libc::STDERR_FILENO;
 use libc::STDIN_FILENO;
 
-fn replay(sheets: &[u8]) {
+// Prints each sheet, and tells whether all was written.
+fn replay(sheets: &[u8], index: &mut [u64], out: &mut [u8]) -> bool {
     let mut at = 0;
     while at < sheets.len() {
         let next = programs::next_sheet(sheets, at);
         let start = next.start;
         let end = next.end;
-        parts::print_sheet(&sheets[start..end]);
+        if !parts::print_sheet(&sheets[start..end], index, out) {
+            return false;
+        }
         at = end;
     }
+    true
 }
 
 fn main() {
-    let mut sheets = io::large_buffer();
+    let mut sheets = [0u8; 65536];
     let n = io::read_full(STDIN_FILENO, &mut sheets);
-    replay(&sheets[..n]);
+    let mut index = [0u64; nodes::INDEX_SIZE];
+    let mut out = [0u8; parts::UNIT_SIZE];
+    if !replay(&sheets[..n], &mut index, &mut out) {
+        io::write_all(
+            STDERR_FILENO,
+            b"replay_accessors: cannot write standard output\n",
+        );
+    }
 }

@@ -6,7 +6,7 @@ use libc::STDOUT_FILENO;
 use sheet::Answer;
 use text::Text;
 
-fn print_line(buf: &mut [u8], number: u64, line: usize) {
+fn print_line(number: u64, line: usize, buf: &mut [u8]) {
     let t = Text::at(0).number(buf, number);
     let t = t.byte(buf, b' ');
     let t = t.number(buf, line as u64);
@@ -15,22 +15,20 @@ fn print_line(buf: &mut [u8], number: u64, line: usize) {
     io::write_all(STDOUT_FILENO, &buf[..n]);
 }
 
-fn print_sheet(buf: &mut [u8], s: &[u8]) {
-    let admission = sheet::admit(s);
-    let answer = admission.answer;
-    match answer {
-        Answer::Sheet => print_line(buf, 0, 0),
-        Answer::Refused { number, line } => print_line(buf, number, line),
+fn print_sheet(s: &[u8], index: &mut [u64], buf: &mut [u8]) {
+    match sheet::admit(s, index) {
+        Answer::Sheet => print_line(0, 0, buf),
+        Answer::Refused { number, line } => print_line(number, line, buf),
     }
 }
 
-fn replay(buf: &mut [u8], sheets: &[u8]) {
+fn replay(sheets: &[u8], index: &mut [u64], buf: &mut [u8]) {
     let mut at = 0;
     while at < sheets.len() {
         let next = programs::next_sheet(sheets, at);
         let start = next.start;
         let end = next.end;
-        print_sheet(buf, &sheets[start..end]);
+        print_sheet(&sheets[start..end], index, buf);
         at = end;
     }
 }
@@ -38,6 +36,7 @@ fn replay(buf: &mut [u8], sheets: &[u8]) {
 fn main() {
     let mut sheets = io::large_buffer();
     let n = io::read_full(STDIN_FILENO, &mut sheets);
+    let mut index = [0u64; nodes::INDEX_SIZE];
     let mut buf = io::buffer();
-    replay(&mut buf, &sheets[..n]);
+    replay(&sheets[..n], &mut index, &mut buf);
 }

@@ -7,16 +7,19 @@ use Rattle.text.specs.Bytes.{Str}
 use Rattle.text.specs.Text.{Wrote}
 use Rattle.text.specs.declared.Text.{Text}
 use Rattle.text.proofs.AnswerLaws as text-laws
-use Rattle.tree.specs.Tree.{Node, Field, Sheet}
 use Rattle.tree.proofs.OtherLines.{never}
 use Rattle.codegen_types.specs.Out.{Out, ok, refused, _then_, refusalOf}
-use Rattle.codegen_types.specs.declared.Refusal.{Refusal}
 use Rattle.codegen_types.specs.declared.Refusal.the-variants.{None, Number}
-use Rattle.place.specs.Place.{NodeAt, FieldAt}
-use Rattle.requests.specs.Requests.{fieldOf, requestText, textOf, Outcome, gives, refuses, given}
+use Rattle.codegen_types.specs.Written.{Writes}
+use Rattle.codegen_types.specs.declared.Written.{Written}
+use Rattle.codegen_types.proofs.WrittenLaws.{text-of}
+use Rattle.requests.specs.Requests.{Outcome, gives, refuses, given}
 use Rattle.requests.specs.Told.{Locates, Answered}
-use Rattle.requests.specs.declared.Request.{Request}
-use Rattle.requests.specs.declared.Located.the-variants.{At, Nothing}
+use Rattle.requests.specs.declared.Located.{Located}
+use Rattle.tree.specs.Tree as tree
+use Rattle.tree.specs.Tree.{Node}
+use Rattle.field.specs.Field.{FieldIs}
+use Rattle.field.specs.declared.Field.the-variants as field
 use Rattle.requests.specs.declared.Answer.{Answer}
 use Rattle.requests.specs.declared.Answer.the-variants.{Done, Refused}
 
@@ -46,43 +49,41 @@ module _ (l : Str) (t : Text) (within : t .at ≤ length l) where
         let a = text-laws.done-placed l (t .at) w l₀ l₁ t₁ l₂ t₂ within b measured h written in
         record { answer = a .answer; buffer = a .buffer }
 
--- the refusal r that was found for what a request gives
-module _ (o : Out Str) (r : Refusal) (found : r ≡ refusalOf o) (l : Str) (t : Text) where
-  pub own-refusal : (k : ℕ) → t .at ≤ length l → r ≡ Number k → Answered l t (given o) l (Refused k 0)
-  own-refusal k within e = go o (rw e at found)
-    where
-      go : (o : Out Str) → Number k ≡ refusalOf o → Answered l t (given o) l (Refused k 0)
-      go (ok w) e = never cc
-      go (refused j) e = let z : j ≡ k = cc in rw z (refuses-so l t within k 0)
+-- a request that comes to o, measured over l₀: its refusal, a text that is too long, or a text that fits
+module _ (o : Out Str) (l : Str) (t : Text) (within : t .at ≤ length l) (l₀ l₁ : Str) (r : Written) (measured : Writes o l₀ t l₁ r)
+  where
+    pub own-refusal : (k : ℕ) → r .refusal ≡ Number k → Answered l t (given o) l (Refused k 0)
+    own-refusal k e = go o (rw e at (measured .refusal))
+      where
+        go : (o : Out Str) → Number k ≡ refusalOf o → Answered l t (given o) l (Refused k 0)
+        go (ok w) e = never cc
+        go (refused j) e = let z : j ≡ k = cc in rw z (refuses-so l t within k 0)
 
-  pub no-refusal :
-      (l′ : Str) (a : Answer) → r ≡ None → ((w : Str) → o ≡ ok w → Answered l t (gives w) l′ a) → Answered l t (given o) l′ a
-  no-refusal l′ a e h = go o (rw e at found) h
-    where
-      go : (o : Out Str) → None ≡ refusalOf o → ((w : Str) → o ≡ ok w → Answered l t (gives w) l′ a) → Answered l t (given o) l′ a
-      go (ok w) e h = h w refl
-      go (refused j) e h = never cc
+    pub own-long : length l < 2 ^ 64 → r .refusal ≡ None → length l < r .text .at → Answered l t (given o) l (Refused 22 0)
+    own-long b e h = go o (rw e at (measured .refusal)) measured
+      where
+        go : (o : Out Str) → None ≡ refusalOf o → Writes o l₀ t l₁ r → Answered l t (given o) l (Refused 22 0)
+        go (ok w) e m = too-long l t within w l₀ l₁ (r .text) (text-of m) b h
+        go (refused j) e m = never cc
 
--- a request for a field of a sheet
-module _ (s : Str) (sheet : Sheet) (id place : ℕ) (request : Request) (l : Str) (t : Text) where
-  pub nowhere :
-      t .at ≤ length l → Locates s Nothing (fieldOf (sheet .nodes) id place)
-      → Answered l t (given (textOf sheet id place request)) l (Refused 15 0)
-  nowhere within h = go (fieldOf (sheet .nodes) id place) h
-    where
-      go : (o : Out (Node × Field)) → Locates s Nothing o
-          → Answered l t (given (o then λ at. requestText sheet at request)) l (Refused 15 0)
-      go (ok at) h = absurd h
-      go (refused k) h = rw h (refuses-so l t within 15 0)
+    pub own-text : (l₂ : Str) (q : Written) → length l < 2 ^ 64 - 1 → r .refusal ≡ None → r .text .at ≤ length l
+        → Writes o l t l₂ q → Answered l t (given o) l₂ (Done (q .text))
+    own-text l₂ q b e h written = go o (rw e at (measured .refusal)) measured written
+      where
+        go : (o : Out Str) → None ≡ refusalOf o → Writes o l₀ t l₁ r → Writes o l t l₂ q
+            → Answered l t (given o) l₂ (Done (q .text))
+        go (ok w) e m v = fits l t within w l₀ l₁ (r .text) (text-of m) l₂ (q .text) b h (text-of v)
+        go (refused j) e m v = never cc
 
-  pub somewhere :
-      (node field : ℕ) (l′ : Str) (a : Answer) → Locates s (At node field) (fieldOf (sheet .nodes) id place)
-      → ((at : Node × Field) → NodeAt s node (at .0) → FieldAt s field (at .1)
-      → Answered l t (given (requestText sheet at request)) l′ a)
-      → Answered l t (given (textOf sheet id place request)) l′ a
-  somewhere node field l′ a h f = go (fieldOf (sheet .nodes) id place) h
-    where
-      go : (o : Out (Node × Field)) → Locates s (At node field) o
-          → Answered l t (given (o then λ at. requestText sheet at request)) l′ a
-      go (ok at) h = f at (h .0) (h .1)
-      go (refused k) h = absurd h
+-- a field that was looked for: 15 where there is none, else what its request comes to
+module _ (s : Str) (q : Located) (g : Node × tree.Field → Out Str) (l : Str) (t : Text) where
+  pub nowhere : (o : Out (Node × tree.Field)) → Locates s q o → q .field ≡ field.Nothing → t .at ≤ length l
+      → Answered l t (given (o then g)) l (Refused 15 0)
+  nowhere (ok at) h e within = absurd (rw e at (h .1))
+  nowhere (refused k) h e within = rw (h .0) (refuses-so l t within 15 0)
+
+  pub somewhere : (l′ : Str) (a : Answer) (o : Out (Node × tree.Field)) → Locates s q o → (q .field ≡ field.Nothing → ⊥)
+      → ((at : Node × tree.Field) → at .0 .tagOffset ≡ q .tag → FieldIs s (q .field) (at .1) → Answered l t (given (g at)) l′ a)
+      → Answered l t (given (o then g)) l′ a
+  somewhere l′ a (ok at) h n f = f at (h .0) (h .1)
+  somewhere l′ a (refused k) h n f = absurd (n (h .1))

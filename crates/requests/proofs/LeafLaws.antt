@@ -8,7 +8,7 @@ use lib.ListN.{length}
 use Rattle.tree.proofs.OtherLines.{never}
 use Rattle.codegen_types.specs.Out.{ok, refused}
 use Rattle.codegen_types.specs.declared.Leaf.{Leaf}
-use Rattle.place.specs.Place.{nth}
+use Rattle.nodes.specs.Index.{nth}
 use Rattle.requests.specs.Requests.{there, leaves, leafOf, leafSaid}
 use Rattle.requests.specs.declared.LeafNumber.the-variants.{Is, Nothing}
 

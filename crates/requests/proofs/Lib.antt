@@ -1,7 +1,4 @@
 pub mod AnswerLaws
 pub mod LeafLaws
-pub mod LocateLaws
+pub mod FieldLaws
 pub mod SheetLaws
-pub mod TypeTextLaws
-pub mod SlotLaws
-pub mod GroupLaws

@@ -1,12 +1,10 @@
--- Laws of what is admitted: a sheet's root is the text of its first row, and its index has room for its nodes. Assumes nothing.
+-- Laws of what is admitted: a sheet's root is the text of its first row, and its answer is that of its nodes. Assumes nothing.
 use mathlib.Core.Path.{_≡_, refl, sym, ap}
 use mathlib.Core.Bool.{Bool, true, false}
 use mathlib.Core.List.{List, []}
 use Prim.Native.Nat.{ℕ, _≤_}
-use native.Mathlib.Omega.{arith}
 use lib.Dec.{ltb}
-use lib.ListN.{length, take}
-use lib.Seq.{length-take-le}
+use lib.ListN.{length}
 use Rattle.text.specs.Bytes.{Str}
 use Rattle.text.specs.declared.Text.{Text}
 use Rattle.row.specs.Rows.{rows, restOf}
@@ -19,13 +17,12 @@ use Rattle.tree.specs.Read.{nodesOf, Admitted, sheet, refused, numbered, admitt
 use Rattle.tree.specs.Read as read
 use Rattle.tree.specs.Index.{On}
 use Rattle.tree.proofs.OtherLines.{never}
-use Rattle.find.specs.Find.{sheetOf}
-use Rattle.sheet.specs.Admission.{verdict, IndexFor, IndexOf}
-use Rattle.sheet.specs.declared.Index.{Index}
+use Rattle.nodes.specs.Index.{Indexed, sheetOf}
+use Rattle.sheet.specs.Admission.{verdict, IndexOf}
 use Rattle.sheet.specs.declared.Answer as verdicts
 use Rattle.sheet.specs.declared.Answer.the-variants as answer
 use Rattle.requests.specs.Requests.{outcomeOf}
-use Rattle.requests.specs.Told.{Answered, FieldAnswered}
+use Rattle.requests.specs.Told.{Answered, RequestAnswered}
 use Rattle.requests.specs.declared.Request.{Request}
 use Rattle.requests.specs.declared.Answer.{Answer}
 use Rattle.requests.specs.declared.Answer.the-variants.{Refused}
@@ -71,11 +68,11 @@ admitted-root s = by-length (ltb 65536 (length s))
     by-length false = by-reading (read.sheetOf (rows s)) (root-read (rows s))
 
 -- the answer r and the index x of the sheet s
-module _ (s : Str) (r : verdicts.Answer) (x : Index) (told : r ≡ verdict (admitted s)) (index : IndexOf s (admitted s) x) where
+module _ (s : Str) (r : verdicts.Answer) (x : List ℕ) (told : r ≡ verdict (admitted s)) where
   of-sheet :
-      (P : Admitted → Type 0) → r ≡ answer.Sheet
-      → ((nodes : List Node) → IndexFor s nodes x → P (sheet (sheetOf (textAt (rows s)) nodes))) → P (admitted s)
-  of-sheet P e h = go (admitted s) (admitted-root s) (rw e at told) index
+      (P : Admitted → Type 0) → r ≡ answer.Sheet → IndexOf s (admitted s) x
+      → ((nodes : List Node) → Indexed s nodes x → P (sheet (sheetOf (textAt (rows s)) nodes))) → P (admitted s)
+  of-sheet P e index h = go (admitted s) (admitted-root s) (rw e at told) index
     where
       go : (a : Admitted) → HasRoot (textAt (rows s)) a → answer.Sheet ≡ verdict a → IndexOf s a x → P a
       go (sheet sh) root e d =
@@ -90,23 +87,14 @@ module _ (s : Str) (r : verdicts.Answer) (x : Index) (told : r ≡ verdict (admi
       go (sheet sh) e = never cc
       go (refused j m) e = let a : j ≡ k = cc in let b : m ≡ line = cc in rw (a, b) h
 
-  pub index-room : r ≡ answer.Sheet → x .count ≤ 64
-  index-room e = of-sheet (λ a. x .count ≤ 64) e (λ nodes d. d .0)
-
-  module _ (id place : ℕ) (request : Request) (l : Str) (t : Text) where
-    pub of-field :
-        (l′ : Str) (a : Answer) → r ≡ answer.Sheet
-        → FieldAnswered s (take (x .count) (x .ids)) (take (x .count) (x .ats)) id place request l t l′ a
-        → Answered l t (outcomeOf (admitted s) id place request) l′ a
-    of-field l′ a e h = of-sheet (λ b. Answered l t (outcomeOf b id place request) l′ a) e (λ nodes d. h nodes (d .1))
+  module _ (id : ℕ) (request : Request) (l : Str) (t : Text) where
+    pub sheet-answered :
+        (l′ : Str) (a : Answer) → r ≡ answer.Sheet → IndexOf s (admitted s) x → RequestAnswered s x id request l t l′ a
+        → Answered l t (outcomeOf (admitted s) id request) l′ a
+    sheet-answered l′ a e index h = of-sheet (λ b. Answered l t (outcomeOf b id request) l′ a) e index (λ nodes d. h nodes d)
 
     pub sheet-refused :
         (k line : ℕ) → t .at ≤ length l → r ≡ answer.Refused k line
-        → Answered l t (outcomeOf (admitted s) id place request) l (Refused k line)
+        → Answered l t (outcomeOf (admitted s) id request) l (Refused k line)
     sheet-refused k line within e =
-        of-refusal (λ b. Answered l t (outcomeOf b id place request) l (Refused k line)) k line e
-        (refuses-so l t within k line)
-
--- so many entries are taken of an array of 64
-pub counted : (n : ℕ) (l : List ℕ) → length l ≡ 64 → n ≤ 64 → n ≡ length (take n l)
-counted n l full few = sym (length-take-le n l (omega arith))
+        of-refusal (λ b. Answered l t (outcomeOf b id request) l (Refused k line)) k line e (refuses-so l t within k line)

@@ -16,14 +16,16 @@ use Rattle.codegen_types.specs.declared.Leaf.{Leaf}
 use Rattle.codegen_types.specs.declared.Leaf.the-variants.{Reader, Builder, Owned, Client, Server, ServerDispatch, Pipeline}
 use Rattle.codegen_types.specs.declared.Leaf.the-variants.{GetType}
 use Rattle.codegen_types.specs.declared.Lifetime.the-variants.{A, Anonymous}
-use Rattle.slot.specs.Slot.{SlotField}
+use Rattle.field.specs.Slot.{SlotField}
 use Rattle.codegen.specs.Getter.{getterRequest}
 use Rattle.codegen.specs.Setter.{setterRequest}
 use Rattle.codegen.specs.Haser.{haserRequest}
 use Rattle.codegen.specs.Zeroing.{zeroingRequest}
-use Rattle.place.specs.Place.{byId, nth}
+use Rattle.nodes.specs.Index.{byId, nth}
+use Rattle.requests.specs.declared.Accessor.{Accessor}
+use Rattle.requests.specs.declared.Accessor.the-variants.{Getter, Setter, Haser, Zeroing}
 use Rattle.requests.specs.declared.Request.{Request}
-use Rattle.requests.specs.declared.Request.the-variants.{TypeText, Getter, Setter, Haser, Zeroing}
+use Rattle.requests.specs.declared.Request.the-variants as request
 use Rattle.requests.specs.declared.LeafNumber.{LeafNumber}
 use Rattle.requests.specs.declared.LeafNumber.the-variants as number
 
@@ -64,10 +66,6 @@ slotNamed name discriminant (group id) = refused 15
 abbrev pub slotField : Field → Out SlotField
 slotField f = slotNamed (f .name) (f .discriminant) (f .arm)
 
-abbrev pub isSlot : Arm → Bool
-isSlot (slot s) = true
-isSlot (group id) = false
-
 -- the id of a group; zeroing of a slot is 15
 abbrev pub groupOf : Arm → Out ℕ
 groupOf (slot s) = refused 15
@@ -83,17 +81,17 @@ setterOf sheet tag f = setterRequest sheet tag (f .name) (f .discriminant) (f .s
 abbrev pub haserOf : ℕ → Bool → SlotField → Out Str
 haserOf tag isReader f = ok (haserRequest tag (f .name) (f .discriminant) (f .slot) isReader)
 
--- the text of a request for a field
-unfoldable pub requestText : Sheet → Node × Field → Request → Out Str
-requestText sheet at (TypeText leaf) = typeText sheet (at .1 .arm) leaf
-requestText sheet at (Getter isReader isFn) = slotField (at .1) then getterOf sheet isReader isFn
-requestText sheet at Setter = slotField (at .1) then setterOf sheet (at .0 .tagOffset)
-requestText sheet at (Haser isReader) = slotField (at .1) then haserOf (at .0 .tagOffset) isReader
-requestText sheet at Zeroing = groupOf (at .1 .arm) then zeroingRequest sheet
+-- the text of a field's accessor
+unfoldable pub accessorText : Sheet → Node × Field → Accessor → Out Str
+accessorText sheet at (Getter isReader isFn) = slotField (at .1) then getterOf sheet isReader isFn
+accessorText sheet at Setter = slotField (at .1) then setterOf sheet (at .0 .tagOffset)
+accessorText sheet at (Haser isReader) = slotField (at .1) then haserOf (at .0 .tagOffset) isReader
+accessorText sheet at Zeroing = groupOf (at .1 .arm) then zeroingRequest sheet
 
--- the text of a request, or the number of its refusal
-abbrev pub textOf : Sheet → ℕ → ℕ → Request → Out Str
-textOf sheet id place request = fieldOf (sheet .nodes) id place then λ at. requestText sheet at request
+-- the text of a request of the node with an id, or the number of its refusal
+abbrev pub textOf : Sheet → ℕ → Request → Out Str
+textOf sheet id (request.TypeText place leaf) = fieldOf (sheet .nodes) id place then λ at. typeText sheet (at .1 .arm) leaf
+textOf sheet id (request.Field place accessor) = fieldOf (sheet .nodes) id place then λ at. accessorText sheet at accessor
 
 -- ---- the answer
 
@@ -107,9 +105,9 @@ abbrev pub given : Out Str → Outcome
 given (ok s) = gives s
 given (refused k) = refuses k 0
 
-abbrev pub outcomeOf : Admitted → ℕ → ℕ → Request → Outcome
-outcomeOf (read.refused k line) id place request = refuses k line
-outcomeOf (read.sheet sheet) id place request = given (textOf sheet id place request)
+abbrev pub outcomeOf : Admitted → ℕ → Request → Outcome
+outcomeOf (read.refused k line) id request = refuses k line
+outcomeOf (read.sheet sheet) id request = given (textOf sheet id request)
 
 -- over the buffer l and a fill count: 21 comes first, 22 last
 abbrev pub answerOf : Str → ℕ → Outcome → text.Answer

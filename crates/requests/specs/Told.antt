@@ -7,26 +7,22 @@ use Rattle.row.specs.Rows.{rows}
 use Rattle.row.specs.Line.{textAt}
 use Rattle.text.specs.Answer as text
 use Rattle.text.specs.declared.Text.{Text}
-use Rattle.tree.specs.Tree.{Field, Node, Sheet}
-use Rattle.tree.specs.Index.{Indexed}
-use Rattle.codegen_types.specs.Out.{Out, ok, refused, refusalOf}
-use Rattle.codegen_types.specs.declared.Refusal.{Refusal}
-use Rattle.place.specs.Place.{NodeAt, FieldAt}
-use Rattle.find.specs.Find.{sheetOf}
-use Rattle.type_parts.specs.Parts.{Writes}
-use Rattle.requests.specs.Requests.{fieldOf, typeText, requestText, textOf, Outcome, gives, given, answerOf, bufferOf}
+use Rattle.tree.specs.Tree as tree
+use Rattle.tree.specs.Tree.{Node, Sheet}
+use Rattle.codegen_types.specs.Out.{Out, ok, refused, _then_}
+use Rattle.codegen_types.specs.Written.{Writes}
+use Rattle.codegen_types.specs.declared.Written.{Written}
+use Rattle.nodes.specs.Index.{Indexed, ForAll}
+use Rattle.field.specs.Field.{FieldIs}
+use Rattle.field.specs.declared.Field.{Field}
+use Rattle.field.specs.declared.Field.the-variants as field
+use Rattle.requests.specs.Requests.{fieldOf, typeText, accessorText, textOf, Outcome, given, answerOf, bufferOf}
+use Rattle.requests.specs.declared.Accessor.{Accessor}
 use Rattle.requests.specs.declared.Request.{Request}
+use Rattle.requests.specs.declared.Request.the-variants as request
 use Rattle.requests.specs.declared.Located.{Located}
-use Rattle.requests.specs.declared.Located.the-variants.{At, Nothing}
 use Rattle.requests.specs.declared.Answer.{Answer}
 use Rattle.requests.specs.declared.Answer.the-variants.{Done, Refused}
-
--- positions say which node and field are found; none is 15
-abbrev pub Locates : Str → Located → Out (Node × Field) → Type 0
-Locates s (At node field) (ok at) = NodeAt s node (at .0) × FieldAt s field (at .1)
-Locates s (At node field) (refused k) = ⊥
-Locates s Nothing (ok at) = ⊥
-Locates s Nothing (refused k) = k ≡ 15
 
 -- the entry's answer as document 01's numbers
 abbrev pub told : Answer → text.Answer
@@ -38,49 +34,48 @@ pub record Answered (l : Str) (t : Text) (o : Outcome) (l′ : Str) (r : Answer)
   pub answer : told r ≡ answerOf l (t .at) o
   pub buffer : l′ ≡ bufferOf l (t .at) o
 
--- what is told of the node and the field that stand at two positions, in every sheet with a root whose nodes the index has
-abbrev pub OfField : (s ids ats : List ℕ) → Str → ℕ → ℕ → (Sheet → Node × Field → Type 0) → Type 0
-OfField s ids ats root node field P =
-    (nodes : List Node) (at : Node × Field) → Indexed s nodes ids ats → NodeAt s node (at .0) → FieldAt s field (at .1)
-    → P (sheetOf root nodes) at
+-- a field that was found and the offset of its node's tag; nothing where there is none, which is 15
+abbrev pub Locates : Str → Located → Out (Node × tree.Field) → Type 0
+Locates s r (ok at) = (at .0 .tagOffset ≡ r .tag) × FieldIs s (r .field) (at .1)
+Locates s r (refused k) = (k ≡ 15) × (r .field ≡ field.Nothing)
+
+-- what is told of a field that was read and of a node with this tag, in every sheet with a root whose nodes the index has
+abbrev pub OfField : (root s index : List ℕ) → ℕ → Field → (Sheet → Node × tree.Field → Type 0) → Type 0
+OfField root s index tag f P =
+    ForAll root s index (λ sheet. (at : Node × tree.Field) → at .0 .tagOffset ≡ tag → FieldIs s f (at .1) → P sheet at)
+
+-- the text of a request for a field that was found
+abbrev pub fieldText : Sheet → Node × tree.Field → Request → Out Str
+fieldText sheet at (request.TypeText place leaf) = typeText sheet (at .1 .arm) leaf
+fieldText sheet at (request.Field place accessor) = accessorText sheet at accessor
 
 -- the contracts, over the sheet's bytes and its index
-module _ (s ids ats : List ℕ) where
+module _ (s index : List ℕ) where
   abbrev pub LocatedIn : ℕ → ℕ → Located → Type 0
-  LocatedIn id place r = (nodes : List Node) → Indexed s nodes ids ats → Locates s r (fieldOf nodes id place)
+  LocatedIn id place r = (nodes : List Node) → Indexed s nodes index → Locates s r (fieldOf nodes id place)
 
-  -- the refusal does not depend on the root
-  abbrev pub TypeTextRefused : ℕ → ℕ → Refusal → Type 0
-  TypeTextRefused field leaf r =
-      (root : Str) (nodes : List Node) (f : Field) → Indexed s nodes ids ats → FieldAt s field f
-      → r ≡ refusalOf (typeText (sheetOf root nodes) (f .arm) leaf)
+  abbrev pub TypeTextWritten : Str → ℕ → Field → ℕ → List ℕ → Text → List ℕ → Written → Type 0
+  TypeTextWritten root tag f leaf l t l′ r =
+      OfField root s index tag f (λ sheet at. Writes (typeText sheet (at .1 .arm) leaf) l t l′ r)
 
-  abbrev pub RequestRefused : ℕ → ℕ → Request → Refusal → Type 0
-  RequestRefused node field request r =
-      (root : Str) → OfField s ids ats root node field (λ sheet at. r ≡ refusalOf (requestText sheet at request))
+  abbrev pub AccessorWritten : Str → ℕ → Field → Accessor → List ℕ → Text → List ℕ → Written → Type 0
+  AccessorWritten root tag f accessor l t l′ r =
+      OfField root s index tag f (λ sheet at. Writes (accessorText sheet at accessor) l t l′ r)
 
-  -- the text, where there is one, in a sheet with this root
-  abbrev pub TypeTextWritten : Str → ℕ → ℕ → List ℕ → Text → List ℕ → Text → Type 0
-  TypeTextWritten root field leaf l t l′ t′ =
-      (nodes : List Node) (f : Field) → Indexed s nodes ids ats → FieldAt s field f
-      → Writes (typeText (sheetOf root nodes) (f .arm) leaf) l t l′ t′
+  abbrev pub RequestWritten : Str → ℕ → Field → Request → List ℕ → Text → List ℕ → Written → Type 0
+  RequestWritten root tag f request l t l′ r =
+      OfField root s index tag f (λ sheet at. Writes (fieldText sheet at request) l t l′ r)
 
-  abbrev pub RequestWritten : Str → ℕ → ℕ → Request → List ℕ → Text → List ℕ → Text → Type 0
-  RequestWritten root node field request l t l′ t′ =
-      OfField s ids ats root node field (λ sheet at. Writes (requestText sheet at request) l t l′ t′)
+  -- the answer to a request for a field that was found, for a field by its place, and to any request of a node
+  abbrev pub FieldAnswered : ℕ → Field → Request → List ℕ → Text → List ℕ → Answer → Type 0
+  FieldAnswered tag f request l t l′ r =
+      OfField (textAt (rows s)) s index tag f (λ sheet at. Answered l t (given (fieldText sheet at request)) l′ r)
 
-  -- the answer to a request that has a text, to any request for the field at a position, and for a field by its place
-  abbrev pub TextAnswered : ℕ → ℕ → Request → List ℕ → Text → List ℕ → Answer → Type 0
-  TextAnswered node field request l t l′ r =
-      OfField s ids ats (textAt (rows s)) node field
-      (λ sheet at. (w : Str) → requestText sheet at request ≡ ok w → Answered l t (gives w) l′ r)
+  abbrev pub PlaceAnswered : ℕ → ℕ → Request → List ℕ → Text → List ℕ → Answer → Type 0
+  PlaceAnswered id place request l t l′ r =
+      ForAll (textAt (rows s)) s index
+      (λ sheet. Answered l t (given (fieldOf (sheet .nodes) id place then λ at. fieldText sheet at request)) l′ r)
 
-  abbrev pub AnsweredAt : ℕ → ℕ → Request → List ℕ → Text → List ℕ → Answer → Type 0
-  AnsweredAt node field request l t l′ r =
-      OfField s ids ats (textAt (rows s)) node field
-      (λ sheet at. Answered l t (given (requestText sheet at request)) l′ r)
-
-  abbrev pub FieldAnswered : ℕ → ℕ → Request → List ℕ → Text → List ℕ → Answer → Type 0
-  FieldAnswered id place request l t l′ r =
-      (nodes : List Node) → Indexed s nodes ids ats
-      → Answered l t (given (textOf (sheetOf (textAt (rows s)) nodes) id place request)) l′ r
+  abbrev pub RequestAnswered : ℕ → Request → List ℕ → Text → List ℕ → Answer → Type 0
+  RequestAnswered id request l t l′ r =
+      ForAll (textAt (rows s)) s index (λ sheet. Answered l t (given (textOf sheet id request)) l′ r)

@@ -299,3 +299,20 @@ text-none s at k h start none = rw (texts s at (at + rowLen (drop at s)) h refl,
 pub text-out : (s : Str) (at : ℕ) → length s ≤ at → [] ≡ textAt (rows (drop at s))
 unfolding textAt
 text-out s at h = rw (rows-out s at h)
+
+-- the rows after the row at a position begin at `next`: where the row ends
+module _ (s : Str) (at next : ℕ) (h : at < length s) (is : rows (drop next s) ≡ restOf (rows (drop at s))) where
+  left-over : length s - next ≡ length s - (at + rowLen (drop at s))
+  left-over =
+      let e = at + rowLen (drop at s) in
+      sym (size-rows (drop next s) ∙ length-drop next s) ∙ ap size (is ∙ sym (after s at e h refl))
+      ∙ (size-rows (drop e s) ∙ length-drop e s)
+
+  pub next-after : at < next
+  next-after = omega (arith, left-over, row-bounds s at _ h refl)
+
+  pub next-ends : next ≤ length s → next ≡ at + rowLen (drop at s)
+  next-ends l = omega (arith, left-over, row-bounds s at _ h refl)
+
+  pub last-ends : length s < next → length s ≡ at + rowLen (drop at s)
+  last-ends l = omega (arith, left-over, row-bounds s at _ h refl)

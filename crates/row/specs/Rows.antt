@@ -2,7 +2,7 @@
 use mathlib.Core.Path.{_≡_}
 use mathlib.Core.Bool.{Bool, true, false}
 use mathlib.Core.List.{List, [], _∷_, _++_}
-use Prim.Native.Nat.{ℕ, suc, _+_, _-_}
+use Prim.Native.Nat.{ℕ, zero, suc, _+_, _-_}
 use lib.Dec.{eqb}
 use lib.ListN.{length, take, drop}
 use Rattle.text.specs.Bytes.{Str, unit}
@@ -35,6 +35,11 @@ joined (r ∷ rs) = r ++ joined rs
 unfoldable pub restOf : List Str → List Str
 restOf [] = []
 restOf (r ∷ rs) = rs
+
+-- so many U rows
+unfoldable pub unboundRows : ℕ → List Str
+unboundRows zero = []
+unboundRows (suc n) = (85 ∷ 10 ∷ []) ∷ unboundRows n
 
 -- how many bytes 10 there are
 unfoldable pub newlines : Str → ℕ

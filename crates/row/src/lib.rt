@@ -1,9 +1,13 @@
 // Rows of a sheet: where a row ends, what it says, and the text that it has.
+mod ends;
+
+use crate::ends::row_end;
 use column::Number;
 ghost use mathlib.Core.Path.{_≡_};
-ghost use Prim.Native.Nat.{_+_, _-_, _≤_, _<_};
+ghost use mathlib.Core.List.{_++_};
+ghost use Prim.Native.Nat.{_+_, _-_, _*_, _≤_, _<_};
 ghost use lib.ListN.{take, drop, length};
-ghost use Rattle.row.specs.Rows.{rowLen, Passes, rows, restOf, lineNo};
+ghost use Rattle.row.specs.Rows.{rowLen, rows, joined, restOf, lineNo, unboundRows};
 ghost use Rattle.row.specs.Line.{rootLine, nodeLine, parameterLine, fieldLine, groupLine};
 ghost use Rattle.row.specs.Line.{typeLine, scopeLine, unboundLine, valueLine, wordLine};
 ghost use Rattle.row.specs.Line.{mostA, mostB, mostC, mostCount, mostBits, reader, lineOf, lineAt, textStart, textAt};
@@ -101,66 +105,6 @@ pub enum Line {
 pub struct Got {
     pub line: Line,
     pub next: usize,
-}
-
-// Whether none of the eight bytes from `i` on is byte 10.
-fn goes_on(s: &[u8], i: usize) -> bool
-    requires { ⌜ i + 8 ≤ length (now s) ⌝ }
-    ensures { λ r. ⌜ Passes (now (s .entry)) i r ⌝ }
-{
-    if s[i] == b'\n' {
-        return false;
-    }
-    if s[i + 1] == b'\n' {
-        return false;
-    }
-    if s[i + 2] == b'\n' {
-        return false;
-    }
-    if s[i + 3] == b'\n' {
-        return false;
-    }
-    if s[i + 4] == b'\n' {
-        return false;
-    }
-    if s[i + 5] == b'\n' {
-        return false;
-    }
-    if s[i + 6] == b'\n' {
-        return false;
-    }
-    s[i + 7] != b'\n'
-}
-
-// Past eights of bytes in which there is no byte 10.
-fn past_eights(s: &[u8], from: usize) -> usize
-    ensures { λ r. ⌜ r + rowLen (drop r (now (s .entry))) ≡ from + rowLen (drop from (now (s .entry))) ⌝ }
-{
-    if s.len() <= from {
-        return from;
-    }
-    let mut i = from;
-    while 8 <= s.len() - i {
-        if !goes_on(s, i) {
-            return i;
-        }
-        i += 8;
-    }
-    i
-}
-
-// The position after the first byte 10 at or after `from`, or the end where there is none: by eights, and the last few singly.
-fn row_end(s: &[u8], from: usize) -> usize
-    ensures { λ r. ⌜ r ≡ from + rowLen (drop from (now (s .entry))) ⌝ }
-{
-    let mut i = past_eights(s, from);
-    while i < s.len() {
-        if s[i] == b'\n' {
-            return i + 1;
-        }
-        i += 1;
-    }
-    i
 }
 
 // R: the root, 1 to 64 graphic bytes.
@@ -528,6 +472,23 @@ fn text_start(letter: u8) -> usize
     0
 }
 
+// The text of the row from `at` to `e`.
+fn text_to(s: &[u8], at: usize, e: usize) -> &[u8]
+    requires { ⌜ (at < e) × (e ≤ length (now s)) ⌝ }
+    ensures { λ r. ⌜ (e ≡ at + rowLen (drop at (now (s .entry))) → now r ≡ textAt (rows (drop at (now (s .entry))))) ⌝ }
+{
+    let k = text_start(s[at]);
+    if k == 0 {
+        return &s[..0];
+    }
+    let z = e - 1;
+    if z - at < k {
+        return &s[..0];
+    }
+    let a = at + k;
+    &s[a..z]
+}
+
 // The root, module, parameter or field name of the row at a position: the caller's own bytes.
 pub fn text(s: &[u8], at: usize) -> &[u8]
     ensures { λ r. ⌜ now r ≡ textAt (rows (drop at (now (s .entry)))) ⌝ }
@@ -535,16 +496,62 @@ pub fn text(s: &[u8], at: usize) -> &[u8]
     if s.len() <= at {
         return &s[..0];
     }
-    let k = text_start(s[at]);
-    if k == 0 {
+    text_to(s, at, row_end(s, at))
+}
+
+// The text of the row at a position, for whoever knows where the next row begins: no end is sought.
+pub fn text_before(s: &[u8], at: usize, next: usize) -> &[u8]
+    ensures { λ r. ⌜ (rows (drop next (now (s .entry))) ≡ restOf (rows (drop at (now (s .entry))))
+        → now r ≡ textAt (rows (drop at (now (s .entry))))) ⌝ }
+{
+    if s.len() <= at {
         return &s[..0];
     }
-    let z = row_end(s, at) - 1;
-    if z - at < k {
+    if next <= at {
         return &s[..0];
     }
-    let a = at + k;
-    &s[a..z]
+    if s.len() < next {
+        return text_to(s, at, s.len());
+    }
+    text_to(s, at, next)
+}
+
+// How many U rows stand in front: two rows are compared as one number of four bytes, and a last one singly.
+fn unbound_front(t: &[u8]) -> usize
+    ensures within { λ r. ⌜ 2 * r ≤ length (now (t .entry)) ⌝ }
+    ensures rows { λ r. ⌜ take (2 * r) (now (t .entry)) ≡ joined (unboundRows r) ⌝ }
+{
+    let mut n = 0;
+    while column::four_bytes(t, 2 * n) == 0x0a55_0a55 {
+        n += 2;
+    }
+    let i = 2 * n;
+    if t.len() - i < 2 {
+        return n;
+    }
+    if t[i] != b'U' {
+        return n;
+    }
+    if t[i + 1] != b'\n' {
+        return n;
+    }
+    n + 1
+}
+
+// How many U rows stand one after the other from a position on, as far as they were looked at: no more than `most`.
+pub fn unbound_run(s: &[u8], at: usize, most: u64) -> u64
+    ensures few { λ r. ⌜ r ≤ most ⌝ }
+    ensures within { λ r. ⌜ (0 < r → at + 2 * r ≤ length (now (s .entry))) ⌝ }
+    ensures rows { λ r. ⌜ rows (drop at (now (s .entry))) ≡ unboundRows r ++ rows (drop (at + 2 * r) (now (s .entry))) ⌝ }
+{
+    if s.len() <= at {
+        return 0;
+    }
+    if most < ((s.len() - at) / 2) as u64 {
+        let e = at + 2 * (most as usize);
+        return unbound_front(&s[at..e]) as u64;
+    }
+    unbound_front(&s[at..]) as u64
 }
 
 // The number, from 1, of the row that starts at a position.

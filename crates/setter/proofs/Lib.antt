@@ -1,3 +1,3 @@
+pub mod TypeLaws
 pub mod Laws
-pub mod TypedLaws
 pub mod ArmLaws

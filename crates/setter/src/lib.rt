@@ -1,191 +1,167 @@
-// A slot's setter and initializer: `generate_setter` of codegen.rs, its refusal and its text, from the sheet's rows.
+// A slot's setter and initializer: `generate_setter` of codegen.rs, from the sheet's rows. What is refused is found while the
+// text is written: the refusals of a type's texts in Rust's order, then that of the default.
 use calls::Mask;
 use codegen_types::Leaf;
 use codegen_types::Lifetime;
 use codegen_types::Refusal;
+use codegen_types::Written;
+use field::Slot;
 use names::Snake;
-use slot::Slot;
 use text::Text;
 ghost use mathlib.Core.Path.{_≡_};
-ghost use mathlib.Core.Bool.{true, false};
 ghost use mathlib.Core.List.{_++_, List};
-ghost use Prim.Native.Nat.{ℕ, _≤_};
+ghost use Prim.Native.Nat.{_≤_};
 ghost use lib.Dec.{eqb, leb};
 ghost use lib.ListN.{drop};
 ghost use Rattle.text.specs.Text.{Wrote};
-ghost use Rattle.text.specs.Bytes.{either};
+ghost use Rattle.text.specs.Bytes.{Str, either};
 ghost use Rattle.row.specs.Rows.{restOf, rows};
-ghost use Rattle.find.specs.Find.{kindAt, On, sheetOf};
-ghost use Rattle.type_parts.specs.Parts.{ForAll, Writes};
-ghost use Rattle.codegen_types.specs.declared.Leaf.the-variants.{Builder, Owned};
-ghost use Rattle.codegen_types.specs.declared.Lifetime.the-variants as lifetime;
-ghost use Rattle.calls.specs.Mask.{maskText};
-ghost use Rattle.getter.specs.Result.{Here};
-ghost use Rattle.slot.specs.Slot.{SlotIs, slotFieldOf, SlotOn};
 ghost use Rattle.tree.specs.Tree as tree;
 ghost use Rattle.tree.specs.Read.{typeOf};
+ghost use Rattle.tree.specs.Index.{On};
 ghost use Rattle.names.specs.Names.{nameOf};
+ghost use Rattle.nodes.specs.Index.{ForAll, sheetOf};
+ghost use Rattle.find.specs.Find.{kindAt};
 ghost use Rattle.codegen_types.specs.Out.{refusalOf};
-ghost use Rattle.type_refusal.specs.Told as refusal;
-ghost use Rattle.type_string.specs.Told.{TypeTold};
-ghost use Rattle.codegen.specs.Setter.{setterInput, initPointer, newPointer, setterRequest};
-ghost use Rattle.setter.specs.Arms.{needsType, typeLeaf, defaultRefusal};
-ghost use Rattle.setter.specs.Typed.{Types, setEnd, initEnd, listReader, textOf, explicitMask};
+ghost use Rattle.codegen_types.specs.TypeString.{typeString};
+ghost use Rattle.codegen_types.specs.Written.{Writes};
+ghost use Rattle.codegen_types.specs.declared.Leaf.the-variants.{Reader, Builder};
+ghost use Rattle.codegen_types.specs.declared.Lifetime.the-variants as lifetime;
+ghost use Rattle.calls.specs.Mask.{maskText};
+ghost use Rattle.field.specs.Slot.{SlotIs, SlotField, SlotHere};
+ghost use Rattle.codegen.specs.Given.{Given};
+ghost use Rattle.codegen.specs.Default.{value, primDefault};
+ghost use Rattle.codegen.specs.Setter.{listReaderType, initPointer, newPointer, enumMask, setterRequest};
+ghost use Rattle.setter.specs.Typed.{Types, inputType, setEnd, initStart, initEnd, textOf};
 
-// Whether a type of this kind and id has a text that can be refused, so that its setter can.
-fn needs_type(kind: u64, id: u64) -> bool
-    ensures { λ r. ⌜ r ≡ needsType kind id ⌝ }
-{
-    if kind <= 13 {
-        return false;
-    }
-    if kind == 18 {
-        return id != 0;
-    }
-    true
-}
-
-// The leaf that is asked of such a type: every other leaf that its setter asks for is refused where this one is.
-fn type_leaf(kind: u64) -> Leaf
-    ensures { λ r. ⌜ r ≡ typeLeaf kind ⌝ }
-{
-    if kind == 17 {
-        return Leaf::Client;
-    }
-    Leaf::Builder(Lifetime::A)
-}
-
-// The refusal of a default: of a Bool or a number that is no primitive, or of an enum that is explicit and no enum.
+// The refusal of the default of a Bool or a number: one that is no primitive.
 fn default_refusal(slot: Slot) -> Refusal
-    ensures { λ r. ⌜ r ≡ defaultRefusal slot ⌝ }
+    ensures { λ r. ⌜ r ≡ refusalOf (primDefault (value (slot .default) (slot .bits))) ⌝ }
 {
-    let kind = slot.kind;
-    let default = slot.default;
-    if kind == 15 {
-        if slot.explicit == 0 {
-            return Refusal::None;
-        }
-        if default == 15 {
-            return Refusal::None;
-        }
-        return Refusal::Number(12);
-    }
-    if kind == 0 {
-        return Refusal::None;
-    }
-    if 12 <= kind {
-        return Refusal::None;
-    }
-    if default < 1 {
+    if slot.default < 1 {
         return Refusal::Number(11);
     }
-    if default <= 11 {
+    if slot.default <= 11 {
         return Refusal::None;
     }
     Refusal::Number(11)
 }
 
-// The refusal of the setter of the slot that is read at a position: its type's, or its default's.
-pub fn setter_refusal(s: &[u8], ids: &[u64], ats: &[usize], at: usize, slot: Slot) -> Refusal
-    ensures { λ r. ⌜ (SlotOn (now (s .entry)) at slot → refusal.ForAll (now (s .entry)) (now (ids .entry)) (now (ats .entry))
-        (λ sheet. On (slotFieldOf (rows (drop at (now (s .entry))))) (λ f. (tag : ℕ)
-        → r ≡ refusalOf (setterRequest sheet tag (f .name) (f .discriminant) (f .slot))))) ⌝ }
+// The setter of a slot whose type has one row: kinds 0 to 13.
+fn plain_setter(root: &[u8], slot: Slot, name: Snake, tag: u64, t: Text, buf: &mut [u8]) -> Written
+    ensures { λ r. ⌜ ((ns : List tree.Node) (sl : tree.Slot) → SlotIs slot sl → slot .kind ≤ 13
+        → Writes (textOf (sheetOf (now (root .entry)) ns) tag (nameOf name) (slot .discriminant) sl)
+        (now (buf .entry)) t (now (buf .exit)) r) ⌝ }
 {
-    if needs_type(slot.kind, slot.id) {
-        let leaf = type_leaf(slot.kind);
-        let refusal = type_refusal::type_refusal(s, ids, ats, slot.typ, leaf);
-        if let Refusal::Number(number) = refusal {
-            return Refusal::Number(number);
-        }
-        return default_refusal(slot);
+    let kind = slot.kind;
+    if kind == 0 {
+        return codegen_types::whole(codegen_setter::void(name, slot, tag, t, buf));
     }
-    default_refusal(slot)
+    if kind == 1 {
+        let text = codegen_setter::boolean(name, slot, tag, t, buf);
+        return Written {
+            text,
+            refusal: default_refusal(slot),
+        };
+    }
+    if kind <= 11 {
+        let text = codegen_setter::number(name, slot, tag, t, buf);
+        return Written {
+            text,
+            refusal: default_refusal(slot),
+        };
+    }
+    if kind == 12 {
+        return codegen_types::whole(codegen_setter::text(root, name, slot, tag, t, buf));
+    }
+    codegen_types::whole(codegen_setter::data(root, name, slot, tag, t, buf))
 }
 
 // What a setter takes where its type has several SetterInput impls, for the type at a position.
-fn setter_input(
-    root: &[u8],
-    s: &[u8],
-    ids: &[u64],
-    ats: &[usize],
-    at: usize,
-    t: Text,
-    buf: &mut [u8],
-) -> Text
-    ensures { λ r. ⌜ Types (now (root .entry)) (now (s .entry)) (now (ids .entry)) (now (ats .entry)) at Owned
-        (setterInput (now (root .entry))) (now (buf .entry)) t (now (buf .exit)) r ⌝ }
+fn setter_input(root: &[u8], s: &[u8], index: &[u64], at: usize, t: Text, buf: &mut [u8]) -> Written
+    ensures { λ r. ⌜ Types (now (root .entry)) (now (s .entry)) (now (index .entry)) at inputType
+        (now (buf .entry)) t (now (buf .exit)) r ⌝ }
 {
     let t = t.bytes(buf, b"impl ");
     let t = t.bytes(buf, root);
     let t = t.bytes(buf, b"::traits::SetterInput<");
-    let t = type_string::type_string(root, s, ids, ats, at, Leaf::Owned, t, buf);
-    t.bytes(buf, b">")
+    let Written { text: t, refusal } = type_string::type_string(
+        root,
+        s,
+        index,
+        at,
+        Leaf::Owned,
+        t,
+        buf,
+    );
+    let text = t.bytes(buf, b">");
+    Written { text, refusal }
 }
 
-// A setter of a pointer, after its value's type.
-fn set_end(t: Text, buf: &mut [u8], root: &[u8], tag: u64, discriminant: u64, offset: u64) -> Text
-    ensures { λ r. ⌜ Wrote (now (buf .entry)) t (setEnd (now (root .entry)) tag discriminant offset) (now (buf .exit)) r ⌝ }
+// What other setters take: the type at a position as a Reader.
+fn reader_type(root: &[u8], s: &[u8], index: &[u64], at: usize, t: Text, buf: &mut [u8]) -> Written
+    ensures { λ r. ⌜ Types (now (root .entry)) (now (s .entry)) (now (index .entry)) at
+        (λ sheet ty. typeString ty sheet (Reader lifetime.Anonymous)) (now (buf .entry)) t (now (buf .exit)) r ⌝ }
 {
-    let t = codegen_setter::set_close(t, buf, root);
-    let t = codegen_setter::tag_line(t, buf, tag, discriminant);
-    let t = t.bytes(buf, b"    ");
-    let t = codegen_setter::set_pointer(t, buf, root, offset);
-    t.bytes(buf, b"\n}\n")
+    type_string::type_string(
+        root,
+        s,
+        index,
+        at,
+        Leaf::Reader(Lifetime::Anonymous),
+        t,
+        buf,
+    )
 }
 
 // What an initializer returns: the type at a position as a Builder.
-fn init_type(
-    root: &[u8],
-    s: &[u8],
-    ids: &[u64],
-    ats: &[usize],
-    at: usize,
-    t: Text,
-    buf: &mut [u8],
-) -> Text
-    ensures { λ r. ⌜ TypeTold (now (root .entry)) (now (s .entry)) (now (ids .entry)) (now (ats .entry)) at 16
-        (Builder lifetime.A) (now (buf .entry)) t (now (buf .exit)) r ⌝ }
+fn init_type(root: &[u8], s: &[u8], index: &[u64], at: usize, t: Text, buf: &mut [u8]) -> Written
+    ensures { λ r. ⌜ Types (now (root .entry)) (now (s .entry)) (now (index .entry)) at
+        (λ sheet ty. typeString ty sheet (Builder lifetime.A)) (now (buf .entry)) t (now (buf .exit)) r ⌝ }
 {
-    type_string::type_string(root, s, ids, ats, at, Leaf::Builder(Lifetime::A), t, buf)
+    type_string::type_string(root, s, index, at, Leaf::Builder(Lifetime::A), t, buf)
+}
+
+// A setter of a pointer, after its value's type.
+fn set_end(root: &[u8], slot: Slot, tag: u64, t: Text, buf: &mut [u8]) -> Text
+    ensures { λ r. ⌜ Wrote (now (buf .entry)) t (setEnd (now (root .entry)) tag (slot .discriminant) (slot .offset))
+        (now (buf .exit)) r ⌝ }
+{
+    let t = codegen_setter::set_close(root, t, buf);
+    let t = codegen_setter::tag_line(tag, slot.discriminant, t, buf);
+    let t = t.bytes(buf, b"    ");
+    let t = codegen_setter::set_pointer(root, slot.offset, t, buf);
+    t.bytes(buf, b"\n}\n")
+}
+
+// An initializer from its result's type up to its last line.
+fn init_start(slot: Slot, tag: u64, t: Text, buf: &mut [u8]) -> Text
+    ensures { λ r. ⌜ Wrote (now (buf .entry)) t (initStart tag (slot .discriminant)) (now (buf .exit)) r ⌝ }
+{
+    let opened = t.bytes(buf, b" {\n");
+    let t = codegen_setter::tag_line(tag, slot.discriminant, opened, buf);
+    t.bytes(buf, b"    ")
 }
 
 // An initializer of a list or a struct, after its result's type.
-fn init_end(
-    t: Text,
-    buf: &mut [u8],
-    root: &[u8],
-    tag: u64,
-    discriminant: u64,
-    offset: u64,
-    size: &[u8],
-) -> Text
+fn init_end(root: &[u8], slot: Slot, tag: u64, size: &[u8], t: Text, buf: &mut [u8]) -> Text
     ensures { λ r. ⌜ Wrote (now (buf .entry)) t
-        (initEnd tag discriminant (initPointer (now (root .entry)) offset (now (size .entry)))) (now (buf .exit)) r ⌝ }
+        (initEnd tag (slot .discriminant) (initPointer (now (root .entry)) (slot .offset) (now (size .entry))))
+        (now (buf .exit)) r ⌝ }
 {
-    let t = t.bytes(buf, b" {\n");
-    let t = codegen_setter::tag_line(t, buf, tag, discriminant);
-    let t = t.bytes(buf, b"    ");
-    let t = codegen_setter::init_pointer(t, buf, root, offset, size);
+    let t = init_start(slot, tag, t, buf);
+    let t = codegen_setter::init_pointer(root, slot.offset, size, t, buf);
     t.bytes(buf, b"\n}\n")
 }
 
 // An initializer of a parameter's type, after its result's type; `call` is what it calls on the new pointer.
-fn new_end(
-    t: Text,
-    buf: &mut [u8],
-    root: &[u8],
-    tag: u64,
-    discriminant: u64,
-    offset: u64,
-    call: &[u8],
-) -> Text
+fn new_end(root: &[u8], slot: Slot, tag: u64, call: &[u8], t: Text, buf: &mut [u8]) -> Text
     ensures { λ r. ⌜ Wrote (now (buf .entry)) t
-        (initEnd tag discriminant (newPointer (now (root .entry)) offset ++ now (call .entry))) (now (buf .exit)) r ⌝ }
+        (initEnd tag (slot .discriminant) (newPointer (now (root .entry)) (slot .offset) ++ now (call .entry)))
+        (now (buf .exit)) r ⌝ }
 {
-    let t = t.bytes(buf, b" {\n");
-    let t = codegen_setter::tag_line(t, buf, tag, discriminant);
-    let t = t.bytes(buf, b"    ");
-    let t = codegen_setter::new_pointer(t, buf, root, offset);
+    let t = init_start(slot, tag, t, buf);
+    let t = codegen_setter::new_pointer(root, slot.offset, t, buf);
     let t = t.bytes(buf, call);
     t.bytes(buf, b"\n}\n")
 }
@@ -208,297 +184,258 @@ fn several_inputs(kind: u64) -> bool
     kind == 15
 }
 
-// What a list's setter takes.
-fn list_reader(
-    root: &[u8],
-    s: &[u8],
-    ids: &[u64],
-    ats: &[usize],
-    at: usize,
-    several: bool,
-    t: Text,
-    buf: &mut [u8],
-) -> Text
-    ensures { λ r. ⌜ ForAll (now (root .entry)) (now (s .entry)) (now (ids .entry)) (now (ats .entry)) (λ sheet.
-        On (typeOf 16 (rows (drop at (now (s .entry))))) (λ ty.
-        Writes (listReader several sheet ty) (now (buf .entry)) t (now (buf .exit)) r)) ⌝ }
+// What the setter of a list takes, for the list type at a position.
+fn list_reader(root: &[u8], s: &[u8], index: &[u64], at: usize, t: Text, buf: &mut [u8]) -> Written
+    ensures { λ r. ⌜ ForAll (now (root .entry)) (now (s .entry)) (now (index .entry)) (λ sheet.
+        On (typeOf 16 (rows (drop at (now (s .entry))))) (λ ty. (element : tree.Ty) → ty ≡ tree.list element
+        → Writes (listReaderType sheet element ty) (now (buf .entry)) t (now (buf .exit)) r)) ⌝ }
 {
-    if several {
-        return setter_input(root, s, ids, ats, at, t, buf);
+    if several_inputs(element_kind(s, at)) {
+        return setter_input(root, s, index, at, t, buf);
     }
-    type_string::type_string(
-        root,
-        s,
-        ids,
-        ats,
-        at,
-        Leaf::Reader(Lifetime::Anonymous),
-        t,
-        buf,
-    )
+    reader_type(root, s, index, at, t, buf)
 }
 
 // A list's setter and initializer.
 fn list_setter(
     root: &[u8],
     s: &[u8],
-    ids: &[u64],
-    ats: &[usize],
+    index: &[u64],
     slot: Slot,
     name: Snake,
     tag: u64,
     t: Text,
     buf: &mut [u8],
-) -> Text
-    ensures { λ r. ⌜ ForAll (now (root .entry)) (now (s .entry)) (now (ids .entry)) (now (ats .entry)) (λ sheet.
-        (sl : tree.Slot) → Here (now (s .entry)) slot sl → slot .kind ≡ 14 →
-        Writes (textOf sheet tag (nameOf name) (slot .discriminant) sl) (now (buf .entry)) t (now (buf .exit)) r) ⌝ }
+) -> Written
+    ensures { λ r. ⌜ ForAll (now (root .entry)) (now (s .entry)) (now (index .entry)) (λ sheet.
+        (f : SlotField) → SlotHere (now (s .entry)) slot f → slot .kind ≡ 14
+        → Writes (textOf sheet tag (nameOf name) (slot .discriminant) (f .slot)) (now (buf .entry)) t (now (buf .exit)) r) ⌝ }
 {
-    let several = several_inputs(element_kind(s, slot.typ));
-    let t = codegen_setter::set_open(t, buf, name);
-    let t = list_reader(root, s, ids, ats, slot.typ, several, t, buf);
-    let t = set_end(t, buf, root, tag, slot.discriminant, slot.offset);
-    let t = codegen_setter::init_open(t, buf, name, true);
-    let t = init_type(root, s, ids, ats, slot.typ, t, buf);
-    init_end(t, buf, root, tag, slot.discriminant, slot.offset, b"size")
+    let t = codegen_setter::set_open(name, t, buf);
+    let Written {
+        text: t,
+        refusal: reader,
+    } = list_reader(root, s, index, slot.typ, t, buf);
+    let t = set_end(root, slot, tag, t, buf);
+    let t = codegen_setter::init_open(name, true, t, buf);
+    let Written {
+        text: t,
+        refusal: builder,
+    } = init_type(root, s, index, slot.typ, t, buf);
+    let text = init_end(root, slot, tag, b"size", t, buf);
+    Written {
+        text,
+        refusal: codegen_types::first(reader, builder),
+    }
 }
 
 // The mask of an enum's setter: its default, where that is explicit.
-fn enum_mask(explicit: u64, bits: u64) -> Mask
-    ensures { λ r. ⌜ maskText r ≡ explicitMask explicit bits ⌝ }
+fn enum_mask(slot: Slot) -> Mask
+    ensures { λ r. ⌜ ((sl : tree.Slot) → SlotIs slot sl → Given (enumMask sl) (λ mask. maskText r ≡ mask)) ⌝ }
 {
-    if explicit == 0 {
-        return Mask::None;
+    if 0 < slot.explicit {
+        return Mask::Plain(slot.bits);
     }
-    Mask::Plain(bits)
+    Mask::None
+}
+
+// The refusal of that mask: an explicit default that is no Enum.
+fn enum_refusal(slot: Slot) -> Refusal
+    ensures { λ r. ⌜ ((sl : tree.Slot) → SlotIs slot sl → r ≡ refusalOf (enumMask sl)) ⌝ }
+{
+    if slot.explicit == 0 {
+        return Refusal::None;
+    }
+    if slot.default == 15 {
+        return Refusal::None;
+    }
+    Refusal::Number(12)
 }
 
 // An enum's setter.
 fn enum_setter(
-    root: &[u8],
     s: &[u8],
-    ids: &[u64],
-    ats: &[usize],
+    index: &[u64],
     slot: Slot,
     name: Snake,
     tag: u64,
     t: Text,
     buf: &mut [u8],
-) -> Text
-    ensures { λ r. ⌜ ForAll (now (root .entry)) (now (s .entry)) (now (ids .entry)) (now (ats .entry)) (λ sheet.
-        (sl : tree.Slot) → Here (now (s .entry)) slot sl → slot .kind ≡ 15 →
-        Writes (textOf sheet tag (nameOf name) (slot .discriminant) sl) (now (buf .entry)) t (now (buf .exit)) r) ⌝ }
+) -> Written
+    ensures { λ r. ⌜ ((root : Str) → ForAll root (now (s .entry)) (now (index .entry)) (λ sheet.
+        (f : SlotField) → SlotHere (now (s .entry)) slot f → slot .kind ≡ 15
+        → Writes (textOf sheet tag (nameOf name) (slot .discriminant) (f .slot)) (now (buf .entry)) t (now (buf .exit)) r)) ⌝ }
 {
-    let mask = enum_mask(slot.explicit, slot.bits);
-    let t = codegen_setter::set_open(t, buf, name);
-    let t = type_parts::qualified_module(root, s, ids, ats, slot.id, t, buf);
+    let t = codegen_setter::set_open(name, t, buf);
+    let Written {
+        text: t,
+        refusal: module,
+    } = type_parts::qualified_module(s, index, slot.id, t, buf);
     let t = t.bytes(buf, b")  {\n");
-    let t = codegen_setter::tag_line(t, buf, tag, slot.discriminant);
+    let t = codegen_setter::tag_line(tag, slot.discriminant, t, buf);
     let t = t.bytes(buf, b"    ");
+    let mask = enum_mask(slot);
     let t = calls::set_data_field(t, buf, b"u16", slot.offset, b"value as u16", mask);
-    t.bytes(buf, b"\n}\n")
+    let text = t.bytes(buf, b"\n}\n");
+    Written {
+        text,
+        refusal: codegen_types::first(module, enum_refusal(slot)),
+    }
 }
 
 // A struct's setter and initializer.
 fn struct_setter(
     root: &[u8],
     s: &[u8],
-    ids: &[u64],
-    ats: &[usize],
+    index: &[u64],
     slot: Slot,
     name: Snake,
     tag: u64,
     t: Text,
     buf: &mut [u8],
-) -> Text
-    ensures { λ r. ⌜ ForAll (now (root .entry)) (now (s .entry)) (now (ids .entry)) (now (ats .entry)) (λ sheet.
-        (sl : tree.Slot) → Here (now (s .entry)) slot sl → slot .kind ≡ 16 →
-        Writes (textOf sheet tag (nameOf name) (slot .discriminant) sl) (now (buf .entry)) t (now (buf .exit)) r) ⌝ }
+) -> Written
+    ensures { λ r. ⌜ ForAll (now (root .entry)) (now (s .entry)) (now (index .entry)) (λ sheet.
+        (f : SlotField) → SlotHere (now (s .entry)) slot f → slot .kind ≡ 16
+        → Writes (textOf sheet tag (nameOf name) (slot .discriminant) (f .slot)) (now (buf .entry)) t (now (buf .exit)) r) ⌝ }
 {
-    let t = codegen_setter::set_open(t, buf, name);
-    let t = type_string::type_string(
-        root,
-        s,
-        ids,
-        ats,
-        slot.typ,
-        Leaf::Reader(Lifetime::Anonymous),
-        t,
-        buf,
-    );
-    let t = set_end(t, buf, root, tag, slot.discriminant, slot.offset);
-    let t = codegen_setter::init_open(t, buf, name, false);
-    let t = init_type(root, s, ids, ats, slot.typ, t, buf);
-    init_end(t, buf, root, tag, slot.discriminant, slot.offset, b"0")
+    let t = codegen_setter::set_open(name, t, buf);
+    let Written {
+        text: t,
+        refusal: reader,
+    } = reader_type(root, s, index, slot.typ, t, buf);
+    let t = set_end(root, slot, tag, t, buf);
+    let t = codegen_setter::init_open(name, false, t, buf);
+    let Written {
+        text: t,
+        refusal: builder,
+    } = init_type(root, s, index, slot.typ, t, buf);
+    let text = init_end(root, slot, tag, b"0", t, buf);
+    Written {
+        text,
+        refusal: codegen_types::first(reader, builder),
+    }
 }
 
 // An interface's setter.
 fn interface_setter(
     root: &[u8],
     s: &[u8],
-    ids: &[u64],
-    ats: &[usize],
+    index: &[u64],
     slot: Slot,
     name: Snake,
     tag: u64,
     t: Text,
     buf: &mut [u8],
-) -> Text
-    ensures { λ r. ⌜ ForAll (now (root .entry)) (now (s .entry)) (now (ids .entry)) (now (ats .entry)) (λ sheet.
-        (sl : tree.Slot) → Here (now (s .entry)) slot sl → slot .kind ≡ 17 →
-        Writes (textOf sheet tag (nameOf name) (slot .discriminant) sl) (now (buf .entry)) t (now (buf .exit)) r) ⌝ }
+) -> Written
+    ensures { λ r. ⌜ ForAll (now (root .entry)) (now (s .entry)) (now (index .entry)) (λ sheet.
+        (f : SlotField) → SlotHere (now (s .entry)) slot f → slot .kind ≡ 17
+        → Writes (textOf sheet tag (nameOf name) (slot .discriminant) (f .slot)) (now (buf .entry)) t (now (buf .exit)) r) ⌝ }
 {
-    let t = codegen_setter::set_open(t, buf, name);
-    let t = type_string::type_string(root, s, ids, ats, slot.typ, Leaf::Client, t, buf);
+    let t = codegen_setter::set_open(name, t, buf);
+    let Written { text: t, refusal } = type_string::type_string(
+        root,
+        s,
+        index,
+        slot.typ,
+        Leaf::Client,
+        t,
+        buf,
+    );
     let t = t.bytes(buf, b")  {\n");
-    let t = codegen_setter::tag_line(t, buf, tag, slot.discriminant);
+    let t = codegen_setter::tag_line(tag, slot.discriminant, t, buf);
     let t = t.bytes(buf, b"    self.builder.reborrow().get_pointer_field(");
     let t = t.number(buf, slot.offset);
-    t.bytes(buf, b").set_capability(value.client.hook);\n}\n")
+    let text = t.bytes(buf, b").set_capability(value.client.hook);\n}\n");
+    Written { text, refusal }
 }
 
-// A parameter's setter and initializers.
+// A parameter's setter and initializers. The last of its three types is the first again.
 fn parameter_setter(
     root: &[u8],
     s: &[u8],
-    ids: &[u64],
-    ats: &[usize],
+    index: &[u64],
     slot: Slot,
     name: Snake,
     tag: u64,
     t: Text,
     buf: &mut [u8],
-) -> Text
-    ensures { λ r. ⌜ ForAll (now (root .entry)) (now (s .entry)) (now (ids .entry)) (now (ats .entry)) (λ sheet.
-        (sl : tree.Slot) → Here (now (s .entry)) slot sl → slot .kind ≡ 18 → (slot .id ≡ 0 → ⊥) →
-        Writes (textOf sheet tag (nameOf name) (slot .discriminant) sl) (now (buf .entry)) t (now (buf .exit)) r) ⌝ }
+) -> Written
+    ensures { λ r. ⌜ ForAll (now (root .entry)) (now (s .entry)) (now (index .entry)) (λ sheet.
+        (f : SlotField) → SlotHere (now (s .entry)) slot f → slot .kind ≡ 18 → (slot .id ≡ 0 → ⊥)
+        → Writes (textOf sheet tag (nameOf name) (slot .discriminant) (f .slot)) (now (buf .entry)) t (now (buf .exit)) r) ⌝ }
 {
-    let t = codegen_setter::initn_open(t, buf, name);
-    let t = init_type(root, s, ids, ats, slot.typ, t, buf);
-    let t = new_end(
-        t,
-        buf,
-        root,
-        tag,
-        slot.discriminant,
-        slot.offset,
-        b".initn_as(length)",
-    );
-    let t = codegen_setter::set_open(t, buf, name);
-    let t = setter_input(root, s, ids, ats, slot.typ, t, buf);
-    let t = set_end(t, buf, root, tag, slot.discriminant, slot.offset);
-    let t = codegen_setter::init_open(t, buf, name, false);
-    let t = init_type(root, s, ids, ats, slot.typ, t, buf);
-    new_end(
-        t,
-        buf,
-        root,
-        tag,
-        slot.discriminant,
-        slot.offset,
-        b".init_as()",
-    )
-}
-
-// The setter of a slot whose type has one row: kinds 0 to 13.
-fn plain_setter(t: Text, buf: &mut [u8], root: &[u8], slot: Slot, name: Snake, tag: u64) -> Text
-    ensures { λ r. ⌜ ((ns : List tree.Node) (sl : tree.Slot) → SlotIs slot sl → slot .kind ≤ 13
-        → Writes (textOf (sheetOf (now (root .entry)) ns) tag (nameOf name) (slot .discriminant) sl)
-        (now (buf .entry)) t (now (buf .exit)) r) ⌝ }
-{
-    let kind = slot.kind;
-    let discriminant = slot.discriminant;
-    let offset = slot.offset;
-    if kind == 0 {
-        return codegen_setter::void(t, buf, name, tag, discriminant);
+    let t = codegen_setter::initn_open(name, t, buf);
+    let Written {
+        text: t,
+        refusal: builder,
+    } = init_type(root, s, index, slot.typ, t, buf);
+    let t = new_end(root, slot, tag, b".initn_as(length)", t, buf);
+    let t = codegen_setter::set_open(name, t, buf);
+    let Written {
+        text: t,
+        refusal: owned,
+    } = setter_input(root, s, index, slot.typ, t, buf);
+    let t = set_end(root, slot, tag, t, buf);
+    let t = codegen_setter::init_open(name, false, t, buf);
+    let again = init_type(root, s, index, slot.typ, t, buf);
+    let text = new_end(root, slot, tag, b".init_as()", again.text, buf);
+    Written {
+        text,
+        refusal: codegen_types::first(builder, owned),
     }
-    if kind == 1 {
-        return codegen_setter::boolean(
-            t,
-            buf,
-            name,
-            tag,
-            discriminant,
-            offset,
-            slot.default,
-            slot.bits,
-        );
-    }
-    if kind <= 11 {
-        return codegen_setter::number(
-            t,
-            buf,
-            name,
-            tag,
-            discriminant,
-            kind,
-            offset,
-            slot.default,
-            slot.bits,
-        );
-    }
-    if kind == 12 {
-        return codegen_setter::text(t, buf, root, name, tag, discriminant, offset);
-    }
-    codegen_setter::data(t, buf, root, name, tag, discriminant, offset)
 }
 
 // The setter of a slot, by its kind.
 fn setter_of(
     root: &[u8],
     s: &[u8],
-    ids: &[u64],
-    ats: &[usize],
+    index: &[u64],
     slot: Slot,
     name: Snake,
     tag: u64,
     t: Text,
     buf: &mut [u8],
-) -> Text
-    ensures { λ r. ⌜ ForAll (now (root .entry)) (now (s .entry)) (now (ids .entry)) (now (ats .entry)) (λ sheet.
-        (sl : tree.Slot) → Here (now (s .entry)) slot sl
-        → Writes (textOf sheet tag (nameOf name) (slot .discriminant) sl) (now (buf .entry)) t (now (buf .exit)) r) ⌝ }
+) -> Written
+    ensures { λ r. ⌜ ForAll (now (root .entry)) (now (s .entry)) (now (index .entry)) (λ sheet.
+        (f : SlotField) → SlotHere (now (s .entry)) slot f
+        → Writes (textOf sheet tag (nameOf name) (slot .discriminant) (f .slot)) (now (buf .entry)) t (now (buf .exit)) r) ⌝ }
 {
     let kind = slot.kind;
     if kind <= 13 {
-        return plain_setter(t, buf, root, slot, name, tag);
+        return plain_setter(root, slot, name, tag, t, buf);
     }
     if kind == 14 {
-        return list_setter(root, s, ids, ats, slot, name, tag, t, buf);
+        return list_setter(root, s, index, slot, name, tag, t, buf);
     }
     if kind == 15 {
-        return enum_setter(root, s, ids, ats, slot, name, tag, t, buf);
+        return enum_setter(s, index, slot, name, tag, t, buf);
     }
     if kind == 16 {
-        return struct_setter(root, s, ids, ats, slot, name, tag, t, buf);
+        return struct_setter(root, s, index, slot, name, tag, t, buf);
     }
     if kind == 17 {
-        return interface_setter(root, s, ids, ats, slot, name, tag, t, buf);
+        return interface_setter(root, s, index, slot, name, tag, t, buf);
     }
     if slot.id == 0 {
-        return codegen_setter::any_pointer(t, buf, root, name, tag, slot.discriminant, slot.offset);
+        return codegen_types::whole(codegen_setter::any_pointer(root, name, slot, tag, t, buf));
     }
-    parameter_setter(root, s, ids, ats, slot, name, tag, t, buf)
+    parameter_setter(root, s, index, slot, name, tag, t, buf)
 }
 
-// The text of the setter of the slot that is read at a position, by the offset of its node's tag.
+// The text of a slot's setter, by the offset of its node's tag.
 pub fn setter(
     root: &[u8],
     s: &[u8],
-    ids: &[u64],
-    ats: &[usize],
-    at: usize,
+    index: &[u64],
     slot: Slot,
     tag: u64,
     t: Text,
     buf: &mut [u8],
-) -> Text
-    ensures { λ r. ⌜ (SlotOn (now (s .entry)) at slot
-        → ForAll (now (root .entry)) (now (s .entry)) (now (ids .entry)) (now (ats .entry)) (λ sheet.
-        On (slotFieldOf (rows (drop at (now (s .entry))))) (λ f.
-        Writes (setterRequest sheet tag (f .name) (f .discriminant) (f .slot)) (now (buf .entry)) t (now (buf .exit)) r))) ⌝ }
+) -> Written
+    ensures { λ r. ⌜ ForAll (now (root .entry)) (now (s .entry)) (now (index .entry)) (λ sheet.
+        (f : SlotField) → SlotHere (now (s .entry)) slot f
+        → Writes (setterRequest sheet tag (f .name) (f .discriminant) (f .slot)) (now (buf .entry)) t (now (buf .exit)) r) ⌝ }
 {
-    let name = row::text(s, at);
-    let snake = names::camel_to_snake_case(name);
-    setter_of(root, s, ids, ats, slot, snake, tag, t, buf)
+    let name = names::camel_to_snake_case(slot.name(s));
+    setter_of(root, s, index, slot, name, tag, t, buf)
 }

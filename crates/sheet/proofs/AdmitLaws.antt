@@ -21,38 +21,38 @@ use Rattle.tree.specs.Index.{On}
 use Rattle.tree.specs.declared.Walk.{Walk}
 use Rattle.tree.specs.declared.Walk.the-variants.{Next, Refused}
 use Rattle.tree.proofs.OtherLines.{never, not-root}
-use Rattle.sheet.specs.Admission.{verdict, IndexFor, IndexOf, NodesRead}
+use Rattle.nodes.specs.Index.{Indexed}
+use Rattle.sheet.specs.Admission.{verdict, IndexOf, NodesRead}
 use Rattle.sheet.specs.declared.Answer.{Answer}
-use Rattle.sheet.specs.declared.Index.{Index}
 use Rattle.row.specs.declared.Line.the-variants as line
 use Rattle.sheet.specs.declared.Answer.the-variants as answer
 
--- an answer with its index, of what is admitted
-abbrev Says : Str → Admitted → Answer → Index → Type 0
-Says s a r x = (r ≡ verdict a) × IndexOf s a x
+-- an answer of what is admitted, and its index y, if there was room for all its numbers
+abbrev Says : Str → Admitted → Answer → ℕ → List ℕ → Type 0
+Says s a r room y = (r ≡ verdict a) × (1025 ≤ room → IndexOf s a y)
 
-pub too-long : (s : Str) (x : Index) → 65536 < length s → Says s (admitted s) (answer.Refused 1 0) x
+pub too-long : (s : Str) (room : ℕ) (y : List ℕ) → 65536 < length s → Says s (admitted s) (answer.Refused 1 0) room y
 unfolding admitted
-too-long s x h = rw (admitted, lt-ltb 65536 (length s) h) (refl, tt)
+too-long s room y h = rw (admitted, lt-ltb 65536 (length s) h) (refl, λ big. tt)
 
 -- what is left after the first row is not too long either
 pub rest-fits : (s : Str) (e most : ℕ) → length s ≤ most → size (rows (drop e s)) ≤ most
 rest-fits s e most h = omega (arith, size-rows (drop e s), length-drop e s)
 
 -- a sheet that is not too long, and its first row's line
-module _ (s : Str) (short : length s ≤ 65536) (l : Line) (here : l ≡ lineAt (rows s)) (x : Index) where
+module _ (s : Str) (short : length s ≤ 65536) (l : Line) (here : l ≡ lineAt (rows s)) (room : ℕ) (y : List ℕ) where
   fits : admitted s ≡ numbered s (sheetOf (rows s))
   unfolding admitted
   fits = rw (admitted, le-ltb 65536 (length s) short)
 
   pub no-root :
       (n : ℕ) → OneOf (1 ∷ 2 ∷ 3 ∷ 4 ∷ 5 ∷ 6 ∷ 7 ∷ 8 ∷ 9 ∷ 10 ∷ []) (tagOf the-type l) → n ≡ lineNo s (rows s)
-      → Says s (admitted s) (answer.Refused 2 n) x
+      → Says s (admitted s) (answer.Refused 2 n) room y
   unfolding sheetOf
-  no-root n o e = rw (fits, ← here, not-root {A = Reader _} l _ _ o, ← e) (refl, tt)
+  no-root n o e = rw (fits, ← here, not-root {A = Reader _} l _ _ o, ← e) (refl, λ big. tt)
 
   module _ (is : l ≡ line.Root) (rest : Rows) (after : rest ≡ restOf (rows s)) (w : Walk)
-      (read : NodesRead s w x (nodesOf 64 [] [] rest)) where
+      (read : NodesRead s w y (nodesOf 64 [] [] rest)) (kept : length y ≡ room) where
     made : List Node → Sheet
     made ns = record { root = textAt (rows s); nodes = ns }
 
@@ -60,24 +60,24 @@ module _ (s : Str) (short : length s ≤ 65536) (l : Line) (here : l ≡ lineAt 
     unfolding sheetOf made
     nodes-read = fits ∙ rw (← here, is, ← after)
 
-    pub whole-sheet : (q : ℕ) → w ≡ Next q → Says s (admitted s) answer.Sheet x
+    pub whole-sheet : (q : ℕ) → w ≡ Next q → Says s (admitted s) answer.Sheet room y
     unfolding made
     whole-sheet q e = rw nodes-read (go (nodesOf 64 [] [] rest) (rw e at (read .walk)) (read .index))
       where
         go : (g : Reading (List Node)) → got tt (rows (drop q s)) ≡ passed g
-            → On g (λ ns. IndexFor s ns x)
-            → Says s (numbered s (g then λ ns. got (made ns))) answer.Sheet x
-        go (got ns us) h d = (refl, d)
+            → (1025 ≤ length y → On g (λ ns. Indexed s ns y))
+            → Says s (numbered s (g then λ ns. got (made ns))) answer.Sheet room y
+        go (got ns us) h d = (refl, λ big. d (omega arith))
         go (no k us) h d = never cc
 
     pub bad-line :
-        (k q n : ℕ) → w ≡ Refused k q → n ≡ lineNo s (rows (drop q s)) → Says s (admitted s) (answer.Refused k n) x
+        (k q n : ℕ) → w ≡ Refused k q → n ≡ lineNo s (rows (drop q s)) → Says s (admitted s) (answer.Refused k n) room y
     bad-line k q n e f = rw nodes-read (go (nodesOf 64 [] [] rest) (rw e at (read .walk)))
       where
         go : (g : Reading (List Node)) → no k (rows (drop q s)) ≡ passed g
-            → Says s (numbered s (g then λ ns. got (made ns))) (answer.Refused k n) x
+            → Says s (numbered s (g then λ ns. got (made ns))) (answer.Refused k n) room y
         go (got ns us) h = never cc
         go (no j us) h =
             let a : j ≡ k = cc in
             let b : us ≡ rows (drop q s) = cc in
-            rw (a, b, ← f) (refl, tt)
+            rw (a, b, ← f) (refl, λ big. tt)

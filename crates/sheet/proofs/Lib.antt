@@ -1,6 +1,9 @@
-pub mod MarksLaws
-pub mod FieldsLaws
+pub mod FlagsLaws
 pub mod RoomLaws
+pub mod FieldsLaws
+pub mod FieldsHereLaws
+pub mod ParamsLaws
+pub mod PlacedLaws
+pub mod NodeLaws
 pub mod NodesLaws
-pub mod IndexLaws
 pub mod AdmitLaws

@@ -1,36 +1,38 @@
 -- What the code's answers say of a sheet and its tree. Assumes nothing.
 use mathlib.Core.Path.{_≡_}
-use mathlib.Core.Bool.{true}
+use mathlib.Core.Bool.{Bool, true}
 use mathlib.Core.List.{List, _++_}
-use Prim.Native.Nat.{ℕ, _+_, _*_, _%_, _≤_, _<_}
-use lib.ListN.{length, drop, take, getD}
-use Rattle.text.specs.Bytes.{Str}
-use Rattle.row.specs.Rows.{rows, size}
-use Rattle.tree.specs.Tree.{Node, Sheet}
-use Rattle.tree.specs.Reader.{Rows, Reading, got, no, Reader, mapR}
-use Rattle.tree.specs.Read.{among, fieldsOf, groupIds, nodeOf, Admitted, sheet, refused}
+use Prim.Native.Nat.{ℕ, _+_, _-_, _*_, _/_, _%_, _≤_, _<_}
+use lib.Dec.{eqb, ltb}
+use lib.ListN.{length, drop, take, getD, set}
+use Rattle.text.specs.Bytes.{Str, cond, both}
+use Rattle.row.specs.Rows.{rows, restOf, size}
+use Rattle.row.specs.Line.{textAt}
+use Rattle.tree.specs.Tree.{Field, Node, Sheet}
+use Rattle.tree.specs.Reader.{Rows, Reading, got, no, Reader, _then_, mapR}
+use Rattle.tree.specs.Read.{among, fieldsOf, groupIds, paramsOf, membersOf, Admitted, sheet, refused}
 use Rattle.tree.specs.Walked.{passed, walked}
-use Rattle.tree.specs.Index.{On, Indexed}
+use Rattle.tree.specs.Index.{On}
 use Rattle.tree.specs.declared.Walk.{Walk}
 use Rattle.tree.specs.declared.Walk.the-variants.{Next, Refused}
+use Rattle.nodes.specs.Index.{entryAt, namesOf, indexSize, Marked, EntryIs, Indexed}
+use Rattle.nodes.specs.declared.Entry.{Entry}
 use Rattle.sheet.specs.declared.Answer.{Answer}
 use Rattle.sheet.specs.declared.Answer.the-variants as answer
-use Rattle.sheet.specs.declared.Index.{Index}
 use Rattle.sheet.specs.declared.Turn.{Turn}
 use Rattle.sheet.specs.declared.Turn.the-variants as turn
+use Rattle.sheet.specs.declared.ParamsRun.{ParamsRun}
+use Rattle.sheet.specs.declared.Held.{Held}
+use Rattle.sheet.specs.declared.NodeRun.{NodeRun}
 
 -- document 01's answer for what is admitted: a sheet, or the number and the line of its refusal
 abbrev pub verdict : Admitted → Answer
 verdict (sheet sh) = answer.Sheet
 verdict (refused k l) = answer.Refused k l
 
--- the index of some nodes: the first `count`, at most 64, of its ids and positions
-abbrev pub IndexFor : Str → List Node → Index → Type 0
-IndexFor s ns x = (x .count ≤ 64) × Indexed s ns (take (x .count) (x .ids)) (take (x .count) (x .ats))
-
 -- the index holds the nodes of the tree, if there is one
-abbrev pub IndexOf : Str → Admitted → Index → Type 0
-IndexOf s (sheet sh) x = IndexFor s (sh .nodes) x
+abbrev pub IndexOf : Str → Admitted → List ℕ → Type 0
+IndexOf s (sheet sh) x = Indexed s (sh .nodes) x
 IndexOf s (refused k l) x = Unit {0}
 
 -- a walk that also gives something
@@ -38,13 +40,15 @@ abbrev pub told : {A : Type 0} → Str → Walk → A → Reading A
 told s (Next at) a = got a (rows (drop at s))
 told s (Refused k at) a = no k (rows (drop at s))
 
+-- ---- group ids
+
 -- the group ids seen after a node's fields
 abbrev pub groupsAfter : List ℕ → Reader (List ℕ)
 groupsAfter seen = mapR (λ fs. seen ++ groupIds fs) (fieldsOf seen)
 
--- every id that stands among some has its mark set, at the remainder by 2048: an id whose mark is not set is none of them
-pub record Marked (marks ids : List ℕ) : Type 0 where
-  pub set : (id : ℕ) → among id ids ≡ true → getD marks (id % 2048) 0 ≡ 1
+-- every id that stands among some has its flag set, at the remainder by 2048: an id whose flag is not set is none of them
+pub record Flagged (flags ids : List ℕ) : Type 0 where
+  pub set : (id : ℕ) → among id ids ≡ true → getD flags (id % 2048) 0 ≡ 1
 
 -- so many ids are held, and there is room for one more in each 44 of the bytes that are left
 abbrev pub Room : List ℕ → ℕ → ℕ → Type 0
@@ -58,24 +62,115 @@ leftAfter s (Refused k at) = 0
 -- one turn of the reading of fields, from rows rs on with these group ids seen: after a field it goes on with the ids held then,
 -- over fewer rows; at its end it is told
 abbrev pub Turned : Str → Rows → List ℕ → ℕ → List ℕ → List ℕ → Turn → Type 0
-Turned s rs seen count groups marks (turn.Field at n) =
+Turned s rs seen count groups flags (turn.Field at n) =
     (groupsAfter seen rs ≡ groupsAfter (take n groups) (rows (drop at s)))
     × Room groups n (size (rows (drop at s)))
-    × Marked marks (take n groups)
+    × Flagged flags (take n groups)
     × (length (rows (drop at s)) < length rs)
-Turned s rs seen count groups marks (turn.End w) =
+Turned s rs seen count groups flags (turn.End w) =
     (told s w (take count groups) ≡ groupsAfter seen rs)
     × Room groups count (leftAfter s w)
-    × Marked marks (take count groups)
+    × Flagged flags (take count groups)
+
+-- ---- the index
+
+-- the place of the first mark
+abbrev pub firstMark : ℕ
+firstMark = 769
+
+-- the next mark has this place, and there is room for one more in each 256 of the bytes that are left
+abbrev pub MarkRoom : ℕ → ℕ → Type 0
+MarkRoom place left = 256 * place + left ≤ 256 * firstMark + 65536
+
+-- whether the P row with a number, from 0, has a mark: each 64th of a node but the first
+abbrev pub hasMark : ℕ → Bool
+hasMark k = both (ltb 0 k) (eqb (k % 64) 0)
+
+-- the index after the P row with a number k at a position: a row that has a mark has its position put at a place
+unfoldable pub withMark : List ℕ → ℕ → ℕ → ℕ → List ℕ
+withMark index place k at = cond (hasMark k) (set index place at) index
+
+-- the place of the next mark then
+unfoldable pub nextMark : ℕ → ℕ → ℕ
+nextMark place k = cond (hasMark k) (place + 1) place
+
+-- the second list has the first's numbers from a place on, up to another
+pub record Same (x y : List ℕ) (from to : ℕ) : Type 0 where
+  pub each : (q : ℕ) → from ≤ q → q < to → getD y q 0 ≡ getD x q 0
+
+-- what is said of the P rows that stand first, with their marks from a place of the index on
+pub record ParamsRead (s : Str) (rs : Rows) (marks : ℕ) (x y : List ℕ) (r : ParamsRun) : Type 0 where
+  pub walk : got tt (rows (drop (r .at) s)) ≡ passed (paramsOf rs)
+  pub count : r .count ≡ length (namesOf rs)
+  pub next : r .marks ≡ marks + (r .count - 1) / 64
+  pub left : size (rows (drop (r .at) s)) ≤ size rs
+  pub room : MarkRoom (r .marks) (size (rows (drop (r .at) s)))
+  pub same : Same x y 0 marks
+  pub marked : indexSize ≤ length y → Marked s y marks (namesOf rs)
+
+-- an entry is that of a node, with its marks among those before a place
+pub record Placed (s : Str) (index : List ℕ) (end : ℕ) (e : Entry) (n : Node) : Type 0 where
+  pub is : EntryIs s index e n
+  pub first : firstMark ≤ e .marks
+  pub last : e .marks + (length (n .params) - 1) / 64 ≤ end
+
+-- ---- nodes
+
+-- the node with an entry's numbers, its module, its parameters and its fields
+abbrev pub nodeWith : Entry → Str → List Str → List Field → Node
+nodeWith e theMod ps fs = record {
+  id = e .id;
+  parent = e .parent;
+  scope = e .scope;
+  isStruct = e .«is_struct»;
+  generic = e .generic;
+  tagCount = e .«tag_count»;
+  tagOffset = e .«tag_offset»;
+  theMod = theMod;
+  params = ps;
+  fields = fs;
+}
+
+-- the node whose N row has an entry's numbers, from what stands after that row
+abbrev pub membersHere : Str → Entry → List ℕ → Reading Node
+membersHere s e seen = membersOf seen (nodeWith e (textAt (rows (drop (e .at) s)))) (rows (drop (e .params) s))
+
+-- where a node is read, with the sheet from a position on left: not the 65th, with room for its ids and marks
+pub record Ready (s : Str) (at : ℕ) (groups flags : List ℕ) (held : Held) : Type 0 where
+  pub few : held .nodes < 64
+  pub flags-size : length flags ≡ 2048
+  pub room : Room groups (held .groups) (size (rows (drop at s)))
+  pub flagged : Flagged flags (take (held .groups) groups)
+  pub first : firstMark ≤ held .marks
+  pub marks : MarkRoom (held .marks) (size (rows (drop at s)))
+
+-- an entry of which an N row is read: its P rows begin after that row, and its marks at the next place
+pub record Begun (s : Str) (held : Held) (e : Entry) : Type 0 where
+  pub after : rows (drop (e .params) s) ≡ restOf (rows (drop (e .at) s))
+  pub marks : e .marks ≡ held .marks
+
+-- a node that is refused adds nothing
+abbrev pub refusedRun : Held → ℕ → ℕ → NodeRun
+refusedRun held k at = record { walk = Refused k at; id = 0; groups = held .groups; marks = held .marks }
 
 -- a node's id, and the group ids seen after it
 abbrev pub seenAfter : List ℕ → Node → ℕ × List ℕ
 seenAfter seen n = (n .id, seen ++ groupIds (n .fields))
 
-abbrev pub nodeAfter : List ℕ → List ℕ → Reader (ℕ × List ℕ)
-nodeAfter ids seen = mapR (seenAfter seen) (nodeOf ids seen)
+-- what is said of the reading g of a node, where some are held, with these group ids seen and the index x: its id and the ids
+-- held after it; and of the index y after it, in which its entry stands after the others, its marks after the others
+pub record NodeRead
+    (s : Str) (held : Held) (seen x : List ℕ) (g : Reading Node) (groups flags y : List ℕ) (r : NodeRun) : Type 0 where
+  pub read : told s (r .walk) (r .id, take (r .groups) groups) ≡ (g then λ n. got (seenAfter seen n))
+  pub room : Room groups (r .groups) (leftAfter s (r .walk))
+  pub flagged : Flagged flags (take (r .groups) groups)
+  pub marks : MarkRoom (r .marks) (leftAfter s (r .walk))
+  pub further : held .marks ≤ r .marks
+  pub entries : Same x y 0 (1 + 12 * held .nodes)
+  pub before : Same x y firstMark (held .marks)
+  pub entry : indexSize ≤ length y → On g (Placed s y (r .marks) (entryAt y (1 + 12 * held .nodes)))
 
--- what a walk over nodes says of their reading: where it came to, and the index
-pub record NodesRead (s : Str) (w : Walk) (x : Index) (g : Reading (List Node)) : Type 0 where
+-- what a walk over nodes says of their reading: where it came to, and the index that it leaves
+pub record NodesRead (s : Str) (w : Walk) (y : List ℕ) (g : Reading (List Node)) : Type 0 where
   pub walk : walked s w ≡ passed g
-  pub index : On g (λ ns. IndexFor s ns x)
+  pub index : indexSize ≤ length y → On g (λ ns. Indexed s ns y)

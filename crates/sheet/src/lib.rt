@@ -1,34 +1,22 @@
 // A sheet, read once: admitted, with the index of its nodes, or refused at its first bad line.
+use nodes::Entry;
 use row::Line;
 use tree::Walk;
 ghost use mathlib.Core.Path.{_≡_};
 ghost use mathlib.Core.List.{[]};
-ghost use Prim.Native.Nat.{_%_, _≤_};
+ghost use Prim.Native.Nat.{_%_, _≤_, _<_};
 ghost use lib.ListN.{length, drop, take, set};
 ghost use Rattle.row.specs.Rows.{rows, size};
-ghost use Rattle.tree.specs.Reader.{got};
-ghost use Rattle.tree.specs.Read.{among, paramsOf, nodesOf, admitted};
-ghost use Rattle.tree.specs.Walked.{passed};
-ghost use Rattle.sheet.specs.Admission.{verdict, IndexOf, told, Marked, Room, groupsAfter, leftAfter, Turned, nodeAfter};
-ghost use Rattle.sheet.specs.Admission.{NodesRead};
-
-// The ids of the nodes and the positions of their N rows, in the sheet's order: the first `count` of each.
-pub struct Index {
-    pub ids: [u64; 64],
-    pub ats: [usize; 64],
-    pub count: usize,
-}
+ghost use Rattle.tree.specs.Read.{among, nodeOf, nodesOf, admitted};
+ghost use Rattle.nodes.specs.Index.{indexSize};
+ghost use Rattle.sheet.specs.Admission.{verdict, IndexOf, told, Flagged, Room, groupsAfter, leftAfter, Turned};
+ghost use Rattle.sheet.specs.Admission.{MarkRoom, withMark, nextMark, ParamsRead, Ready, Begun, refusedRun, membersHere};
+ghost use Rattle.sheet.specs.Admission.{NodeRead, NodesRead};
 
 // What a sheet is: one that document 01 admits, or one with a refusal at a line.
 pub enum Answer {
     Sheet,
     Refused { number: u64, line: usize },
-}
-
-// The answer for a sheet; its index is that of all nodes where the sheet is admitted.
-pub struct Admission {
-    pub answer: Answer,
-    pub index: Index,
 }
 
 // A walk, and how many ids are held after it.
@@ -44,17 +32,26 @@ enum Turn {
     End { walk: Walk },
 }
 
-// A walk over one node, its id, and how many group ids are held after it.
+// The P rows of a node: the position after them, how many they are, and the place of the next mark.
+struct ParamsRun {
+    at: usize,
+    count: u64,
+    marks: usize,
+}
+
+// How many nodes and group ids were read, and the place of the next mark.
+struct Held {
+    nodes: usize,
+    groups: usize,
+    marks: usize,
+}
+
+// A walk over one node, its id, how many group ids are held after it, and the place of the next mark.
 struct NodeRun {
     walk: Walk,
     id: u64,
-    count: usize,
-}
-
-// A walk over the nodes, and their index.
-struct IndexRun {
-    walk: Walk,
-    index: Index,
+    groups: usize,
+    marks: usize,
 }
 
 // Whether an id is one of those from a place on, up to another.
@@ -88,48 +85,74 @@ fn seen(ids: &[u64], count: usize, id: u64) -> bool
     seen_between(ids, i, count, id)
 }
 
-// Whether a group id is one of the first `count`. Where its mark is 0 it is none of them, and no search is made.
-fn known(groups: &[u64], count: usize, marks: &[u8], id: u64) -> bool
-    requires { ⌜ (count ≤ length (now groups)) × (length (now marks) ≡ 2048) × Marked (now marks) (take count (now groups)) ⌝ }
+// Whether a group id is one of the first `count`. Where its flag is 0 it is none of them, and no search is made.
+fn known(groups: &[u64], count: usize, flags: &[u8], id: u64) -> bool
+    requires { ⌜ (count ≤ length (now groups)) × (length (now flags) ≡ 2048) × Flagged (now flags) (take count (now groups)) ⌝ }
     ensures { λ r. ⌜ r ≡ among id (take count (now (groups .entry))) ⌝ }
 {
-    if marks[(id % 2048) as usize] == 0 {
+    if flags[(id % 2048) as usize] == 0 {
         return false;
     }
     seen(groups, count, id)
 }
 
-// Sets the mark of a group id.
-fn mark(marks: &mut [u8], id: u64)
-    requires { ⌜ length (now marks) ≡ 2048 ⌝ }
-    ensures { λ r. ⌜ now (marks .exit) ≡ set (now (marks .entry)) (id % 2048) 1 ⌝ }
+// Sets the flag of a group id.
+fn flag(flags: &mut [u8], id: u64)
+    requires { ⌜ length (now flags) ≡ 2048 ⌝ }
+    ensures { λ r. ⌜ now (flags .exit) ≡ set (now (flags .entry)) (id % 2048) 1 ⌝ }
 {
-    marks[(id % 2048) as usize] = 1;
+    flags[(id % 2048) as usize] = 1;
 }
 
-// The position after the P rows that stand there.
-pub fn params(s: &[u8], from: usize) -> usize
-    ensures { λ r. ⌜ got tt (rows (drop r (now (s .entry)))) ≡ passed (paramsOf (rows (drop from (now (s .entry))))) ⌝ }
+// Puts the mark of the P row with a number, from 0, that stands at a position: each 64th row of a node but the first has one.
+// It answers with the place of the next mark.
+fn mark(index: &mut [u64], place: usize, number: u64, at: usize) -> usize
+    requires { ⌜ place < indexSize ⌝ }
+    ensures { λ r. ⌜ (now (index .exit) ≡ withMark (now (index .entry)) place number at) × (r ≡ nextMark place number) ⌝ }
+{
+    if number == 0 {
+        return place;
+    }
+    if number % 64 != 0 {
+        return place;
+    }
+    nodes::store(index, place, at as u64);
+    place + 1
+}
+
+// The P rows that stand there. Their marks are put from a place of the index on.
+fn params(s: &[u8], index: &mut [u64], from: usize, marks: usize) -> ParamsRun
+    requires { ⌜ MarkRoom marks (size (rows (drop from (now s)))) ⌝ }
+    ensures { λ r. ⌜ ParamsRead (now (s .entry)) (rows (drop from (now (s .entry)))) marks (now (index .entry))
+        (now (index .exit)) r ⌝ }
 {
     let mut at = from;
+    let mut count: u64 = 0;
+    let mut place = marks;
     loop {
         let g = row::next(s, at);
         let l = g.line;
         let e = g.next;
         let Line::Parameter = l else {
-            return at;
+            return ParamsRun {
+                at,
+                count,
+                marks: place,
+            };
         };
+        place = mark(index, place, count, at);
         at = e;
+        count += 1;
     }
 }
 
 // One field, whose row stands there: an F row with what belongs to it, or a G row, whose id is put after the first `count` of
-// `groups`, with its mark.
-fn field(s: &[u8], at: usize, groups: &mut [u64], marks: &mut [u8], count: usize) -> Turn
-    requires { ⌜ (length (now marks) ≡ 2048) × Room (now groups) count (size (rows (drop at (now s))))
-        × Marked (now marks) (take count (now groups)) ⌝ }
+// `groups`, with its flag.
+fn field(s: &[u8], at: usize, groups: &mut [u64], flags: &mut [u8], count: usize) -> Turn
+    requires { ⌜ (length (now flags) ≡ 2048) × Room (now groups) count (size (rows (drop at (now s))))
+        × Flagged (now flags) (take count (now groups)) ⌝ }
     ensures { λ r. ⌜ Turned (now (s .entry)) (rows (drop at (now (s .entry)))) (take count (now (groups .entry))) count
-        (now (groups .exit)) (now (marks .exit)) r ⌝ }
+        (now (groups .exit)) (now (flags .exit)) r ⌝ }
 {
     let g = row::next(s, at);
     let l = g.line;
@@ -150,13 +173,13 @@ fn field(s: &[u8], at: usize, groups: &mut [u64], marks: &mut [u8], count: usize
             id,
             discriminant: _,
         } => {
-            if known(groups, count, marks, id) {
+            if known(groups, count, flags, id) {
                 return Turn::End {
                     walk: Walk::Refused { number: 3, at },
                 };
             }
             groups[count] = id;
-            mark(marks, id);
+            flag(flags, id);
             Turn::Field {
                 at: e,
                 count: count + 1,
@@ -169,20 +192,20 @@ fn field(s: &[u8], at: usize, groups: &mut [u64], marks: &mut [u8], count: usize
 }
 
 // The fields of a node: F rows with what belongs to them, and G rows. The ids of all G rows before stand in `groups`, and
-// those of this node are put after them, with their marks. A G row has 44 bytes or more, so that there is room for all of them
+// those of this node are put after them, with their flags. A G row has 44 bytes or more, so that there is room for all of them
 // where there is room for one in each 44 bytes.
-fn fields(s: &[u8], from: usize, groups: &mut [u64], marks: &mut [u8], count: usize) -> Run
-    requires { ⌜ (length (now marks) ≡ 2048) × Room (now groups) count (size (rows (drop from (now s))))
-        × Marked (now marks) (take count (now groups)) ⌝ }
+fn fields(s: &[u8], from: usize, groups: &mut [u64], flags: &mut [u8], count: usize) -> Run
+    requires { ⌜ (length (now flags) ≡ 2048) × Room (now groups) count (size (rows (drop from (now s))))
+        × Flagged (now flags) (take count (now groups)) ⌝ }
     ensures read { λ r. ⌜ told (now (s .entry)) (r .walk) (take (r .count) (now (groups .exit)))
         ≡ groupsAfter (take count (now (groups .entry))) (rows (drop from (now (s .entry)))) ⌝ }
     ensures room { λ r. ⌜ Room (now (groups .exit)) (r .count) (leftAfter (now (s .entry)) (r .walk)) ⌝ }
-    ensures marked { λ r. ⌜ Marked (now (marks .exit)) (take (r .count) (now (groups .exit))) ⌝ }
+    ensures flagged { λ r. ⌜ Flagged (now (flags .exit)) (take (r .count) (now (groups .exit))) ⌝ }
 {
     let mut at = from;
     let mut n = count;
     loop {
-        match field(s, at, groups, marks, n) {
+        match field(s, at, groups, flags, n) {
             Turn::Field { at: q, count: held } => {
                 at = q;
                 n = held;
@@ -194,175 +217,191 @@ fn fields(s: &[u8], from: usize, groups: &mut [u64], marks: &mut [u8], count: us
     }
 }
 
-// One node: an N row whose id is none of the first `known` of `ids`, its P rows, its F and G rows.
-fn node(
-    s: &[u8],
-    at: usize,
-    ids: &[u64],
-    known: usize,
-    groups: &mut [u64],
-    marks: &mut [u8],
-    count: usize,
-) -> NodeRun
-    requires { ⌜ (known ≤ length (now ids)) × (length (now marks) ≡ 2048)
-        × Room (now groups) count (size (rows (drop at (now s)))) × Marked (now marks) (take count (now groups)) ⌝ }
-    ensures read { λ r. ⌜ told (now (s .entry)) (r .walk) (r .id, take (r .count) (now (groups .exit)))
-        ≡ nodeAfter (take known (now (ids .entry))) (take count (now (groups .entry))) (rows (drop at (now (s .entry)))) ⌝ }
-    ensures room { λ r. ⌜ Room (now (groups .exit)) (r .count) (leftAfter (now (s .entry)) (r .walk)) ⌝ }
-    ensures marked { λ r. ⌜ Marked (now (marks .exit)) (take (r .count) (now (groups .exit))) ⌝ }
+// A node that is refused at a position.
+fn refused(held: Held, number: u64, at: usize) -> NodeRun
+    ensures { λ r. ⌜ r ≡ refusedRun held number at ⌝ }
 {
-    let g = row::next(s, at);
-    let l = g.line;
-    let e = g.next;
-    let Line::Node {
-        id,
-        parent: _,
-        scope: _,
-        is_struct: _,
-        generic: _,
-        tag_count: _,
-        tag_offset: _,
-    } = l
-    else {
-        return NodeRun {
-            walk: Walk::Refused { number: 2, at },
-            id: 0,
-            count,
-        };
-    };
-    if seen(ids, known, id) {
-        return NodeRun {
-            walk: Walk::Refused { number: 3, at },
-            id,
-            count,
-        };
-    }
-    let f = fields(s, params(s, e), groups, marks, count);
-    let walk = f.walk;
     NodeRun {
-        walk,
-        id,
-        count: f.count,
+        walk: Walk::Refused { number, at },
+        id: 0,
+        groups: held.groups,
+        marks: held.marks,
     }
 }
 
-// Nodes up to the end of the sheet, 1 to 64 of them, with room for the ids of their groups.
-fn nodes(s: &[u8], from: usize, groups: &mut [u64]) -> IndexRun
-    requires { ⌜ Room (now groups) 0 (size (rows (drop from (now s)))) ⌝ }
-    ensures { λ r. ⌜ NodesRead (now (s .entry)) (r .walk) (r .index) (nodesOf 64 [] [] (rows (drop from (now (s .entry))))) ⌝ }
+// What belongs to an N row, whose numbers `node` has: its P rows, its F and G rows. Its entry, with the count of the P rows and
+// the position of the fields, is put after those of the nodes before.
+fn members(
+    s: &[u8],
+    index: &mut [u64],
+    groups: &mut [u64],
+    flags: &mut [u8],
+    held: Held,
+    node: Entry,
+) -> NodeRun
+    requires { ⌜ Ready (now s) (node .params) (now groups) (now flags) held × Begun (now s) held node ⌝ }
+    ensures { λ r. ⌜ NodeRead (now (s .entry)) held (take (held .groups) (now (groups .entry))) (now (index .entry))
+        (membersHere (now (s .entry)) node (take (held .groups) (now (groups .entry))))
+        (now (groups .exit)) (now (flags .exit)) (now (index .exit)) r ⌝ }
+{
+    let p = params(s, index, node.params, held.marks);
+    let at = p.at;
+    let f = fields(s, at, groups, flags, held.groups);
+    let mut entry = node;
+    entry.count = p.count;
+    entry.fields = at;
+    nodes::put(index, 1 + 12 * held.nodes, entry);
+    let walk = f.walk;
+    NodeRun {
+        walk,
+        id: node.id,
+        groups: f.count,
+        marks: p.marks,
+    }
+}
+
+// One node: an N row whose id is none of the first `held.nodes` of `ids`, and what belongs to it.
+fn node(
+    s: &[u8],
+    index: &mut [u64],
+    at: usize,
+    ids: &[u64],
+    groups: &mut [u64],
+    flags: &mut [u8],
+    held: Held,
+) -> NodeRun
+    requires { ⌜ (length (now ids) ≡ 64) × Ready (now s) at (now groups) (now flags) held ⌝ }
+    ensures { λ r. ⌜ NodeRead (now (s .entry)) held (take (held .groups) (now (groups .entry))) (now (index .entry))
+        (nodeOf (take (held .nodes) (now (ids .entry))) (take (held .groups) (now (groups .entry)))
+        (rows (drop at (now (s .entry)))))
+        (now (groups .exit)) (now (flags .exit)) (now (index .exit)) r ⌝ }
+{
+    let g = row::next(s, at);
+    let l = g.line;
+    let Line::Node {
+        id,
+        parent,
+        scope,
+        is_struct,
+        generic,
+        tag_count,
+        tag_offset,
+    } = l
+    else {
+        return refused(held, 2, at);
+    };
+    if seen(ids, held.nodes, id) {
+        return refused(held, 3, at);
+    }
+    let node = Entry {
+        id,
+        parent,
+        scope,
+        is_struct,
+        generic,
+        tag_count,
+        tag_offset,
+        at,
+        params: g.next,
+        count: 0,
+        marks: held.marks,
+        fields: 0,
+    };
+    members(s, index, groups, flags, held, node)
+}
+
+// Nodes up to the end of the sheet, 1 to 64 of them, with room for the ids of their groups. Their entries, marks and count are
+// put into the index.
+fn nodes(s: &[u8], index: &mut [u64], from: usize, groups: &mut [u64]) -> Walk
+    requires { ⌜ Room (now groups) 0 (size (rows (drop from (now s)))) × (size (rows (drop from (now s))) ≤ 65536) ⌝ }
+    ensures { λ r. ⌜ NodesRead (now (s .entry)) r (now (index .exit)) (nodesOf 64 [] [] (rows (drop from (now (s .entry))))) ⌝ }
 {
     let mut ids = [0u64; 64];
-    let mut ats = [0usize; 64];
-    let mut marks = [0u8; 2048];
-    let mut n: usize = 0;
+    let mut flags = [0u8; 2048];
     let mut count: usize = 0;
+    let mut n: usize = 0;
+    let mut marks = nodes::FIRST_MARK;
     let mut at = from;
     while count < 64 {
-        let m = node(s, at, &ids, count, groups, &mut marks, n);
+        let held = Held {
+            nodes: count,
+            groups: n,
+            marks,
+        };
+        let m = node(s, index, at, &ids, groups, &mut flags, held);
         let w = m.walk;
         match w {
             Walk::Next { at: q } => {
                 ids[count] = m.id;
-                ats[count] = at;
                 count += 1;
                 if s.len() <= q {
-                    return IndexRun {
-                        walk: Walk::Next { at: q },
-                        index: Index { ids, ats, count },
-                    };
+                    nodes::store(index, 0, count as u64);
+                    return Walk::Next { at: q };
                 }
-                n = m.count;
+                n = m.groups;
+                marks = m.marks;
                 at = q;
             }
             Walk::Refused { number, at: q } => {
-                return IndexRun {
-                    walk: Walk::Refused { number, at: q },
-                    index: Index { ids, ats, count },
-                };
+                return Walk::Refused { number, at: q };
             }
         }
     }
-    IndexRun {
-        walk: Walk::Refused { number: 2, at },
-        index: Index { ids, ats, count },
-    }
+    Walk::Refused { number: 2, at }
 }
 
 // The nodes of a sheet of at most 8,192 bytes: clearing the room that a longer one needs would take longer than reading it.
-fn short_nodes(s: &[u8], from: usize) -> IndexRun
+fn short_nodes(s: &[u8], index: &mut [u64], from: usize) -> Walk
     requires { ⌜ size (rows (drop from (now s))) ≤ 8192 ⌝ }
-    ensures { λ r. ⌜ NodesRead (now (s .entry)) (r .walk) (r .index) (nodesOf 64 [] [] (rows (drop from (now (s .entry))))) ⌝ }
+    ensures { λ r. ⌜ NodesRead (now (s .entry)) r (now (index .exit)) (nodesOf 64 [] [] (rows (drop from (now (s .entry))))) ⌝ }
 {
     let mut groups = [0u64; 186];
-    nodes(s, from, &mut groups)
+    nodes(s, index, from, &mut groups)
 }
 
 // The nodes of any sheet that is not too long.
-fn long_nodes(s: &[u8], from: usize) -> IndexRun
+fn long_nodes(s: &[u8], index: &mut [u64], from: usize) -> Walk
     requires { ⌜ size (rows (drop from (now s))) ≤ 65536 ⌝ }
-    ensures { λ r. ⌜ NodesRead (now (s .entry)) (r .walk) (r .index) (nodesOf 64 [] [] (rows (drop from (now (s .entry))))) ⌝ }
+    ensures { λ r. ⌜ NodesRead (now (s .entry)) r (now (index .exit)) (nodesOf 64 [] [] (rows (drop from (now (s .entry))))) ⌝ }
 {
     let mut groups = [0u64; 1489];
-    nodes(s, from, &mut groups)
+    nodes(s, index, from, &mut groups)
 }
 
 // The nodes from a position on.
-fn all_nodes(s: &[u8], from: usize) -> IndexRun
+fn all_nodes(s: &[u8], index: &mut [u64], from: usize) -> Walk
     requires { ⌜ length (now s) ≤ 65536 ⌝ }
-    ensures { λ r. ⌜ NodesRead (now (s .entry)) (r .walk) (r .index) (nodesOf 64 [] [] (rows (drop from (now (s .entry))))) ⌝ }
+    ensures { λ r. ⌜ NodesRead (now (s .entry)) r (now (index .exit)) (nodesOf 64 [] [] (rows (drop from (now (s .entry))))) ⌝ }
 {
     if s.len() <= 8192 {
-        return short_nodes(s, from);
+        return short_nodes(s, index, from);
     }
-    long_nodes(s, from)
+    long_nodes(s, index, from)
 }
 
-// The index of a sheet that has none.
-fn no_index() -> Index {
-    Index {
-        ids: [0u64; 64],
-        ats: [0usize; 64],
-        count: 0,
-    }
-}
-
-// Whether a sheet is admitted, and its index: one R row, then the nodes.
-pub fn admit(s: &[u8]) -> Admission
-    ensures answer { λ r. ⌜ r .answer ≡ verdict (admitted (now (s .entry))) ⌝ }
-    ensures index { λ r. ⌜ IndexOf (now (s .entry)) (admitted (now (s .entry))) (r .index) ⌝ }
+// Whether a sheet is admitted: one R row, then the nodes. Their index is put into `index`; 1,025 numbers are room enough for
+// any sheet.
+pub fn admit(s: &[u8], index: &mut [u64]) -> Answer
+    ensures answer { λ r. ⌜ r ≡ verdict (admitted (now (s .entry))) ⌝ }
+    ensures index { λ r. ⌜ (1025 ≤ length (now (index .entry))
+        → IndexOf (now (s .entry)) (admitted (now (s .entry))) (now (index .exit))) ⌝ }
 {
     if 65536 < s.len() {
-        return Admission {
-            answer: Answer::Refused { number: 1, line: 0 },
-            index: no_index(),
-        };
+        return Answer::Refused { number: 1, line: 0 };
     }
     let g = row::next(s, 0);
     let l = g.line;
     let e = g.next;
     let Line::Root = l else {
-        return Admission {
-            answer: Answer::Refused {
-                number: 2,
-                line: row::line_number(s, 0),
-            },
-            index: no_index(),
-        };
+        let line = row::line_number(s, 0);
+        return Answer::Refused { number: 2, line };
     };
-    let n = all_nodes(s, e);
-    let w = n.walk;
-    let index = n.index;
+    let w = all_nodes(s, index, e);
     match w {
-        Walk::Next { at: _ } => Admission {
-            answer: Answer::Sheet,
-            index,
-        },
+        Walk::Next { at: _ } => Answer::Sheet,
         Walk::Refused { number, at } => {
             let line = row::line_number(s, at);
-            Admission {
-                answer: Answer::Refused { number, line },
-                index,
-            }
+            Answer::Refused { number, line }
         }
     }
 }

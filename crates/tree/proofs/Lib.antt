@@ -1,5 +1,6 @@
 pub mod OtherLines
 pub mod WalkLaws
+pub mod UnboundLaws
 pub mod SlotLaws
 pub mod TailLaws
 pub mod FieldLaws

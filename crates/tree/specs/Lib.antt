@@ -6,3 +6,4 @@ pub mod WellFormed
 pub mod Examples
 pub mod Walked
 pub mod Index
+pub mod Fields

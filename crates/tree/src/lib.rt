@@ -87,7 +87,7 @@ fn scope(s: &[u8], at: usize, left: usize) -> Walk
     }
 }
 
-// So many bindings, whose types have so many levels left.
+// So many bindings, whose types have so many levels left: in each turn the U rows that stand there, or one binding.
 fn binds(s: &[u8], from: usize, left: usize, count: u64) -> Walk
     ensures { λ r. ⌜ walked (now (s .entry)) r
         ≡ passed (times (bindingOf (typeOf left)) stop count (rows (drop from (now (s .entry))))) ⌝ }
@@ -95,6 +95,12 @@ fn binds(s: &[u8], from: usize, left: usize, count: u64) -> Walk
     let mut at = from;
     let mut n = count;
     while 0 < n {
+        let u = row::unbound_run(s, at, n);
+        if 0 < u {
+            at += 2 * (u as usize);
+            n -= u;
+            continue;
+        }
         match binding(s, at, left) {
             Walk::Next { at: q } => {
                 at = q;

@@ -1,10 +1,11 @@
 -- Laws of the parts of a type's text: texts in other groupings, arguments one after the other. Assumes nothing.
-use mathlib.Core.Path.{_≡_, refl, sym, _∙_, subst}
-use mathlib.Core.Bool.{Bool, true, false}
-use mathlib.Core.List.{List, [], _∷_, _++_, append-assoc, append-nil}
-use Prim.Native.Nat.{ℕ, _<_}
+use mathlib.Core.Path.{_≡_, refl, sym, ap, _∙_, subst}
+use mathlib.Core.List.{List, [], _∷_, _++_, append-assoc, append-nil, map}
+use mathlib.Core.Option.{Option, none, some}
+use Prim.Native.Nat.{ℕ, zero, suc, _-_, _<_, _≤_}
+use native.Mathlib.Numerals.{sub-one}
 use native.Mathlib.Omega.{arith}
-use lib.ListN.{length}
+use lib.ListN.{length, drop, replicate}
 use package.types.Run.{OneOf, miss}
 use denote.Enum.Declared.{tagOf}
 use Rattle.codegen_types.proofs.Leaf.{the-type}
@@ -13,25 +14,38 @@ use Rattle.text.specs.Lines.{join}
 use Rattle.text.specs.Text.{put, adv, Wrote}
 use Rattle.text.specs.declared.Text.{Text}
 use Rattle.text.proofs.Laws.{_⨾_}
-use Rattle.row.specs.Rows.{restOf}
-use Rattle.row.specs.Line.{lineAt, textAt, asParameter}
+use Rattle.row.specs.Rows.{rows, restOf}
+use Rattle.row.specs.Line.{lineOf, textOf, textAt, asParameter}
 use Rattle.row.specs.declared.Line.{Line}
+use Rattle.row.specs.declared.Line.the-variants as line
+use Rattle.tree.specs.Tree.{Node, Sheet, parameter}
 use Rattle.tree.specs.Reader.{Rows}
-use Rattle.codegen_types.specs.TypeString.{parameterString, angled}
+use Rattle.codegen_types.specs.TypeString.{typeString, getQualifiedModule, parameterName, parameterString, angled}
 use Rattle.codegen_types.specs.Leaf.{bareName, maybeColons, leafArguments}
 use Rattle.codegen_types.specs.declared.Leaf.{Leaf}
 use Rattle.codegen_types.specs.declared.Leaf.the-variants.{Reader, Builder, Owned, Client, Server, ServerDispatch, Pipeline}
 use Rattle.codegen_types.specs.declared.Leaf.the-variants.{GetType}
-use Rattle.find.specs.Find.{namesOf}
-use Rattle.find.proofs.Laws.{names-more, names-none}
-use Rattle.type_parts.specs.Parts.{Writes, listed, sepAfter, closer, Listed, Opened}
+use Rattle.codegen_types.specs.Out.{Out, ok, refused, _then_}
+use Rattle.codegen_types.specs.declared.Refusal.the-variants.{None, Number}
+use Rattle.codegen_types.specs.Written.{Writes}
+use Rattle.codegen_types.specs.declared.Written.{Written}
+use Rattle.codegen_types.proofs.WrittenLaws.{ok-one, not-ok}
+use Rattle.codegen_types.proofs.NodeLaws.{node-missing, node-there, named, parameter-named}
+use Rattle.nodes.specs.Index.{namesOf, nth, lookup, Indexed, EntryIs, NameAt}
+use Rattle.nodes.specs.declared.Entry.{Entry}
+use Rattle.nodes.specs.declared.Found.{Found}
+use Rattle.nodes.specs.declared.Found.the-variants as found
+use Rattle.nodes.specs.declared.Position.{Position}
+use Rattle.nodes.specs.declared.Position.the-variants as position
+use Rattle.type_parts.specs.Parts.{listed, sepAfter, closer, Listed, Lists, Opened}
 use Rattle.type_parts.specs.declared.Arguments.{Arguments}
+use Rattle.type_parts.specs.declared.Argued.{Argued}
 
 -- ---- texts in other groupings
 
-pub in-three : {l : List ℕ} {t : Text} {l′ : List ℕ} {t′ : Text} (x a b c : Str) → Wrote l t (x ++ (a ++ b ++ c)) l′ t′
-    → Wrote l t (x ++ a ++ b ++ c) l′ t′
-in-three {l} {t} {l′} {t′} x a b c h = subst (λ (w : Str). Wrote l t w l′ t′) (same x a b c) h
+pub in-three : {l : List ℕ} {t : Text} {l′ : List ℕ} {r : Written} (x a b c : Str)
+    → Writes (ok (x ++ (a ++ b ++ c))) l t l′ r → Writes (ok (x ++ a ++ b ++ c)) l t l′ r
+in-three {l} {t} {l′} {r} x a b c h = subst (λ (w : Str). Writes (ok w) l t l′ r) (same x a b c) h
   where
     same : (x a b c : Str) → x ++ (a ++ b ++ c) ≡ x ++ a ++ b ++ c
     same x a b c = simp append-assoc
@@ -44,17 +58,50 @@ three-threes {l} {t} {l′} {t′} x a b c d e f h = subst (λ (w : Str). Wrote 
     same x a b c d e f = simp append-assoc
 
 -- a leaf under which a parameter is refused
-pub refused-leaf : (root p : Str) (l : List ℕ) (t : Text) (l′ : List ℕ) (t′ : Text) (leaf : Leaf)
-    → OneOf (3 ∷ 4 ∷ 5 ∷ 7 ∷ []) (tagOf the-type leaf) → Writes (parameterString root leaf p) l t l′ t′
+pub refused-leaf : (root p : Str) (leaf : Leaf) → OneOf (3 ∷ 4 ∷ 5 ∷ 7 ∷ []) (tagOf the-type leaf)
+    → parameterString root leaf p ≡ refused 7
 unfolding parameterString
-refused-leaf root p l t l′ t′ (Reader lt) h = absurd (miss (3 ∷ 4 ∷ 5 ∷ 7 ∷ []) 0 tt h)
-refused-leaf root p l t l′ t′ (Builder lt) h = absurd (miss (3 ∷ 4 ∷ 5 ∷ 7 ∷ []) 1 tt h)
-refused-leaf root p l t l′ t′ Owned h = absurd (miss (3 ∷ 4 ∷ 5 ∷ 7 ∷ []) 2 tt h)
-refused-leaf root p l t l′ t′ Client h = tt
-refused-leaf root p l t l′ t′ Server h = tt
-refused-leaf root p l t l′ t′ ServerDispatch h = tt
-refused-leaf root p l t l′ t′ Pipeline h = absurd (miss (3 ∷ 4 ∷ 5 ∷ 7 ∷ []) 6 tt h)
-refused-leaf root p l t l′ t′ GetType h = tt
+refused-leaf root p (Reader lt) h = absurd (miss (3 ∷ 4 ∷ 5 ∷ 7 ∷ []) 0 tt h)
+refused-leaf root p (Builder lt) h = absurd (miss (3 ∷ 4 ∷ 5 ∷ 7 ∷ []) 1 tt h)
+refused-leaf root p Owned h = absurd (miss (3 ∷ 4 ∷ 5 ∷ 7 ∷ []) 2 tt h)
+refused-leaf root p Client h = refl
+refused-leaf root p Server h = refl
+refused-leaf root p ServerDispatch h = refl
+refused-leaf root p Pipeline h = absurd (miss (3 ∷ 4 ∷ 5 ∷ 7 ∷ []) 6 tt h)
+refused-leaf root p GetType h = refl
+
+-- ---- nodes: a claim `Q` of what the Rust gives
+
+module _ (s : Str) (sheet : Sheet) (index : List ℕ) (id : ℕ) (f : Found) (e : f ≡ lookup index id)
+    (x : Indexed s (sheet .nodes) index) (Q : Out Str → Type 0) where
+  pub module-none : f ≡ found.Nothing → Q (refused 5) → Q (getQualifiedModule sheet id)
+  module-none h q = rw (node-missing s (sheet .nodes) index id f e x h) q
+
+  pub module-at : (n : Entry) → f ≡ found.At n → (name : Str)
+      → ((index : List ℕ) (m : Node) → EntryIs s index n m → name ≡ m .theMod) → Q (ok name) → Q (getQualifiedModule sheet id)
+  module-at n h name named q = node-there s (sheet .nodes) index id f e x n h (λ o. Q (o then λ m. ok (m .theMod)))
+      (λ m y w. rw (← named index m w) q)
+
+  module _ (leaf : Leaf) (k : ℕ) where
+    pub parameter-none : f ≡ found.Nothing → Q (refused 5) → Q (typeString (parameter id k) sheet leaf)
+    unfolding typeString
+    parameter-none h q = rw (node-missing s (sheet .nodes) index id f e x h) q
+
+    module _ (n : Entry) (h : f ≡ found.At n) (g : Position)
+        (there : (m : Node) → EntryIs s index n m → NameAt s g k (m .params)) where
+      by-name : (o : Option Str) → ((m : Node) → EntryIs s index n m → nth k (m .params) ≡ o)
+          → Q (named o then λ p. parameterString (sheet .root) leaf p) → Q (typeString (parameter id k) sheet leaf)
+      unfolding typeString
+      by-name o is q = node-there s (sheet .nodes) index id f e x n h
+          (λ o. Q (o then λ m. parameterName (m .params) k then λ p. parameterString (sheet .root) leaf p))
+          (λ m y w. rw (parameter-named (m .params) k, is m w) q)
+
+      pub parameter-out : g ≡ position.Nothing → Q (refused 13) → Q (typeString (parameter id k) sheet leaf)
+      parameter-out z q = by-name none (λ m w. rw z at (there m w)) q
+
+      pub parameter-at : (place : ℕ) → g ≡ position.At place
+          → Q (parameterString (sheet .root) leaf (textAt (rows (drop place s)))) → Q (typeString (parameter id k) sheet leaf)
+      parameter-at place z q = by-name (some (textAt (rows (drop place s)))) (λ m w. rw z at (there m w)) q
 
 -- ---- arguments
 
@@ -75,25 +122,80 @@ listed-cons {ws = ws} a h = record { text = a ⨾ h .text; sep = h .sep ∙ last
     last [] = refl
     last (w ∷ ws) = refl
 
--- one turn over a node's parameters
-module _ (rs rest : Rows) (line : Line) (b : Bool) (at : line ≡ lineAt rs) (next : rest ≡ restOf rs)
-    (is : b ≡ asParameter line true false) where
-  here : (c : Bool) → b ≡ c → asParameter (lineAt rs) true false ≡ c
-  here c e = rw (← at) (sym is ∙ e)
+-- arguments that are not refused, and a refusal
+pub all-listed : {l : List ℕ} {p : Arguments} {ws : List Str} {l′ : List ℕ} {r : Argued} → Listed l p ws l′ (r .arguments)
+    → r .refusal ≡ None → Lists (ok ws) l p l′ r
+all-listed {l} {p} {ws} {l′} {r} h n = record {
+  refusal = n;
+  listed = λ v e. subst (λ (x : List Str). Listed l p x l′ (r .arguments)) (ok-one e) h;
+}
 
-  pub names-end : b ≡ false → namesOf rs ≡ []
-  names-end e = names-none rs (here false e)
+pub not-listed : {l : List ℕ} {p : Arguments} {k : ℕ} {l′ : List ℕ} {r : Argued} → r .refusal ≡ Number k
+    → Lists (refused k) l p l′ r
+not-listed n = record { refusal = n; listed = λ ws e. absurd (not-ok e) }
 
-  pub names-on : b ≡ true → namesOf rs ≡ textAt rs ∷ namesOf rest
-  names-on e = rw next (names-more rs (here true e))
+pub listed-of : {l : List ℕ} {p : Arguments} {ws : List Str} {l′ : List ℕ} {r : Argued} → Lists (ok ws) l p l′ r
+    → Listed l p ws l′ (r .arguments)
+listed-of h = h .listed _ refl
 
-  pub fewer : b ≡ true → length rest < length rs
-  unfolding restOf lineAt
-  fewer e = go rs next (here true e)
-    where
-      go : (rs : Rows) → rest ≡ restOf rs → asParameter (lineAt rs) true false ≡ true → length rest < length rs
-      go [] n h = let z : _≡_ {A = ℕ} 0 1 = cc in let y : ⊥ = omega arith in absurd y
-      go (r ∷ rs) n h = rw n (omega arith)
+-- the name of the first P row, where there is one
+pub names-on : (rs : Rows) → 0 < length (namesOf rs) → namesOf rs ≡ textAt rs ∷ namesOf (restOf rs)
+unfolding namesOf textAt restOf
+names-on [] h = let z : ⊥ = omega arith in absurd z
+names-on (r ∷ rs) h = go (lineOf r) h
+  where
+    go : (l : Line) → 0 < length (asParameter l (textOf r ∷ namesOf rs) [])
+        → asParameter l (textOf r ∷ namesOf rs) [] ≡ textOf r ∷ namesOf rs
+    go line.Parameter h = refl
+    go line.Root h = let z : ⊥ = omega arith in absurd z
+    go (line.Node i q k x y c o) h = let z : ⊥ = omega arith in absurd z
+    go (line.Field o d e q) h = let z : ⊥ = omega arith in absurd z
+    go (line.Group i d) h = let z : ⊥ = omega arith in absurd z
+    go (line.Typ k a b c) h = let z : ⊥ = omega arith in absurd z
+    go (line.Scope i b c) h = let z : ⊥ = omega arith in absurd z
+    go line.Unbound h = let z : ⊥ = omega arith in absurd z
+    go (line.Value k b) h = let z : ⊥ = omega arith in absurd z
+    go (line.Word x) h = let z : ⊥ = omega arith in absurd z
+    go line.Bad h = let z : ⊥ = omega arith in absurd z
+
+-- the loop over a node's parameters: n names are left from a position on, and whatever they make of what is written, all names
+-- make of the start
+pub record Naming (s : Str) (from count : ℕ) (l : List ℕ) (p : Arguments) (at n : ℕ) (l₁ : List ℕ) (p₁ : Arguments) : Type 0 where
+  pub left : count ≡ length (namesOf (rows (drop from s))) → n ≡ length (namesOf (rows (drop at s)))
+  pub all : count ≡ length (namesOf (rows (drop from s))) → (l′ : List ℕ) (p′ : Arguments)
+      → Listed l₁ p₁ (namesOf (rows (drop at s))) l′ p′ → Listed l p (namesOf (rows (drop from s))) l′ p′
+
+module _ (s : Str) (from count : ℕ) (l : List ℕ) (p : Arguments) where
+  pub naming-start : Naming s from count l p from count l p
+  naming-start = record { left = λ h. h; all = λ h l′ p′ w. w }
+
+  module _ (at n : ℕ) (l₁ : List ℕ) (p₁ : Arguments) (w : Naming s from count l p at n l₁ p₁) where
+    pub naming-end : n ≤ 0 → count ≡ length (namesOf (rows (drop from s))) → Listed l p (namesOf (rows (drop from s))) l₁ p₁
+    naming-end h c = (w .all) c l₁ p₁ (rw (none (namesOf (rows (drop at s))) (omega (arith, (w .left) c))) (listed-none l₁ p₁))
+      where
+        none : (ws : List Str) → length ws ≤ 0 → ws ≡ []
+        none [] z = refl
+        none (v ∷ ws) z = let y : ⊥ = omega arith in absurd y
+
+    pub naming-next : 0 < n → (next : ℕ) → rows (drop next s) ≡ restOf (rows (drop at s)) → (name l₂ : List ℕ) (t : Text)
+        → name ≡ textAt (rows (drop at s)) → Wrote l₁ (p₁ .text) (unit (p₁ .sep) ++ name) l₂ t
+        → Naming s from count l p next (n - 1) l₂ (args t 44)
+    naming-next h next e name l₂ t named a = record {
+      left = λ c. let z : n ≡ suc (length (namesOf (rows (drop next s)))) = (w .left) c
+          ∙ rw (names-on (rows (drop at s)) (omega (arith, (w .left) c)), e) refl in omega arith;
+      all = λ c l′ p′ v. (w .all) c l′ p′ (rw (names-on (rows (drop at s)) (omega (arith, (w .left) c)), ← named, ← e)
+          (listed-cons a v));
+    }
+
+-- one more of the same
+pub replicate-on : (w : Str) (n : ℕ) → 0 < n → replicate n w ≡ w ∷ replicate (n - 1) w
+replicate-on w zero h = let z : ⊥ = omega arith in absurd z
+replicate-on w (suc n) h = rw (sub-one (suc n))
+
+-- as many as there are names
+pub map-replicate : (w : Str) (ws : List Str) → map (λ p. w) ws ≡ replicate (length ws) w
+map-replicate w [] = refl
+map-replicate w (v ∷ ws) = ap (λ (x : List Str). w ∷ x) (map-replicate w ws)
 
 -- arguments after arguments
 listed-append : (b : ℕ) (x y : List Str) → listed b (x ++ y) ≡ listed b x ++ listed (sepAfter b x) y

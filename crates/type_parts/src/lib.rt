@@ -1,25 +1,37 @@
 // The parts of a type's text that lie outside the cycle of `type_string` and `do_branding`.
 use codegen_types::Leaf;
 use codegen_types::Lifetime;
-use find::Found;
+use codegen_types::Refusal;
+use codegen_types::Written;
+use nodes::Found;
+use nodes::Position;
 use text::Text;
 ghost use mathlib.Core.Path.{_≡_};
-ghost use mathlib.Core.List.{_++_, map};
-ghost use lib.ListN.{drop};
-ghost use Rattle.text.specs.Bytes.{ascii};
+ghost use mathlib.Core.List.{_++_};
+ghost use lib.ListN.{drop, length, replicate};
+ghost use Rattle.text.specs.Bytes.{Str, ascii};
 ghost use Rattle.text.specs.Text.{Wrote};
 ghost use Rattle.row.specs.Rows.{rows};
-ghost use Rattle.tree.specs.Read.{pointer};
+ghost use Rattle.tree.specs.Tree.{parameter};
+ghost use Rattle.nodes.specs.Index.{namesOf, ForAll};
+ghost use Rattle.codegen_types.specs.Out.{ok};
+ghost use Rattle.codegen_types.specs.Written.{Writes};
 ghost use Rattle.codegen_types.specs.Leaf.{display, bareName, lifetimeComma};
 ghost use Rattle.codegen_types.specs.TypeString.{plainString, listModule};
 ghost use Rattle.codegen_types.specs.TypeString.{anyOwned, parameterString, getQualifiedModule, typeString};
-ghost use Rattle.find.specs.Find.{namesOf};
-ghost use Rattle.type_parts.specs.Parts.{ForAll, Writes, Listed, Opened, closer};
+ghost use Rattle.type_parts.specs.Parts.{Listed, Opened, closer};
 
 // The arguments of a brand while they are written: the text so far, and the byte that stands before the next one, `<` or a comma.
 pub struct Arguments {
     pub text: Text,
     pub sep: u8,
+}
+
+// What a writer of arguments leaves: those that are written, and the refusal of what it was to write, if there is one. Arguments
+// that are refused count for nothing.
+pub struct Argued {
+    pub arguments: Arguments,
+    pub refusal: Refusal,
 }
 
 // The root, a path below it, and the leaf's display.
@@ -35,10 +47,10 @@ pub fn displayed(root: &[u8], path: &[u8], leaf: Leaf, t: Text, buf: &mut [u8]) 
 pub fn plain(root: &[u8], kind: u64, leaf: Leaf, t: Text, buf: &mut [u8]) -> Text
     ensures { λ r. ⌜ Wrote (now (buf .entry)) t (plainString (now (root .entry)) leaf kind) (now (buf .exit)) r ⌝ }
 {
-    if kind == 12 {
+    if kind == codegen_types::TEXT {
         return displayed(root, b"::text::", leaf, t, buf);
     }
-    if kind == 13 {
+    if kind == codegen_types::DATA {
         return displayed(root, b"::data::", leaf, t, buf);
     }
     codegen_types::type_name(t, buf, kind)
@@ -48,16 +60,16 @@ pub fn plain(root: &[u8], kind: u64, leaf: Leaf, t: Text, buf: &mut [u8]) -> Tex
 fn list_module(kind: u64, t: Text, buf: &mut [u8]) -> Text
     ensures { λ r. ⌜ Wrote (now (buf .entry)) t (ascii "::" ++ listModule kind ++ ascii "::") (now (buf .exit)) r ⌝ }
 {
-    if kind == 16 {
+    if kind == codegen_types::STRUCT {
         return t.bytes(buf, b"::struct_list::");
     }
-    if kind == 15 {
+    if kind == codegen_types::ENUM {
         return t.bytes(buf, b"::enum_list::");
     }
-    if kind == 14 {
+    if kind == codegen_types::LIST {
         return t.bytes(buf, b"::list_list::");
     }
-    if kind == 17 {
+    if kind == codegen_types::INTERFACE {
         return t.bytes(buf, b"::capability_list::");
     }
     t.bytes(buf, b"::primitive_list::")
@@ -82,19 +94,19 @@ pub fn any_owned(root: &[u8], t: Text, buf: &mut [u8]) -> Text
 }
 
 // An associated type of a parameter, as `<T as ::capnp::traits::Owned>::Reader<'a>`.
-fn projected(root: &[u8], name: &[u8], tail: &[u8], t: Text, buf: &mut [u8]) -> Text
-    ensures { λ r. ⌜ Wrote (now (buf .entry)) t (ascii "<" ++ now (name .entry) ++ ascii " as " ++ now (root .entry) ++ now
-        (tail .entry)) (now (buf .exit)) r ⌝ }
+fn projected(root: &[u8], name: &[u8], tail: &[u8], t: Text, buf: &mut [u8]) -> Written
+    ensures { λ r. ⌜ Writes (ok (ascii "<" ++ now (name .entry) ++ ascii " as " ++ now (root .entry) ++ now (tail .entry)))
+        (now (buf .entry)) t (now (buf .exit)) r ⌝ }
 {
     let t = t.byte(buf, b'<');
     let t = t.bytes(buf, name);
     let t = t.bytes(buf, b" as ");
     let t = t.bytes(buf, root);
-    t.bytes(buf, tail)
+    codegen_types::whole(t.bytes(buf, tail))
 }
 
-// A parameter's text.
-fn parameter(root: &[u8], name: &[u8], leaf: Leaf, t: Text, buf: &mut [u8]) -> Text
+// A parameter's text by its name: 7 under Client, Server, ServerDispatch and GetType.
+fn parameter_text(root: &[u8], name: &[u8], leaf: Leaf, t: Text, buf: &mut [u8]) -> Written
     ensures { λ r. ⌜ Writes (parameterString (now (root .entry)) leaf (now (name .entry))) (now (buf .entry)) t
         (now (buf .exit)) r ⌝ }
 {
@@ -107,103 +119,83 @@ fn parameter(root: &[u8], name: &[u8], leaf: Leaf, t: Text, buf: &mut [u8]) -> T
             Lifetime::A => projected(root, name, b"::traits::Owned>::Builder<'a>", t, buf),
             Lifetime::Anonymous => projected(root, name, b"::traits::Owned>::Builder<'_>", t, buf),
         },
-        Leaf::Owned => t.bytes(buf, name),
+        Leaf::Owned => codegen_types::whole(t.bytes(buf, name)),
         Leaf::Pipeline => projected(root, name, b"::traits::Pipelined>::Pipeline", t, buf),
-        _ => t,
+        _ => codegen_types::refused(t, 7),
     }
 }
 
-// An AnyPointer; where a is 1, the parameter with index c of the node b.
-pub fn pointer(
+// An AnyPointer that is the parameter with a number of a node: 5 where the node is not there, 13 where it has no such parameter.
+pub fn parameter(
     root: &[u8],
     s: &[u8],
-    ids: &[u64],
-    ats: &[usize],
-    a: u64,
-    b: u64,
-    c: u64,
+    index: &[u64],
+    id: u64,
+    k: u64,
     leaf: Leaf,
     t: Text,
     buf: &mut [u8],
-) -> Text
-    ensures { λ r. ⌜ ForAll (now (root .entry)) (now (s .entry)) (now (ids .entry)) (now (ats .entry))
-        (λ sheet. Writes (typeString (pointer a b c) sheet leaf) (now (buf .entry)) t (now (buf .exit)) r) ⌝ }
+) -> Written
+    ensures { λ r. ⌜ ForAll (now (root .entry)) (now (s .entry)) (now (index .entry))
+        (λ sheet. Writes (typeString (parameter id k) sheet leaf) (now (buf .entry)) t (now (buf .exit)) r) ⌝ }
 {
-    if a == 0 {
-        return displayed(root, b"::any_pointer::", leaf, t, buf);
-    }
-    let Found::At(node) = find::node(ids, ats, b) else {
-        return t;
+    let Found::At(node) = nodes::find(index, id) else {
+        return codegen_types::refused(t, 5);
     };
-    let row = find::node_row(s, node);
-    let params = row.params;
-    let Found::At(place) = find::parameter(s, params, c) else {
-        return t;
+    let Position::At(place) = nodes::parameter(s, index, node, k) else {
+        return codegen_types::refused(t, 13);
     };
     let name = row::text(s, place);
-    parameter(root, name, leaf, t, buf)
+    parameter_text(root, name, leaf, t, buf)
 }
 
-// The module of a node.
-pub fn qualified_module(
-    root: &[u8],
-    s: &[u8],
-    ids: &[u64],
-    ats: &[usize],
-    id: u64,
-    t: Text,
-    buf: &mut [u8],
-) -> Text
-    ensures { λ r. ⌜ ForAll (now (root .entry)) (now (s .entry)) (now (ids .entry)) (now (ats .entry))
-        (λ sheet. Writes (getQualifiedModule sheet id) (now (buf .entry)) t (now (buf .exit)) r) ⌝ }
+// The module of a node: 5 where the node is not there.
+pub fn qualified_module(s: &[u8], index: &[u64], id: u64, t: Text, buf: &mut [u8]) -> Written
+    ensures { λ r. ⌜ ((root : Str) → ForAll root (now (s .entry)) (now (index .entry))
+        (λ sheet. Writes (getQualifiedModule sheet id) (now (buf .entry)) t (now (buf .exit)) r)) ⌝ }
 {
-    let Found::At(node) = find::node(ids, ats, id) else {
-        return t;
+    let Found::At(node) = nodes::find(index, id) else {
+        return codegen_types::refused(t, 5);
     };
-    let name = row::text(s, node);
-    t.bytes(buf, name)
+    let name = nodes::module(s, node);
+    codegen_types::whole(t.bytes(buf, name))
 }
 
-// Each parameter's own name.
-pub fn inherited(s: &[u8], from: usize, first: Arguments, buf: &mut [u8]) -> Arguments
-    ensures { λ r. ⌜ Listed (now (buf .entry)) first (namesOf (rows (drop from (now (s .entry))))) (now (buf .exit)) r ⌝ }
+// The own names of a node's parameters, as many as it has, from a position on.
+pub fn inherited(s: &[u8], from: usize, count: u64, first: Arguments, buf: &mut [u8]) -> Arguments
+    ensures { λ r. ⌜ (count ≡ length (namesOf (rows (drop from (now (s .entry)))))
+        → Listed (now (buf .entry)) first (namesOf (rows (drop from (now (s .entry))))) (now (buf .exit)) r) ⌝ }
 {
     let mut at = from;
+    let mut n = count;
     let mut p = first;
-    loop {
+    while 0 < n {
         let g = row::next(s, at);
-        let line = g.line;
-        if !find::is_parameter(line) {
-            return p;
-        }
+        let name = row::text_before(s, at, g.next);
         let t = p.text;
         let t = t.byte(buf, p.sep);
-        let name = row::text(s, at);
         let t = t.bytes(buf, name);
         p = Arguments { text: t, sep: b',' };
         at = g.next;
+        n -= 1;
     }
+    p
 }
 
-// For each parameter one that is not bound.
-pub fn unbound(root: &[u8], s: &[u8], from: usize, first: Arguments, buf: &mut [u8]) -> Arguments
-    ensures { λ r. ⌜ Listed (now (buf .entry)) first (map (λ p. anyOwned (now (root .entry)))
-        (namesOf (rows (drop from (now (s .entry)))))) (now (buf .exit)) r ⌝ }
+// So many parameters that are not bound.
+pub fn unbound(root: &[u8], count: u64, first: Arguments, buf: &mut [u8]) -> Arguments
+    ensures { λ r. ⌜ Listed (now (buf .entry)) first (replicate count (anyOwned (now (root .entry)))) (now (buf .exit)) r ⌝ }
 {
-    let mut at = from;
+    let mut n = count;
     let mut p = first;
-    loop {
-        let g = row::next(s, at);
-        let line = g.line;
-        if !find::is_parameter(line) {
-            return p;
-        }
+    while 0 < n {
         let t = p.text;
         let t = t.byte(buf, p.sep);
         let t = any_owned(root, t, buf);
         p = Arguments { text: t, sep: b',' };
-        at = g.next;
+        n -= 1;
     }
+    p
 }
 
 // A brand's text up to its arguments, and the byte that stands before the next of them.

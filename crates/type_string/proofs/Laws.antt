@@ -1,14 +1,13 @@
--- Laws of the writers of types and brands: one for each turn of the code, over what is read, the sheet and the texts written.
--- Assumes nothing.
-use mathlib.Core.Path.{_≡_, refl, sym, _∙_}
-use mathlib.Core.Bool.{Bool, true, false}
-use mathlib.Core.List.{List, [], _∷_, _++_, map}
-use mathlib.Core.Option.{Option, none, some}
+-- Laws of the writers of types and brands: one for each turn of the code, over what is read, the sheet, and the texts and
+-- refusals that were met. Assumes nothing.
+use mathlib.Core.Path.{_≡_, refl, sym, _∙_, subst}
+use mathlib.Core.List.{List, [], _∷_, _++_}
+use mathlib.Core.Option.{Option, some}
 use Prim.Native.Nat.{ℕ, _+_, _-_, _<_, _≤_}
 use native.Mathlib.Omega.{arith}
 use borrow.Author.Tests.{eq-eqb, ne-eqb}
 use lib.Dec.{eqb}
-use lib.ListN.{length, drop, take, getD}
+use lib.ListN.{length, drop, take, getD, replicate}
 use package.types.Run.{OneOf}
 use denote.Enum.Declared.{tagOf}
 use Rattle.row.proofs.Line.{the-type}
@@ -17,323 +16,323 @@ use Rattle.text.specs.Text.{Wrote}
 use Rattle.text.specs.declared.Text.{Text}
 use Rattle.text.proofs.Laws.{_⨾_}
 use Rattle.row.specs.Rows.{rows, restOf}
-use Rattle.row.specs.Line.{lineAt, textAt}
+use Rattle.row.specs.Line.{lineAt}
 use Rattle.row.specs.declared.Line.{Line}
 use Rattle.row.specs.declared.Line.the-variants.{Scope, Unbound}
 use Rattle.tree.specs.Tree.{list, struct, Scopes, end, Binds, stop, Node, Sheet}
 use Rattle.tree.specs.Reader.{Rows, Reading, got, no, times}
 use Rattle.tree.specs.Read as read
-use Rattle.tree.specs.Read.{typeOf, bindingOf}
+use Rattle.tree.specs.Read.{typeOf, typeFrom, bindingOf}
+use Rattle.tree.specs.Index.{On, Has}
+use Rattle.nodes.specs.Index.{namesOf, sheetOf, Indexed}
 use Rattle.codegen_types.specs.Out.{Out, ok, refused, _then_}
 use Rattle.codegen_types.specs.Leaf.{bareName, display, lifetimeComma, maybeColons, leafArguments}
 use Rattle.codegen_types.specs.TypeString as typeString
-use Rattle.codegen_types.specs.TypeString.{typeString, doBranding, nodeOf, scopeOf, scopesOf, bindingsOf, allOf, argumentsOf}
+use Rattle.codegen_types.specs.TypeString.{typeString, doBranding, scopeOf, scopesOf, bindingsOf, allOf, argumentsOf}
 use Rattle.codegen_types.specs.TypeString.{accumulate, outermostFirst, angled, anyOwned, listString, listModule, elementLeaf}
+use Rattle.codegen_types.specs.TypeString.{getQualifiedModule}
+use Rattle.codegen_types.specs.Written.{Writes, firstOf}
 use Rattle.codegen_types.specs.declared.Refusal.{Refusal}
 use Rattle.codegen_types.specs.declared.Refusal.the-variants.{None, Number}
 use Rattle.codegen_types.specs.declared.Leaf.{Leaf}
 use Rattle.codegen_types.specs.declared.Leaf.the-variants.{Owned}
-use Rattle.tree.specs.Index.{On, Has, Indexed}
-use Rattle.find.specs.Find.{kindAt, pastRows, ScopeAt, namesOf, lookup, sheetOf, before, endOf, ChainOf, Placed}
+use Rattle.codegen_types.specs.declared.Written.{Written}
+use Rattle.codegen_types.proofs.Laws.{refusal-then, brand-chain}
+use Rattle.codegen_types.proofs.WrittenLaws.{not-ok, ok-one, text-of, around}
+use Rattle.find.specs.Find.{pastRows, ScopeAt, before, endOf, ChainOf, Placed}
 use Rattle.find.specs.declared.Links.{Links}
-use Rattle.find.proofs.ChainLaws.{before-step, before-out, placed, scope-there}
-use Rattle.find.specs.declared.Found.{Found}
-use Rattle.find.specs.declared.Found.the-variants.{At, Nothing}
+use Rattle.find.proofs.ChainLaws.{before-step, before-out}
+use Rattle.find.proofs.ScopeLaws.{placed, scope-there}
 use Rattle.find.proofs.Laws.{on-one, on-two, on-all}
 use Rattle.find.proofs.TypeLaws as read-law
-use Rattle.find.proofs.TypeLaws.{of-kind, times-none, binds-more, scope-inherit, scope-binds, scope-not}
-use Rattle.find.proofs.NodeLaws.{node-missing, node-there}
-use Rattle.type_parts.specs.Parts.{Writes, Lists, Listed, Opened, closer}
+use Rattle.find.proofs.TypeLaws.{list-of, times-none, binds-more, binds-length, scope-inherit, scope-binds, scope-not}
+use Rattle.type_parts.specs.Parts.{Lists, Listed, Opened, closer}
 use Rattle.type_parts.specs.declared.Arguments.{Arguments}
+use Rattle.type_parts.specs.declared.Argued.{Argued}
 use Rattle.type_parts.proofs.Laws as parts
-use Rattle.type_parts.proofs.Laws.{listed-none, listed-cons, _⨟_}
+use Rattle.type_parts.proofs.Laws.{listed-none, listed-cons, _⨟_, all-listed, not-listed, listed-of, map-replicate}
 use Rattle.type_string.specs.Told.{outward, onlyOf, ChainTold, OwnTold}
+use Rattle.type_string.specs.declared.Brand.{Brand}
+
+-- two refusals at once
+clash : {A : Type 0} {r : Refusal} {k : ℕ} → r ≡ None → r ≡ Number k → A
+clash {A} {r} {k} e f = absurd (subst go (sym e ∙ f) tt)
+  where
+    go : Refusal → Type 0
+    go None = Unit {0}
+    go (Number j) = ⊥
 
 -- ---- lists
 
-module _ (sheet : Sheet) (leaf : Leaf) (left : ℕ) (rs : Rows) (k : ℕ) (at : k ≡ kindAt rs) where
-  module _ {l : List ℕ} {t : Text} {l′ : List ℕ} {t′ : Text} where
-    pub list-text : k ≡ 12 → Wrote l t (sheet .root ++ ascii "::text_list::" ++ display leaf) l′ t′
-        → On (typeOf left rs) (λ ty. Writes (typeString (list ty) sheet leaf) l t l′ t′)
+module _ (sheet : Sheet) (leaf : Leaf) (left k a b c : ℕ) (rest : Rows) where
+  module _ {l : List ℕ} {t : Text} {l′ : List ℕ} {r : Written} where
+    pub list-text : k ≡ 12 → Writes (ok (sheet .root ++ ascii "::text_list::" ++ display leaf)) l t l′ r
+        → On (typeFrom (typeOf left) k a b c rest) (λ ty. Writes (typeString (list ty) sheet leaf) l t l′ r)
     unfolding listString
-    list-text z w = of-kind sheet leaf left rs k at (λ o. Writes o l t l′ t′)
-        (on-all {P = λ ty. Writes (listString (sheet .root) leaf k (typeString ty sheet (elementLeaf k))) l t l′ t′}
-        (λ ty. rw (eq-eqb k 12 z) w) (typeOf left rs))
+    list-text z w = list-of sheet leaf left k a b c rest (λ o. Writes o l t l′ r) (omega arith)
+        (on-all {P = λ ty. Writes (listString (sheet .root) leaf k (typeString ty sheet (elementLeaf k))) l t l′ r}
+        (λ ty. rw (eq-eqb k 12 z) w) (typeFrom (typeOf left) k a b c rest))
 
-    pub list-data : (k ≡ 12 → ⊥) → k ≡ 13 → Wrote l t (sheet .root ++ ascii "::data_list::" ++ display leaf) l′ t′
-        → On (typeOf left rs) (λ ty. Writes (typeString (list ty) sheet leaf) l t l′ t′)
+    pub list-data : (k ≡ 12 → ⊥) → k ≡ 13 → Writes (ok (sheet .root ++ ascii "::data_list::" ++ display leaf)) l t l′ r
+        → On (typeFrom (typeOf left) k a b c rest) (λ ty. Writes (typeString (list ty) sheet leaf) l t l′ r)
     unfolding listString
-    list-data y z w = of-kind sheet leaf left rs k at (λ o. Writes o l t l′ t′)
-        (on-all {P = λ ty. Writes (listString (sheet .root) leaf k (typeString ty sheet (elementLeaf k))) l t l′ t′}
-        (λ ty. rw (ne-eqb k 12 y, eq-eqb k 13 z) w) (typeOf left rs))
+    list-data y z w = list-of sheet leaf left k a b c rest (λ o. Writes o l t l′ r) (omega arith)
+        (on-all {P = λ ty. Writes (listString (sheet .root) leaf k (typeString ty sheet (elementLeaf k))) l t l′ r}
+        (λ ty. rw (ne-eqb k 12 y, eq-eqb k 13 z) w) (typeFrom (typeOf left) k a b c rest))
 
-  pub list-inner : {l : List ℕ} {t : Text} {l₁ : List ℕ} {t₁ : Text} {l₂ : List ℕ} {t₂ : Text} {l₃ : List ℕ} {t₃ : Text}
-      (e : Leaf) → (k ≡ 12 → ⊥) → (k ≡ 13 → ⊥) → e ≡ elementLeaf k
+  pub list-inner : {l : List ℕ} {t : Text} {l₁ : List ℕ} {t₁ : Text} {l₂ : List ℕ} {w : Written} {l₃ : List ℕ} {t₃ : Text}
+      {q : Written} (e : Leaf) → (k ≡ 12 → ⊥) → (k ≡ 13 → ⊥) → k < 18 → e ≡ elementLeaf k
       → Wrote l t (sheet .root ++ ascii "::" ++ listModule k ++ ascii "::" ++ bareName leaf ++ ascii "<" ++ lifetimeComma leaf)
       l₁ t₁
-      → On (typeOf left rs) (λ ty. Writes (typeString ty sheet e) l₁ t₁ l₂ t₂) → Wrote l₂ t₂ (unit 62) l₃ t₃
-      → On (typeOf left rs) (λ ty. Writes (typeString (list ty) sheet leaf) l t l₃ t₃)
+      → On (typeFrom (typeOf left) k a b c rest) (λ ty. Writes (typeString ty sheet e) l₁ t₁ l₂ w)
+      → Wrote l₂ (w .text) (unit 62) l₃ t₃ → q .text ≡ t₃ → q .refusal ≡ w .refusal
+      → On (typeFrom (typeOf left) k a b c rest) (λ ty. Writes (typeString (list ty) sheet leaf) l t l₃ q)
   unfolding listString
-  list-inner {l} {t} {l₁} {t₁} {l₂} {t₂} {l₃} {t₃} e x y i a h b =
-      of-kind sheet leaf left rs k at (λ o. Writes o l t l₃ t₃)
-      (on-one (λ ty. Writes (typeString ty sheet e) l₁ t₁ l₂ t₂)
-      (λ ty. Writes (listString (sheet .root) leaf k (typeString ty sheet (elementLeaf k))) l t l₃ t₃) (typeOf left rs)
-      (λ ty g. rw (ne-eqb k 12 x, ne-eqb k 13 y) (go (eqb k 18) (typeString ty sheet (elementLeaf k)) (rw i at g))) h)
-    where
-      go : (z : Bool) (o : Out Str) → Writes o l₁ t₁ l₂ t₂
-          → Writes (cond z (refused 6) (o then λ w. ok (sheet .root ++ ascii "::" ++ listModule k ++ ascii "::" ++ bareName leaf
-          ++ ascii "<" ++ lifetimeComma leaf ++ w ++ ascii ">"))) l t l₃ t₃
-      go true o g = tt
-      go false (ok w) g = a ⨾ g ⨾ b
-      go false (refused j) g = tt
+  list-inner {l} {t} {l₁} {t₁} {l₂} {w} {l₃} {t₃} {q} e x y z i head h tail f g =
+      list-of sheet leaf left k a b c rest (λ o. Writes o l t l₃ q) z
+      (on-one (λ ty. Writes (typeString ty sheet e) l₁ t₁ l₂ w)
+      (λ ty. Writes (listString (sheet .root) leaf k (typeString ty sheet (elementLeaf k))) l t l₃ q)
+      (typeFrom (typeOf left) k a b c rest)
+      (λ ty v. rw (ne-eqb k 12 x, ne-eqb k 13 y, ne-eqb k 18 (λ j. omega arith))
+      (around (typeString ty sheet (elementLeaf k)) head (rw i at v) tail f g)) h)
 
 -- ---- the chain of a node's parents
 
-abbrev Refuses : Out (List (List Str)) → Type 0
-Refuses (ok a) = ⊥
-Refuses (refused k) = Unit {0}
+abbrev argued : Arguments → Refusal → Argued
+argued p r = record { arguments = p; refusal = r }
 
--- what is further out is refused: nothing is said
-before-refused : (root s : Str) (scopes : List (ℕ × typeString.Scope)) (is ps : List ℕ) (j : ℕ) (l : List ℕ) (p : Arguments)
-    (l′ : List ℕ) (p′ : Arguments) → Lists (outward (before root s scopes is ps (refused j))) l p l′ p′
-unfolding before
-before-refused root s scopes [] ps j l p l′ p′ = tt
-before-refused root s scopes (i ∷ is) [] j l p l′ p′ = tt
-before-refused root s scopes (i ∷ is) (q ∷ ps) j l p l′ p′ =
-    go (argumentsOf root (namesOf (rows (drop q s))) (scopeOf i scopes)) (before root s scopes is ps (refused j)) (out is ps)
-  where
-    out : (is ps : List ℕ) → Refuses (before root s scopes is ps (refused j))
-    out [] ps = tt
-    out (i ∷ is) [] = tt
-    out (i ∷ is) (q ∷ ps) = more (argumentsOf root (namesOf (rows (drop q s))) (scopeOf i scopes))
-        (before root s scopes is ps (refused j)) (out is ps)
-      where
-        more : (o : Out (List Str)) (a : Out (List (List Str))) → Refuses a → Refuses (o then λ arguments. a then λ outer. ok
-            (arguments ∷ outer))
-        more (ok ws) (ok a) h = h
-        more (ok ws) (refused k) h = tt
-        more (refused k) a h = tt
+-- the nodes of a chain from the k-th on are written, and the refusal is the first of theirs, or the chain's own
+abbrev pub Outer : Str → Str → List Node → Links → ℕ → List ℕ → Arguments → List ℕ → Argued → Scopes → Type 0
+Outer root s ns c k l p l′ r ss = Lists (outward (before root s (scopesOf ss (sheetOf root ns))
+    (drop k (take (c .count) (c .ids))) (drop k (take (c .count) (c .params))) (endOf (c .refusal)))) l p l′ r
 
-    go : (o : Out (List Str)) (a : Out (List (List Str))) → Refuses a
-        → Lists (outward (o then λ arguments. a then λ outer. ok (arguments ∷ outer))) l p l′ p′
-    go (ok ws) (ok a) h = absurd h
-    go (ok ws) (refused k) h = tt
-    go (refused k) a h = tt
-
--- the nodes of a chain from the k-th on are written
-abbrev pub Outer : Str → Str → List Node → Links → ℕ → List ℕ → Arguments → List ℕ → Arguments → Scopes → Type 0
-Outer root s ns c k l p l′ p′ ss = Lists (outward (before root s (scopesOf ss (sheetOf root ns))
-    (drop k (take (c .count) (c .ids))) (drop k (take (c .count) (c .params))) (ok []))) l p l′ p′
-
-module _ (s : Str) (ns : List Node) (ids ats : List ℕ) (root : Str) (x : Indexed s ns ids ats) (id : ℕ) (c : Links)
-    (w : ChainOf s ids ats id c) (left at n : ℕ) where
+module _ (root s index : List ℕ) (ns : List Node) (x : Indexed s ns index) (id : ℕ) (c : Links) (w : ChainOf s index id c)
+    (left at n : ℕ) where
   abbrev G : Reading Scopes
   G = times (read.scopeOf (typeOf left)) end n (rows (drop at s))
 
-  chain-start : (l : List ℕ) (p : Arguments) → On G (Outer root s ns c (c .count) l p l p)
+  chain-start : (l : List ℕ) (p : Arguments) → On G (Outer root s ns c (c .count) l p l (argued p (c .refusal)))
   unfolding outermostFirst
-  chain-start l p = on-all {P = Outer root s ns c (c .count) l p l p}
-      (λ ss. rw (before-out root s (scopesOf ss (sheetOf root ns)) (c .ids) (c .params) (c .count) (c .count) (ok [])
-      (omega arith) (omega (arith, w .few, w .ids-size))) (listed-none l p)) G
+  chain-start l p = on-all {P = Outer root s ns c (c .count) l p l (argued p (c .refusal))}
+      (λ ss. rw (before-out root s (scopesOf ss (sheetOf root ns)) (c .ids) (c .params) (c .count) (c .count)
+      (endOf (c .refusal)) (omega arith) (omega (arith, w .few, w .ids-size))) (go (c .refusal))) G
+    where
+      go : (r : Refusal) → Lists (outward (endOf r)) l p l (argued p r)
+      go None = all-listed (listed-none l p) refl
+      go (Number j) = not-listed refl
 
-  chain-end : (k : ℕ) (l : List ℕ) (p : Arguments) (l′ : List ℕ) (p′ : Arguments) → k ≤ 0 → On G (Outer root s ns c k l p l′ p′)
-      → On G (λ ss. Lists (outward (accumulate (sheetOf root ns) (scopesOf ss (sheetOf root ns)) 16 id)) l p l′ p′)
-  chain-end k l p l′ p′ h v =
-      on-one (Outer root s ns c k l p l′ p′)
-      (λ ss. Lists (outward (accumulate (sheetOf root ns) (scopesOf ss (sheetOf root ns)) 16 id)) l p l′ p′) G
-      (λ ss y. rw ((w .all) root ns x (scopesOf ss (sheetOf root ns))) (go ss (c .refusal) (rw zero at y))) v
+  chain-end : (k : ℕ) (l : List ℕ) (p : Arguments) (l′ : List ℕ) (r : Argued) → k ≤ 0 → On G (Outer root s ns c k l p l′ r)
+      → On G (λ ss. Lists (outward (accumulate (sheetOf root ns) (scopesOf ss (sheetOf root ns)) 16 id)) l p l′ r)
+  chain-end k l p l′ r h v =
+      on-one (Outer root s ns c k l p l′ r)
+      (λ ss. Lists (outward (accumulate (sheetOf root ns) (scopesOf ss (sheetOf root ns)) 16 id)) l p l′ r) G
+      (λ ss y. rw ((w .all) root ns x (scopesOf ss (sheetOf root ns))) (rw zero at y)) v
     where
       zero : k ≡ 0
       zero = omega arith
 
-      go : (ss : Scopes) (r : Refusal) → Outer root s ns c 0 l p l′ p′ ss
-          → Lists (outward (before root s (scopesOf ss (sheetOf root ns)) (take (c .count) (c .ids))
-          (take (c .count) (c .params)) (endOf r))) l p l′ p′
-      go ss None y = y
-      go ss (Number j) y = before-refused root s (scopesOf ss (sheetOf root ns)) (take (c .count) (c .ids))
-          (take (c .count) (c .params)) j l p l′ p′
-
   chain-next : (places : List ℕ) → Placed s at n (take (c .count) (c .ids)) places → (k : ℕ) → 0 < k → k ≤ c .count
-      → (l : List ℕ) (p : Arguments) (l₁ : List ℕ) (q : Arguments) (l₂ : List ℕ) (r : Arguments) → On G (Outer root s ns c k l p l₁ q)
+      → (l : List ℕ) (p : Arguments) (l₁ : List ℕ) (q : Arguments) (f : Refusal) (l₂ : List ℕ) (r : Argued)
+      → On G (Outer root s ns c k l p l₁ (argued q f))
       → ((o : Option typeString.Scope) → ScopeAt left (sheetOf root ns) (rows (drop (getD places (k - 1) 0) s)) o
+      → getD (c .counts) (k - 1) 0 ≡ length (namesOf (rows (drop (getD (c .params) (k - 1) 0) s)))
       → Lists (argumentsOf root (namesOf (rows (drop (getD (c .params) (k - 1) 0) s))) o) l₁ q l₂ r)
-      → On G (Outer root s ns c (k - 1) l p l₂ r)
+      → On G (Outer root s ns c (k - 1) l p l₂ (argued (r .arguments) (firstOf (r .refusal) f)))
   unfolding outermostFirst
-  chain-next places there k h f l p l₁ q l₂ r v own =
-      on-two (Outer root s ns c k l p l₁ q)
+  chain-next places there k h few l p l₁ q f l₂ r v own =
+      on-two (Outer root s ns c k l p l₁ (argued q f))
       (λ ss. ScopeAt left (sheetOf root ns) (rows (drop (getD places (k - 1) 0) s))
-      (scopeOf (getD (c .ids) (k - 1) 0) (scopesOf ss (sheetOf root ns)))) (Outer root s ns c (k - 1) l p l₂ r) G
+      (scopeOf (getD (c .ids) (k - 1) 0) (scopesOf ss (sheetOf root ns))))
+      (Outer root s ns c (k - 1) l p l₂ (argued (r .arguments) (firstOf (r .refusal) f))) G
       (λ ss y u. rw (
-        before-step root s (scopesOf ss (sheetOf root ns)) (c .ids) (c .params) (c .count) (k - 1) (ok [])
+        before-step root s (scopesOf ss (sheetOf root ns)) (c .ids) (c .params) (c .count) (k - 1) (endOf (c .refusal))
             (omega arith) (omega (arith, w .few, w .ids-size)) (omega (arith, w .few, w .params-size)),
         back,
       )
       (go (argumentsOf root (namesOf (rows (drop (getD (c .params) (k - 1) 0) s)))
       (scopeOf (getD (c .ids) (k - 1) 0) (scopesOf ss (sheetOf root ns))))
       (before root s (scopesOf ss (sheetOf root ns)) (drop k (take (c .count) (c .ids))) (drop k (take (c .count) (c .params)))
-      (ok [])) y
-      (own (scopeOf (getD (c .ids) (k - 1) 0) (scopesOf ss (sheetOf root ns))) u))) v
+      (endOf (c .refusal))) y
+      (own (scopeOf (getD (c .ids) (k - 1) 0) (scopesOf ss (sheetOf root ns))) u ((w .each) ns x (k - 1) (omega arith))))) v
       (placed left (sheetOf root ns) s at n (c .ids) places (c .count) (k - 1) there (omega arith) (w .few)
       (omega (arith, w .few, w .ids-size)))
     where
       back : k - 1 + 1 ≡ k
       back = omega arith
 
-      go : (o : Out (List Str)) (a : Out (List (List Str))) → Lists (outward a) l p l₁ q → Lists o l₁ q l₂ r
-          → Lists (outward (o then λ arguments. a then λ outer. ok (arguments ∷ outer))) l p l₂ r
-      go (ok ws) (ok a) g h = g ⨟ h
-      go (ok ws) (refused k) g h = tt
-      go (refused k) a g h = tt
+      -- where the node's own arguments are given, what is further out counts
+      others : (j : Refusal) → r .refusal ≡ None → f ≡ j → firstOf (r .refusal) f ≡ j
+      others j e g = rw e g
 
--- the way outwards in: a chain, the places of its scopes, and what is written of it
-pub record Writing (root s ids ats : List ℕ) (id at n left : ℕ) (l : List ℕ) (p : Arguments) (params : List ℕ) (count : ℕ)
-    (places : List ℕ) (l′ : List ℕ) (p′ : Arguments) (k : ℕ) : Type 0 where
-  pub links : Links
-  pub told : ChainOf s ids ats id links
-  pub params-is : params ≡ links .params
-  pub count-is : count ≡ links .count
-  pub there : Placed s at n (take (links .count) (links .ids)) places
-  pub outer : (ns : List Node) → Indexed s ns ids ats → On (times (read.scopeOf (typeOf left)) end n (rows (drop at s)))
-      (Outer root s ns links k l p l′ p′)
+      go : (o : Out (List Str)) (a : Out (List (List Str))) → Lists (outward a) l p l₁ (argued q f) → Lists o l₁ q l₂ r
+          → Lists (outward (o then λ arguments. a then λ outer. ok (arguments ∷ outer))) l p l₂
+          (argued (r .arguments) (firstOf (r .refusal) f))
+      go (ok ws) (ok a) g h = all-listed (listed-of g ⨟ listed-of h) (others None (h .refusal) (g .refusal))
+      go (ok ws) (refused j) g h = not-listed (others (Number j) (h .refusal) (g .refusal))
+      go (refused j) a g h = not-listed (rw (h .refusal) refl)
 
-module _ (root s ids ats : List ℕ) (id at n left : ℕ) (l : List ℕ) (p : Arguments) where
-  pub writing-start : (c : Links) → ChainOf s ids ats id c → (places : List ℕ)
-      → Placed s at n (take (c .count) (c .ids)) places
-      → Writing root s ids ats id at n left l p (c .params) (c .count) places l p (c .count)
-  writing-start c w places there = record {
-    links = c;
-    told = w;
-    params-is = refl;
-    count-is = refl;
-    there = there;
-    outer = λ ns x. chain-start s ns ids ats root x id c w left at n l p;
+-- the way outwards in: what is written of a chain from its k-th node on, whatever brand it is the chain of
+pub record Writing (root s index : List ℕ) (left : ℕ) (l : List ℕ) (p : Arguments) (c : Links) (places : List ℕ)
+    (l′ : List ℕ) (p′ : Arguments) (f : Refusal) (k : ℕ) : Type 0 where
+  pub outer : (b : Brand) → ChainOf s index (b .id) c
+      → Placed s (b .scopes) (b .count) (take (c .count) (c .ids)) places → (ns : List Node) → Indexed s ns index
+      → On (times (read.scopeOf (typeOf left)) end (b .count) (rows (drop (b .scopes) s)))
+      (Outer root s ns c k l p l′ (argued p′ f))
+
+module _ (root s index : List ℕ) (left : ℕ) (l : List ℕ) (p : Arguments) (c : Links) (places : List ℕ) where
+  pub writing-start : Writing root s index left l p c places l p (c .refusal) (c .count)
+  writing-start = record {
+    outer = λ b w there ns x. chain-start root s index ns x (b .id) c w left (b .scopes) (b .count) l p;
   }
 
-  module _ (params : List ℕ) (count : ℕ) (places l₁ : List ℕ) (q : Arguments) (k : ℕ)
-      (w : Writing root s ids ats id at n left l p params count places l₁ q k) where
-    pub writing-next : 0 < k → k ≤ count → (l₂ : List ℕ) (r : Arguments)
-        → OwnTold root s ids ats (getD params (k - 1) 0) (getD places (k - 1) 0) left l₁ q l₂ r
-        → Writing root s ids ats id at n left l p params count places l₂ r (k - 1)
-    writing-next h f l₂ r own = record {
-      links = w .links;
-      told = w .told;
-      params-is = w .params-is;
-      count-is = w .count-is;
-      there = w .there;
-      outer = λ ns x. chain-next s ns ids ats root x id (w .links) (w .told) left at n places (w .there) k h
-          (rw (w .count-is) at f) l p l₁ q l₂ r ((w .outer) ns x) (rw (w .params-is) at (own ns x));
+  module _ (l₁ : List ℕ) (q : Arguments) (f : Refusal) (k : ℕ) (w : Writing root s index left l p c places l₁ q f k) where
+    pub writing-next : 0 < k → k ≤ c .count → (l₂ : List ℕ) (r : Argued)
+        → OwnTold root s index (record {
+          params = getD (c .params) (k - 1) 0;
+          count = getD (c .counts) (k - 1) 0;
+          scope = getD places (k - 1) 0;
+        }) left l₁ q l₂ r → (g : Refusal) → g ≡ firstOf (r .refusal) f
+        → Writing root s index left l p c places l₂ (r .arguments) g (k - 1)
+    writing-next h few l₂ r own g e = record {
+      outer = λ b v there ns x. rw e (chain-next root s index ns x (b .id) c v left (b .scopes) (b .count) places there k h few
+          l p l₁ q f l₂ r ((w .outer) b v there ns x) (own ns x));
     }
 
-    pub writing-end : k ≤ 0 → ChainTold root s ids ats id at n left l p l₁ q
-    writing-end h = λ ns x. chain-end s ns ids ats root x id (w .links) (w .told) left at n k l p l₁ q h ((w .outer) ns x)
+    pub writing-end : k ≤ 0 → (b : Brand) → ChainOf s index (b .id) c
+        → Placed s (b .scopes) (b .count) (take (c .count) (c .ids)) places → ChainTold root s index b left l p l₁ (argued q f)
+    writing-end h b v there = λ ns x. chain-end root s index ns x (b .id) c v left (b .scopes) (b .count) k l p l₁ (argued q f) h
+        ((w .outer) b v there ns x)
 
 -- ---- a brand
 
-module _ (s : Str) (sheet : Sheet) (leaf : Leaf) (ids ats : List ℕ) (G : Reading Scopes) (id : ℕ) (f : Found)
-    (e : f ≡ lookup id ids ats) (i : Indexed s (sheet .nodes) ids ats) where
-  pub brand-none : (l : List ℕ) (t : Text) (l′ : List ℕ) (t′ : Text) → f ≡ Nothing
-      → On G (λ ss. Writes (typeString (struct id ss) sheet leaf) l t l′ t′)
-  unfolding typeString
-  brand-none l t l′ t′ h = on-all {P = λ ss. Writes (typeString (struct id ss) sheet leaf) l t l′ t′}
-      (λ ss. rw (node-missing s sheet ids ats id f e i h) tt) G
-
-  pub brand-on : {l : List ℕ} {t : Text} {l₁ : List ℕ} {t₁ : Text} {l₂ : List ℕ} {p : Arguments} {l₃ : List ℕ} {l₄ : List ℕ}
-      {t₄ : Text} (node : ℕ) (q : Arguments) → f ≡ At node
-      → Wrote l t (textAt (rows (drop node s))) l₁ t₁ → Opened l₁ t₁ leaf l₂ p
-      → On G (λ ss. Lists (outward (accumulate sheet (scopesOf ss sheet) 16 id)) l₂ p l₃ q)
-      → Wrote l₃ (q .text) (closer (q .sep)) l₄ t₄ → On G (λ ss. Writes (typeString (struct id ss) sheet leaf) l t l₄ t₄)
-  unfolding typeString doBranding
-  brand-on {l} {t} {l₁} {t₁} {l₂} {p} {l₃} {l₄} {t₄} node q h a o g c =
-      on-one (λ ss. Lists (outward (accumulate sheet (scopesOf ss sheet) 16 id)) l₂ p l₃ q)
-      (λ ss. Writes (typeString (struct id ss) sheet leaf) l t l₄ t₄) G
-      (λ ss w. node-there s sheet ids ats id f e i node h (λ n. Writes
-      ((n then λ x. ok (x .theMod)) then doBranding sheet id (scopesOf ss sheet) leaf) l t l₄ t₄)
-      (λ x y v. rw (← v .theMod) (go (accumulate sheet (scopesOf ss sheet) 16 id) w))) g
-    where
-      go : (d : Out (List (List Str))) → Lists (outward d) l₂ p l₃ q
-          → Writes (d then λ acc. ok (textAt (rows (drop node s)) ++ ascii "::" ++ bareName leaf ++ maybeColons leaf ++ angled
-          (leafArguments leaf ++ outermostFirst acc))) l t l₄ t₄
-      go (ok acc) w = parts.branded leaf (outermostFirst acc) a o w c
-      go (refused k) w = tt
+pub brand-on : {l : List ℕ} {t : Text} {l₁ : List ℕ} {w : Written} {l₂ : List ℕ} {p : Arguments} {l₃ l₄ : List ℕ} {t₄ : Text}
+    {r : Written} (sheet : Sheet) (leaf : Leaf) (id : ℕ) (read : Reading Scopes) (q : Argued)
+    → Writes (getQualifiedModule sheet id) l t l₁ w → Opened l₁ (w .text) leaf l₂ p
+    → On read (λ ss. Lists (outward (accumulate sheet (scopesOf ss sheet) 16 id)) l₂ p l₃ q)
+    → Wrote l₃ (q .arguments .text) (closer (q .arguments .sep)) l₄ t₄ → r .text ≡ t₄ → r .refusal ≡ q .refusal
+    → On read (λ ss. Writes (typeString (struct id ss) sheet leaf) l t l₄ r)
+unfolding typeString doBranding
+brand-on {l} {t} {l₁} {w} {l₂} {p} {l₃} {l₄} {t₄} {r} sheet leaf id read q m o h c e f =
+    on-one (λ ss. Lists (outward (accumulate sheet (scopesOf ss sheet) 16 id)) l₂ p l₃ q)
+    (λ ss. Writes (typeString (struct id ss) sheet leaf) l t l₄ r) read
+    (λ ss g. record {
+      refusal = f ∙ g .refusal ∙ refusal-then (accumulate sheet (scopesOf ss sheet) 16 id) outermostFirst
+          ∙ brand-chain sheet leaf id ss;
+      text = λ v z. go v (getQualifiedModule sheet id) m (accumulate sheet (scopesOf ss sheet) 16 id) g z;
+    }) h
+  where
+    go : (v : Str) (a : Out Str) → Writes a l t l₁ w → (d : Out (List (List Str))) → Lists (outward d) l₂ p l₃ q
+        → (a then λ theMod. d then λ acc. ok (theMod ++ ascii "::" ++ bareName leaf ++ maybeColons leaf ++ angled
+        (leafArguments leaf ++ outermostFirst acc))) ≡ ok v
+        → Wrote l t v l₄ (r .text)
+    go v (ok theMod) m (ok acc) g z =
+        rw (e, ← ok-one z) (parts.branded leaf (outermostFirst acc) (text-of m) o (listed-of g) c)
+    go v (ok theMod) m (refused k) g z = absurd (not-ok z)
+    go v (refused k) m d g z = absurd (not-ok z)
 
 -- ---- one node's own arguments
 
-module _ (left : ℕ) (sheet : Sheet) (q ps : Rows) (line : Line) (at : line ≡ lineAt q) (l : List ℕ) (p : Arguments)
-    (l′ : List ℕ) (p′ : Arguments) (o : Option typeString.Scope) (here : ScopeAt left sheet q o) where
+module _ (left : ℕ) (sheet : Sheet) (q ps : Rows) (line : Line) (at : line ≡ lineAt q) (own : ℕ)
+    (count : own ≡ length (namesOf ps)) (l : List ℕ) (p : Arguments) (l′ : List ℕ) (r : Argued) (o : Option typeString.Scope)
+    (here : ScopeAt left sheet q o) where
   pub own-other : OneOf (0 ∷ 1 ∷ 2 ∷ 3 ∷ 4 ∷ 5 ∷ 7 ∷ 8 ∷ 9 ∷ 10 ∷ []) (tagOf the-type line)
-      → Listed l p (map (λ q. anyOwned (sheet .root)) (namesOf ps)) l′ p′
-      → Lists (argumentsOf (sheet .root) (namesOf ps) o) l p l′ p′
+      → Listed l p (replicate own (anyOwned (sheet .root))) l′ (r .arguments) → r .refusal ≡ None
+      → Lists (argumentsOf (sheet .root) (namesOf ps) o) l p l′ r
   unfolding argumentsOf
-  own-other other w = go q at here
+  own-other other w f = go q at here
     where
-      go : (q : Rows) → line ≡ lineAt q → ScopeAt left sheet q o → Lists (argumentsOf (sheet .root) (namesOf ps) o) l p l′ p′
-      go [] e h = rw h w
-      go (r ∷ rs) e h = absurd (scope-not left sheet (r ∷ rs) o line e other h)
+      go : (q : Rows) → line ≡ lineAt q → ScopeAt left sheet q o → Lists (argumentsOf (sheet .root) (namesOf ps) o) l p l′ r
+      go [] e h = rw (h, map-replicate (anyOwned (sheet .root)) (namesOf ps), ← count) (all-listed w f)
+      go (x ∷ rs) e h = absurd (scope-not left sheet (x ∷ rs) o line e other h)
 
   module _ (i b m : ℕ) (is : line ≡ Scope i b m) where
-    pub own-inherit : b ≡ 0 → Listed l p (namesOf ps) l′ p′ → Lists (argumentsOf (sheet .root) (namesOf ps) o) l p l′ p′
+    pub own-inherit : b ≡ 0 → (own ≡ length (namesOf ps) → Listed l p (namesOf ps) l′ (r .arguments)) → r .refusal ≡ None
+        → Lists (argumentsOf (sheet .root) (namesOf ps) o) l p l′ r
     unfolding argumentsOf
-    own-inherit z w = let y : o ≡ some typeString.inherited = scope-inherit left sheet q o line i b m at is z
-        (scope-there left sheet q o line i b m at is here) in rw y w
+    own-inherit z w f = let y : o ≡ some typeString.inherited = scope-inherit left sheet q o line i b m at is z
+        (scope-there left sheet q o line i b m at is here) in rw y (all-listed (w count) f)
 
-    pub own-binds : (rest : Rows) → rest ≡ restOf q → (b ≡ 0 → ⊥)
-        → On (times (bindingOf (typeOf left)) stop m rest) (λ bs. Lists (allOf (bindingsOf bs sheet)) l p l′ p′)
-        → Lists (argumentsOf (sheet .root) (namesOf ps) o) l p l′ p′
-    unfolding argumentsOf
-    own-binds rest next z u = go (times (bindingOf (typeOf left)) stop m rest) o
-        (scope-binds left sheet q rest o line i b m at is next z (scope-there left sheet q o line i b m at is here)) u
-      where
-        same : (t : Bool) (a : Out (List Str)) → Lists a l p l′ p′ → Lists (cond t a (refused 8)) l p l′ p′
-        same true a w = w
-        same false a w = tt
+    module _ (rest : Rows) (next : rest ≡ restOf q) (z : b ≡ 0 → ⊥) where
+      by-binds : (Q : Out (List Str) → Type 0) → On (times (bindingOf (typeOf left)) stop m rest)
+          (λ bs. Q (cond (eqb m own) (allOf (bindingsOf bs sheet)) (refused 8)))
+          → Q (argumentsOf (sheet .root) (namesOf ps) o)
+      unfolding argumentsOf
+      by-binds Q u = go (times (bindingOf (typeOf left)) stop m rest) o
+          (scope-binds left sheet q rest o line i b m at is next z (scope-there left sheet q o line i b m at is here)) u
+          (binds-length left sheet m rest)
+        where
+          go : (g : Reading Binds) (o : Option typeString.Scope)
+              → Has g (λ bs. o ≡ some (typeString.binds (bindingsOf bs sheet)))
+              → On g (λ bs. Q (cond (eqb m own) (allOf (bindingsOf bs sheet)) (refused 8)))
+              → On g (λ bs. length (bindingsOf bs sheet) ≡ m) → Q (argumentsOf (sheet .root) (namesOf ps) o)
+          go (got bs k) o w v y = rw (w, y, ← count) v
+          go (no j k) o w v y = absurd w
 
-        go : (g : Reading Binds) (o : Option typeString.Scope)
-            → Has g (λ bs. o ≡ some (typeString.binds (bindingsOf bs sheet)))
-            → On g (λ bs. Lists (allOf (bindingsOf bs sheet)) l p l′ p′)
-            → Lists (argumentsOf (sheet .root) (namesOf ps) o) l p l′ p′
-        go (got bs k) o w v = rw w (same (eqb (length (bindingsOf bs sheet)) (length (namesOf ps)))
-            (allOf (bindingsOf bs sheet)) v)
-        go (no j k) o w v = absurd w
+      pub own-8 : (m ≡ own → ⊥) → r .refusal ≡ Number 8 → Lists (argumentsOf (sheet .root) (namesOf ps) o) l p l′ r
+      own-8 y f = by-binds (λ a. Lists a l p l′ r) (on-all {P = λ bs. Lists (cond (eqb m own) (allOf (bindingsOf bs sheet))
+          (refused 8)) l p l′ r} (λ bs. rw (ne-eqb m own y) (not-listed f)) (times (bindingOf (typeOf left)) stop m rest))
+
+      pub own-binds : m ≡ own
+          → On (times (bindingOf (typeOf left)) stop m rest) (λ bs. Lists (allOf (bindingsOf bs sheet)) l p l′ r)
+          → Lists (argumentsOf (sheet .root) (namesOf ps) o) l p l′ r
+      own-binds y u = by-binds (λ a. Lists a l p l′ r) (rw (eq-eqb m own y) u)
 
 -- ---- bindings
 
-pub binds-none : (sheet : Sheet) (left n : ℕ) (rs : Rows) (l : List ℕ) (p : Arguments) → n ≤ 0
-    → On (times (bindingOf (typeOf left)) stop n rs) (λ bs. Lists (allOf (bindingsOf bs sheet)) l p l p)
+pub binds-none : (sheet : Sheet) (left n : ℕ) (rs : Rows) (l : List ℕ) (p : Arguments) (f : Refusal) → n ≤ 0 → f ≡ None
+    → On (times (bindingOf (typeOf left)) stop n rs) (λ bs. Lists (allOf (bindingsOf bs sheet)) l p l (argued p f))
 unfolding allOf bindingsOf
-binds-none sheet left n rs l p h = rw (times-none (bindingOf (typeOf left)) stop n rs h) (listed-none l p)
+binds-none sheet left n rs l p f h e =
+    rw (times-none (bindingOf (typeOf left)) stop n rs h) (all-listed (listed-none l p) e)
 
 abbrev args : Text → ℕ → Arguments
 args t b = record { text = t; sep = b }
 
-pub binds-on : (sheet : Sheet) (left n : ℕ) (rs rest : Rows) → 0 < n → rest ≡ pastRows rs 1
-    → (l : List ℕ) (p : Arguments) (l₁ : List ℕ) (t₁ : Text) (l₂ : List ℕ) (t₂ : Text) (l′ : List ℕ) (p′ : Arguments)
-    → Wrote l (p .text) (unit (p .sep)) l₁ t₁ → On (bindingOf (typeOf left) rs)
-    (λ f. Writes (onlyOf (bindingsOf (f stop) sheet)) l₁ t₁ l₂ t₂)
-    → On (times (bindingOf (typeOf left)) stop (n - 1) rest) (λ bs. Lists (allOf (bindingsOf bs sheet)) l₂ (args t₂ 44) l′ p′)
-    → On (times (bindingOf (typeOf left)) stop n rs) (λ bs. Lists (allOf (bindingsOf bs sheet)) l p l′ p′)
-unfolding allOf
-binds-on sheet left n rs rest more past l p l₁ t₁ l₂ t₂ l′ p′ a one h =
-    binds-more left n rs rest more past (λ f. Writes (onlyOf (bindingsOf (f stop) sheet)) l₁ t₁ l₂ t₂)
-    (λ bs. Lists (allOf (bindingsOf bs sheet)) l₂ (args t₂ 44) l′ p′) (λ bs. Lists (allOf (bindingsOf bs sheet)) l p l′ p′)
-    one h
-    (λ f o w bs v. rw (o .first sheet bs) (go (o .text sheet) (allOf (bindingsOf bs sheet)) (rw (o .first sheet stop) at w) v))
-  where
-    go : (o : Out Str) (os : Out (List Str)) → Writes o l₁ t₁ l₂ t₂ → Lists os l₂ (args t₂ 44) l′ p′
-        → Lists (o then λ w. os then λ rest. ok (w ∷ rest)) l p l′ p′
-    go (ok w) (ok ws) g v = listed-cons (a ⨾ g) v
-    go (ok w) (refused k) g v = tt
-    go (refused k) os g v = tt
+module _ (sheet : Sheet) (left n : ℕ) (rs rest : Rows) (more : 0 < n) (past : rest ≡ pastRows rs 1) (l : List ℕ) (p : Arguments)
+    (l₁ : List ℕ) (t₁ : Text) (l₂ : List ℕ) (w : Written) (a : Wrote l (p .text) (unit (p .sep)) l₁ t₁)
+    (one : On (bindingOf (typeOf left) rs) (λ f. Writes (onlyOf (bindingsOf (f stop) sheet)) l₁ t₁ l₂ w))
+    (l′ : List ℕ) (r : Argued) where
+  pub binds-on : w .refusal ≡ None
+      → On (times (bindingOf (typeOf left)) stop (n - 1) rest)
+      (λ bs. Lists (allOf (bindingsOf bs sheet)) l₂ (args (w .text) 44) l′ r)
+      → On (times (bindingOf (typeOf left)) stop n rs) (λ bs. Lists (allOf (bindingsOf bs sheet)) l p l′ r)
+  unfolding allOf
+  binds-on z h =
+      binds-more left n rs rest more past (λ f. Writes (onlyOf (bindingsOf (f stop) sheet)) l₁ t₁ l₂ w)
+      (λ bs. Lists (allOf (bindingsOf bs sheet)) l₂ (args (w .text) 44) l′ r)
+      (λ bs. Lists (allOf (bindingsOf bs sheet)) l p l′ r) one h
+      (λ f o u bs v. rw (o .first sheet bs) (go (o .text sheet) (allOf (bindingsOf bs sheet)) (rw (o .first sheet stop) at u)
+      v))
+    where
+      go : (o : Out Str) (os : Out (List Str)) → Writes o l₁ t₁ l₂ w → Lists os l₂ (args (w .text) 44) l′ r
+          → Lists (o then λ x. os then λ xs. ok (x ∷ xs)) l p l′ r
+      go (ok x) (ok xs) g v = all-listed (listed-cons (a ⨾ text-of g) (listed-of v)) (v .refusal)
+      go (ok x) (refused k) g v = not-listed (v .refusal)
+      go (refused k) os g v = clash z (g .refusal)
+
+  pub binds-stop : (k : ℕ) → w .refusal ≡ Number k → r .refusal ≡ w .refusal
+      → On (times (bindingOf (typeOf left)) stop n rs) (λ bs. Lists (allOf (bindingsOf bs sheet)) l p l′ r)
+  unfolding allOf
+  binds-stop k z e =
+      binds-more left n rs rest more past (λ f. Writes (onlyOf (bindingsOf (f stop) sheet)) l₁ t₁ l₂ w) (λ bs. Unit {0})
+      (λ bs. Lists (allOf (bindingsOf bs sheet)) l p l′ r) one
+      (on-all {P = λ bs. Unit {0}} (λ bs. tt) (times (bindingOf (typeOf left)) stop (n - 1) rest))
+      (λ f o u bs v. rw (o .first sheet bs) (go (o .text sheet) (allOf (bindingsOf bs sheet)) (rw (o .first sheet stop) at u)))
+    where
+      go : (o : Out Str) (os : Out (List Str)) → Writes o l₁ t₁ l₂ w → Lists (o then λ x. os then λ xs. ok (x ∷ xs)) l p l′ r
+      go (ok x) os g = clash (g .refusal) z
+      go (refused j) os g = not-listed (e ∙ g .refusal)
 
 -- one binding: a U row, or a type
 module _ (sheet : Sheet) (left : ℕ) (rs : Rows) (line : Line) (at : line ≡ lineAt rs) (l : List ℕ) (t : Text) (l′ : List ℕ)
-    (t′ : Text) where
-  pub bind-unbound : line ≡ Unbound → Wrote l t (anyOwned (sheet .root)) l′ t′
-      → On (bindingOf (typeOf left) rs) (λ f. Writes (onlyOf (bindingsOf (f stop) sheet)) l t l′ t′)
+    (r : Written) where
+  pub bind-unbound : line ≡ Unbound → Writes (ok (anyOwned (sheet .root))) l t l′ r
+      → On (bindingOf (typeOf left) rs) (λ f. Writes (onlyOf (bindingsOf (f stop) sheet)) l t l′ r)
   unfolding bindingsOf
-  bind-unbound is w = read-law.bind-unbound left rs (λ f. Writes (onlyOf (bindingsOf (f stop) sheet)) l t l′ t′) line at is w
+  bind-unbound is w = read-law.bind-unbound left rs (λ f. Writes (onlyOf (bindingsOf (f stop) sheet)) l t l′ r) line at is w
 
   pub bind-typed : OneOf (0 ∷ 1 ∷ 2 ∷ 3 ∷ 4 ∷ 5 ∷ 6 ∷ 8 ∷ 9 ∷ 10 ∷ []) (tagOf the-type line)
-      → On (typeOf left rs) (λ ty. Writes (typeString ty sheet Owned) l t l′ t′)
-      → On (bindingOf (typeOf left) rs) (λ f. Writes (onlyOf (bindingsOf (f stop) sheet)) l t l′ t′)
+      → On (typeOf left rs) (λ ty. Writes (typeString ty sheet Owned) l t l′ r)
+      → On (bindingOf (typeOf left) rs) (λ f. Writes (onlyOf (bindingsOf (f stop) sheet)) l t l′ r)
   unfolding bindingsOf
-  bind-typed other h = read-law.bind-typed left rs (λ f. Writes (onlyOf (bindingsOf (f stop) sheet)) l t l′ t′) line at other h
+  bind-typed other h = read-law.bind-typed left rs (λ f. Writes (onlyOf (bindingsOf (f stop) sheet)) l t l′ r) line at other h

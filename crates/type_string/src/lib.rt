@@ -1,201 +1,245 @@
 // `type_string` and `do_branding` of codegen_types.rs: each calls the other, and the levels of a type that are left fall at
-// each call. The request is known not to be refused (crate type_refusal). Over an empty buffer the same writers measure.
+// each call. A text is written and its refusal found in one walk: what is written of a text that is refused counts for nothing.
+// Over an empty buffer the same writers measure.
 use codegen_types::Leaf;
-use find::Found;
+use codegen_types::Refusal;
+use codegen_types::Written;
+use find::TypeRow;
 use row::Line;
 use text::Text;
+use type_parts::Argued;
 use type_parts::Arguments;
+ghost use lib.ListN.{drop};
+ghost use Rattle.row.specs.Rows.{rows};
+ghost use Rattle.tree.specs.Index.{On};
+ghost use Rattle.tree.specs.Read.{typeOf};
+ghost use Rattle.nodes.specs.Index.{ForAll};
+ghost use Rattle.codegen_types.specs.TypeString.{typeString};
+ghost use Rattle.codegen_types.specs.Written.{Writes};
 ghost use Rattle.type_string.specs.Told.{TypeTold, ListTold, BrandTold, ChainTold, OwnTold, BindsTold, BindTold};
+
+// A brand: its node's id, and where its scopes begin and how many they are.
+struct Brand {
+    id: u64,
+    scopes: usize,
+    count: u64,
+}
+
+// A node of a brand's chain: where its P rows begin, how many they are, and where its scope stands; the sheet's end where it has
+// none.
+struct Own {
+    params: usize,
+    count: u64,
+    scope: usize,
+}
 
 // The text of the type at a position.
 pub fn type_string(
     root: &[u8],
     s: &[u8],
-    ids: &[u64],
-    ats: &[usize],
+    index: &[u64],
     at: usize,
     leaf: Leaf,
     t: Text,
     buf: &mut [u8],
-) -> Text
-    ensures { λ r. ⌜ TypeTold (now (root .entry)) (now (s .entry)) (now (ids .entry)) (now (ats .entry)) at 16 leaf
-        (now (buf .entry)) t (now (buf .exit)) r ⌝ }
+) -> Written
+    ensures { λ r. ⌜ ForAll (now (root .entry)) (now (s .entry)) (now (index .entry)) (λ sheet.
+        On (typeOf 16 (rows (drop at (now (s .entry)))))
+        (λ ty. Writes (typeString ty sheet leaf) (now (buf .entry)) t (now (buf .exit)) r)) ⌝ }
 {
-    write_type(root, s, ids, ats, at, 16, leaf, t, buf)
+    let row = find::type_row(s, at);
+    write_type(root, s, index, row, 15, leaf, t, buf)
 }
 
-// The text of the type at a position, with so many levels left.
+// The text of a type whose row was read, with so many levels left below it.
 fn write_type(
     root: &[u8],
     s: &[u8],
-    ids: &[u64],
-    ats: &[usize],
-    at: usize,
+    index: &[u64],
+    row: TypeRow,
     left: usize,
     leaf: Leaf,
     t: Text,
     buf: &mut [u8],
-) -> Text
-    ensures { λ r. ⌜ TypeTold (now (root .entry)) (now (s .entry)) (now (ids .entry)) (now (ats .entry)) at left leaf
+) -> Written
+    ensures { λ r. ⌜ TypeTold (now (root .entry)) (now (s .entry)) (now (index .entry)) row left leaf
         (now (buf .entry)) t (now (buf .exit)) r ⌝ }
 {
-    if left == 0 {
-        return t;
+    let kind = row.kind;
+    if kind < codegen_types::LIST {
+        return codegen_types::whole(type_parts::plain(root, kind, leaf, t, buf));
     }
-    let g = row::next(s, at);
-    let line = g.line;
-    let Line::Typ { kind, a, b, c } = line else {
-        return t;
-    };
-    if kind < 14 {
-        return type_parts::plain(root, kind, leaf, t, buf);
+    if kind == codegen_types::LIST {
+        return write_list(root, s, index, row.next, left, leaf, t, buf);
     }
-    if kind == 14 {
-        return write_list(root, s, ids, ats, g.next, left - 1, leaf, t, buf);
+    if kind == codegen_types::ENUM {
+        return type_parts::qualified_module(s, index, row.a, t, buf);
     }
-    if kind == 15 {
-        return type_parts::qualified_module(root, s, ids, ats, a, t, buf);
+    if kind < codegen_types::ANY_POINTER {
+        let brand = Brand {
+            id: row.a,
+            scopes: row.next,
+            count: row.b,
+        };
+        return do_branding(root, s, index, brand, left, leaf, t, buf);
     }
-    if kind < 18 {
-        return do_branding(root, s, ids, ats, a, g.next, b, left - 1, leaf, t, buf);
+    if row.a == 0 {
+        return codegen_types::whole(type_parts::displayed(root, b"::any_pointer::", leaf, t, buf));
     }
-    type_parts::pointer(root, s, ids, ats, a, b, c, leaf, t, buf)
+    type_parts::parameter(root, s, index, row.b, row.c, leaf, t, buf)
 }
 
-// The text of a list whose element's type is at a position.
+// The text of a list whose element's type is at a position: 6 where that is an AnyPointer.
 fn write_list(
     root: &[u8],
     s: &[u8],
-    ids: &[u64],
-    ats: &[usize],
+    index: &[u64],
     at: usize,
     left: usize,
     leaf: Leaf,
     t: Text,
     buf: &mut [u8],
-) -> Text
-    ensures { λ r. ⌜ ListTold (now (root .entry)) (now (s .entry)) (now (ids .entry)) (now (ats .entry)) at left leaf
+) -> Written
+    ensures { λ r. ⌜ ListTold (now (root .entry)) (now (s .entry)) (now (index .entry)) at left leaf
         (now (buf .entry)) t (now (buf .exit)) r ⌝ }
 {
-    let kind = find::kind(s, at);
-    if kind == 12 {
-        return type_parts::displayed(root, b"::text_list::", leaf, t, buf);
+    if left == 0 {
+        return codegen_types::whole(t);
     }
-    if kind == 13 {
-        return type_parts::displayed(root, b"::data_list::", leaf, t, buf);
+    let row = find::type_row(s, at);
+    let kind = row.kind;
+    if kind == codegen_types::TEXT {
+        return codegen_types::whole(type_parts::displayed(root, b"::text_list::", leaf, t, buf));
+    }
+    if kind == codegen_types::DATA {
+        return codegen_types::whole(type_parts::displayed(root, b"::data_list::", leaf, t, buf));
+    }
+    if codegen_types::ANY_POINTER <= kind {
+        return codegen_types::refused(t, 6);
     }
     let t = type_parts::list_head(root, kind, leaf, t, buf);
-    let t = write_type(
-        root,
-        s,
-        ids,
-        ats,
-        at,
-        left,
-        codegen_types::element_leaf(kind),
-        t,
-        buf,
-    );
-    t.byte(buf, b'>')
+    let element = codegen_types::element_leaf(kind);
+    let w = write_type(root, s, index, row, left - 1, element, t, buf);
+    let t = w.text;
+    let refusal = w.refusal;
+    let t = t.byte(buf, b'>');
+    Written { text: t, refusal }
 }
 
-// The text of a node's type with n scopes from a position on: its module, the leaf, and the arguments in angle brackets.
+// The text of a node's type with a brand: its module, the leaf, and the arguments in angle brackets. A node that is not there is
+// refused by its chain too.
 fn do_branding(
     root: &[u8],
     s: &[u8],
-    ids: &[u64],
-    ats: &[usize],
-    id: u64,
-    at: usize,
-    n: u64,
+    index: &[u64],
+    brand: Brand,
     left: usize,
     leaf: Leaf,
     t: Text,
     buf: &mut [u8],
-) -> Text
-    ensures { λ r. ⌜ BrandTold (now (root .entry)) (now (s .entry)) (now (ids .entry)) (now (ats .entry)) id at n left leaf
+) -> Written
+    ensures { λ r. ⌜ BrandTold (now (root .entry)) (now (s .entry)) (now (index .entry)) brand left leaf
         (now (buf .entry)) t (now (buf .exit)) r ⌝ }
 {
-    let Found::At(node) = find::node(ids, ats, id) else {
-        return t;
-    };
-    let name = row::text(s, node);
-    let t = t.bytes(buf, name);
-    let p = type_parts::opening(leaf, t, buf);
-    let p = write_chain(root, s, ids, ats, id, at, n, left, p, buf);
-    type_parts::close(p, buf)
+    let w = type_parts::qualified_module(s, index, brand.id, t, buf);
+    let p = type_parts::opening(leaf, w.text, buf);
+    let q = write_chain(root, s, index, brand, left, p, buf);
+    let p = q.arguments;
+    let refusal = q.refusal;
+    let t = type_parts::close(p, buf);
+    Written { text: t, refusal }
 }
 
-// The arguments of a node after those of its parents.
+// The arguments of a node after those of its parents. The Rust meets the innermost node's refusal first, and the chain's own
+// last.
 fn write_chain(
     root: &[u8],
     s: &[u8],
-    ids: &[u64],
-    ats: &[usize],
-    id: u64,
-    at: usize,
-    n: u64,
+    index: &[u64],
+    brand: Brand,
     left: usize,
     first: Arguments,
     buf: &mut [u8],
-) -> Arguments
-    ensures { λ r. ⌜ ChainTold (now (root .entry)) (now (s .entry)) (now (ids .entry)) (now (ats .entry)) id at n left
+) -> Argued
+    ensures { λ r. ⌜ ChainTold (now (root .entry)) (now (s .entry)) (now (index .entry)) brand left
         (now (buf .entry)) first (now (buf .exit)) r ⌝ }
 {
-    let chain = find::chain(s, ids, ats, id);
-    let nodes = chain.ids;
-    let params = chain.params;
+    let chain = find::chain(index, brand.id);
+    let ids = chain.ids;
     let count = chain.count;
-    let places = find::scopes(s, at, n, &nodes[..count]);
+    let scopes = find::scopes(s, brand.scopes, brand.count, &ids[..count]);
     let mut k = count;
     let mut p = first;
+    let mut refusal = chain.refusal;
     while 0 < k {
         k -= 1;
-        p = write_own(root, s, ids, ats, params[k], places[k], left, p, buf);
+        let own = Own {
+            params: chain.params[k],
+            count: chain.counts[k],
+            scope: scopes[k],
+        };
+        let q = write_own(root, s, index, own, left, p, buf);
+        let inner = q.refusal;
+        p = q.arguments;
+        refusal = codegen_types::first(inner, refusal);
     }
-    p
+    Argued {
+        arguments: p,
+        refusal,
+    }
 }
 
-// The arguments of one node, whose P rows begin at `params` and whose scope stands at `place`, where there is one: those that
-// its scope binds, its own parameters' names, or for each parameter one that is not bound.
+// The arguments of one node: those that its scope binds, its own parameters' names, or for each parameter one that is not bound.
+// 8 where there are more or fewer bindings than parameters.
 fn write_own(
     root: &[u8],
     s: &[u8],
-    ids: &[u64],
-    ats: &[usize],
-    params: usize,
-    place: usize,
+    index: &[u64],
+    own: Own,
     left: usize,
     p: Arguments,
     buf: &mut [u8],
-) -> Arguments
-    ensures { λ r. ⌜ OwnTold (now (root .entry)) (now (s .entry)) (now (ids .entry)) (now (ats .entry)) params place left
+) -> Argued
+    ensures { λ r. ⌜ OwnTold (now (root .entry)) (now (s .entry)) (now (index .entry)) own left
         (now (buf .entry)) p (now (buf .exit)) r ⌝ }
 {
-    let g = row::next(s, place);
+    let g = row::next(s, own.scope);
     let line = g.line;
     let Line::Scope { id: _, bind, count } = line else {
-        return type_parts::unbound(root, s, params, p, buf);
+        let p = type_parts::unbound(root, own.count, p, buf);
+        return Argued {
+            arguments: p,
+            refusal: Refusal::None,
+        };
     };
     if bind == 0 {
-        return type_parts::inherited(s, params, p, buf);
+        let p = type_parts::inherited(s, own.params, own.count, p, buf);
+        return Argued {
+            arguments: p,
+            refusal: Refusal::None,
+        };
     }
-    write_binds(root, s, ids, ats, g.next, count, left, p, buf)
+    if count != own.count {
+        return Argued {
+            arguments: p,
+            refusal: Refusal::Number(8),
+        };
+    }
+    write_binds(root, s, index, g.next, count, left, p, buf)
 }
 
-// So many bindings. The last of them need not be passed over.
+// So many bindings, up to the first that is refused. The last of them need not be passed over.
 fn write_binds(
     root: &[u8],
     s: &[u8],
-    ids: &[u64],
-    ats: &[usize],
+    index: &[u64],
     from: usize,
     count: u64,
     left: usize,
     first: Arguments,
     buf: &mut [u8],
-) -> Arguments
-    ensures { λ r. ⌜ BindsTold (now (root .entry)) (now (s .entry)) (now (ids .entry)) (now (ats .entry)) from count left
+) -> Argued
+    ensures { λ r. ⌜ BindsTold (now (root .entry)) (now (s .entry)) (now (index .entry)) from count left
         (now (buf .entry)) first (now (buf .exit)) r ⌝ }
 {
     let mut at = from;
@@ -204,35 +248,54 @@ fn write_binds(
     while 0 < n {
         let t = p.text;
         let t = t.byte(buf, p.sep);
-        let t = write_binding(root, s, ids, ats, at, left, t, buf);
+        let w = write_binding(root, s, index, at, left, t, buf);
+        let t = w.text;
+        let refusal = w.refusal;
         p = Arguments { text: t, sep: b',' };
+        let Refusal::None = refusal else {
+            return Argued {
+                arguments: p,
+                refusal,
+            };
+        };
         if n == 1 {
-            return p;
+            return Argued {
+                arguments: p,
+                refusal,
+            };
         }
         at = find::past(s, at, 1);
         n -= 1;
     }
-    p
+    Argued {
+        arguments: p,
+        refusal: Refusal::None,
+    }
 }
 
 // One binding: a U row, or a type.
 fn write_binding(
     root: &[u8],
     s: &[u8],
-    ids: &[u64],
-    ats: &[usize],
+    index: &[u64],
     at: usize,
     left: usize,
     t: Text,
     buf: &mut [u8],
-) -> Text
-    ensures { λ r. ⌜ BindTold (now (root .entry)) (now (s .entry)) (now (ids .entry)) (now (ats .entry)) at left
+) -> Written
+    ensures { λ r. ⌜ BindTold (now (root .entry)) (now (s .entry)) (now (index .entry)) at left
         (now (buf .entry)) t (now (buf .exit)) r ⌝ }
 {
     let g = row::next(s, at);
     let line = g.line;
     match line {
-        Line::Unbound => type_parts::any_owned(root, t, buf),
-        _ => write_type(root, s, ids, ats, at, left, Leaf::Owned, t, buf),
+        Line::Unbound => codegen_types::whole(type_parts::any_owned(root, t, buf)),
+        _ => {
+            if left == 0 {
+                return codegen_types::whole(t);
+            }
+            let row = find::as_type(line, g.next);
+            write_type(root, s, index, row, left - 1, Leaf::Owned, t, buf)
+        }
     }
 }

@@ -7,67 +7,88 @@ use native.Mathlib.Omega.{arith}
 use lib.ListN.{length, take, drop, length-drop}
 use Rattle.text.specs.Bytes.{Str}
 use Rattle.row.specs.Rows.{rows}
-use Rattle.tree.specs.Tree.{Field}
-use Rattle.tree.specs.Reader.{Rows, got, no}
-use Rattle.tree.specs.Read.{fieldOf}
-use Rattle.tree.specs.Walked.{passed}
-use Rattle.tree.proofs.OtherLines.{never}
-use Rattle.place.specs.Fields.{FieldsHere, none}
 use Rattle.row.proofs.Laws.{rows-length}
-use Rattle.place.specs.Place.{SaysArm, ReadsField}
-use Rattle.place.specs.declared.FieldLine.{FieldLine}
-use Rattle.place.specs.declared.FieldLine.the-variants as says
-use Rattle.place.specs.declared.FieldRead.{FieldRead}
-use Rattle.place.proofs.PlaceLaws.{field-none, IsField, read-on, read-end}
-use Rattle.place.proofs.FieldsLaws.{field-less, first-here, none-here}
+use Rattle.tree.specs.Tree.{Arm, slot, group, Field}
+use Rattle.tree.specs.Tree as tree
+use Rattle.tree.specs.Fields.{FieldsHere}
+use Rattle.tree.proofs.OtherLines.{never}
+use Rattle.field.specs.Field.{SlotIn, GroupIn, FieldIs, nextOf, ReadsFirst, Fewer}
+use Rattle.field.specs.declared.Slot.{Slot}
+use Rattle.field.specs.declared.Group.{Group}
+use Rattle.field.specs.declared.Field as code
+use Rattle.field.specs.declared.Field.the-variants as read
 
--- the field after k of them, whose line is l, and the rows q after it
-pub record Turn (s : Str) (l : FieldLine) (q : Rows) (k : ℕ) (all : List Field) : Type 0 where
+-- the field after k of them is the one that was read
+pub record Turn (s : Str) (r : code.Field) (k : ℕ) (all : List Field) : Type 0 where
   pub field : Field
-  pub said : SaysArm s l (field .arm)
+  pub said : FieldIs s r field
   pub first : drop k all ≡ field ∷ drop (suc k) all
   pub taken : take (suc k) all ≡ take k all ++ (field ∷ [])
-  pub next : FieldsHere q (drop (suc k) all)
+  pub next : FieldsHere (rows (drop (nextOf r) s)) (drop (suc k) all)
 
-nothing-here : {A : Type 0} (rs q : Rows) → FieldsHere rs [] → got tt q ≡ passed (fieldOf rs) → A
-nothing-here rs q (none e) g = let z : got tt q ≡ no 2 rs = rw (field-none rs e) at g in never cc
+-- a slot and a group are something
+pub some-slot : {r : code.Field} {sl : Slot} → r ≡ read.Slot sl → r ≡ read.Nothing → ⊥
+some-slot e h = never cc
 
--- what is read at some rows
-module _ (s : Str) (rs : Rows) (r : FieldRead) (read : ReadsField s r (fieldOf rs)) where
-  -- where none is read, all are passed
-  pub ended-here : r .line ≡ says.Nothing → (fs : List Field) → FieldsHere rs fs → fs ≡ []
-  ended-here e fs h = read-end s r (fieldOf rs) read e (λ j q x. none-here fs j rs q h x)
+pub some-group : {r : code.Field} {g : Group} → r ≡ read.Group g → r ≡ read.Nothing → ⊥
+some-group e h = never cc
 
+module _ (s : Str) (r : code.Field) where
   -- where one is read
-  module _ (l : FieldLine) (is : r .line ≡ l) (some : IsField l) where
-    walk : got tt (rows (drop (r .next) s)) ≡ passed (fieldOf rs)
-    walk = read-on s r (fieldOf rs) read l is some
+  pub turn : (r ≡ read.Nothing → ⊥) → (k : ℕ) (all : List Field) → ReadsFirst s r (drop k all) → Turn s r k all
+  turn some zero [] e = absurd (some e)
+  turn some zero (f ∷ fs) h = record { field = f; said = h .0; first = refl; taken = refl; next = h .1 }
+  turn some (suc k) [] e = absurd (some e)
+  turn some (suc k) (x ∷ all) h =
+      let t = turn some k all h in record {
+        field = t .field;
+        said = t .said;
+        first = t .first;
+        taken = ap (λ (r : List Field). x ∷ r) (t .taken);
+        next = t .next;
+      }
 
-    said-of : (f : Field) → fieldOf rs ≡ got f (rows (drop (r .next) s)) → SaysArm s l (f .arm)
-    said-of f e = let h : ReadsField s r (got f (rows (drop (r .next) s))) = rw e at read in rw is at (h .0)
+  -- where none is read, all are passed
+  pub ended-here : r ≡ read.Nothing → (fs : List Field) → ReadsFirst s r fs → fs ≡ []
+  ended-here e [] h = refl
+  ended-here e (f ∷ fs) h = let z : FieldIs s read.Nothing f = rw e at (h .0) in absurd z
 
-    pub turn : (k : ℕ) (all : List Field) → FieldsHere rs (drop k all) → Turn s l (rows (drop (r .next) s)) k all
-    turn zero [] h = nothing-here rs _ h walk
-    turn zero (f ∷ fs) h =
-        let x = first-here f fs rs _ h walk in
-        record { field = f; said = said-of f (x .0); first = refl; taken = refl; next = x .1 }
-    turn (suc k) [] h = nothing-here rs _ h walk
-    turn (suc k) (x ∷ all) h =
-        let t = turn k all h in record {
-          field = t .field;
-          said = t .said;
-          first = t .first;
-          taken = ap (λ (r : List Field). x ∷ r) (t .taken);
-          next = t .next;
-        }
+-- a field that was read leaves fewer rows
+module _ (s : Str) (at : ℕ) (r : code.Field) (fewer : Fewer s at r) where
+  pub slot-fewer : (sl : Slot) → r ≡ read.Slot sl → length (rows (drop (sl .next) s)) < length (rows (drop at s))
+  slot-fewer sl e = rw e at fewer
 
-    pub fewer : length (rows (drop (r .next) s)) < length rs
-    fewer = field-less rs _ walk
+  pub group-fewer : (g : Group) → r ≡ read.Group g → length (rows (drop (g .next) s)) < length (rows (drop at s))
+  group-fewer g e = rw e at fewer
 
-    -- the fields passed are never more than the rows, so that their number fits
-    module _ (first k : ℕ) (room : k + length rs ≤ length (rows (drop first s))) where
-      pub count-fits : length s < 2 ^ 64 → k + 1 < 2 ^ 64
-      count-fits h = omega (arith, fewer, rows-length (drop first s), length-drop first s)
+-- the fields passed are never more than the rows, so that their number fits
+module _ (s : Str) (first k n m : ℕ) (room : k + n ≤ length (rows (drop first s))) (fewer : m < n) where
+  pub count-fits : length s < 2 ^ 64 → k + 1 < 2 ^ 64
+  count-fits h = omega (arith, rows-length (drop first s), length-drop first s)
 
-      pub count-more : k + 1 + length (rows (drop (r .next) s)) ≤ length (rows (drop first s))
-      count-more = omega (arith, fewer)
+  pub count-more : k + 1 + m ≤ length (rows (drop first s))
+  count-more = omega arith
+
+-- ---- what was read
+
+-- a slot by its offset and kind
+pub record IsSlot (a : Arm) (offset k : ℕ) : Type 0 where
+  pub sl : tree.Slot
+  pub is : a ≡ slot sl
+  pub offsetIs : sl .offset ≡ offset
+  pub kindIs : tree.kind (sl .ty) ≡ k
+
+module _ (s : Str) (r : code.Field) (f : Field) where
+  pub says-slot : (sl : Slot) → r ≡ read.Slot sl → FieldIs s r f → IsSlot (f .arm) (sl .offset) (sl .kind)
+  says-slot sl e h = go (f .arm) (rw e at h)
+    where
+      go : (a : Arm) → SlotIn s sl (f .name) (f .discriminant) a → IsSlot a (sl .offset) (sl .kind)
+      go (slot x) h = record { sl = x; is = refl; offsetIs = h .slot .offset; kindIs = h .slot .kind }
+      go (group i) h = absurd h
+
+  pub says-group : (g : Group) → r ≡ read.Group g → FieldIs s r f → f .arm ≡ group (g .id)
+  says-group g e h = go (f .arm) (rw e at h)
+    where
+      go : (a : Arm) → GroupIn s g (f .name) (f .discriminant) a → a ≡ group (g .id)
+      go (slot x) h = absurd h
+      go (group i) h = rw (h .id-is) refl

@@ -1,8 +1,7 @@
-pub mod FieldLaws
 pub mod LineLaws
 pub mod SlotLaws
-pub mod MarkLaws
+pub mod FieldLaws
+pub mod TableLaws
+pub mod RepeatLaws
 pub mod GroupLaws
 pub mod TurnLaws
-pub mod RepeatLaws
-pub mod RefusalLaws

@@ -1,60 +1,36 @@
--- The search for a field with the line of a type at an offset: what one field's rows say, and one law for each turn of the loop
--- over so many fields. Assumes nothing.
-use mathlib.Core.Path.{_≡_, refl, sym}
+-- The search in the sheet for a field with the line of a type at an offset: one law for each turn of the loop over so many
+-- fields. Assumes nothing.
+use mathlib.Core.Path.{_≡_, refl, sym, ap, _∙_}
 use mathlib.Core.Bool.{Bool, true, false}
-use mathlib.Core.List.{List, [], _∷_}
+use mathlib.Core.List.{List, [], _∷_, _++_}
 use Prim.Native.Nat.{ℕ, zero, suc, _-_, _≤_, _<_}
 use native.Mathlib.Omega.{arith}
 use native.Mathlib.Numerals.{sub-one}
-use borrow.Author.Tests.{eq-eqb, ne-eqb}
 use lib.Dec.{eqb}
 use lib.ListN.{take, drop}
 use lib.Seq.{take-nil}
-use types.Run.{OneOf, miss}
-use denote.Enum.Declared.{tagOf}
-use Rattle.place.proofs.FieldLine.{the-type}
-use Rattle.text.specs.Bytes.{Str}
+use Rattle.text.specs.Bytes.{Str, both, either}
 use Rattle.row.specs.Rows.{rows}
-use Rattle.tree.specs.Tree.{Arm, Field}
+use Rattle.tree.specs.Tree.{Field}
 use Rattle.tree.specs.Reader.{Rows}
-use Rattle.tree.specs.Read.{fieldOf}
-use Rattle.find.specs.Find.{kindAt}
-use Rattle.place.specs.Place.{SaysArm, ReadsField}
-use Rattle.place.specs.declared.FieldLine.{FieldLine}
-use Rattle.place.specs.declared.FieldLine.the-variants as says
-use Rattle.place.specs.declared.FieldRead.{FieldRead}
-use Rattle.place.proofs.PlaceLaws.{IsField}
+use Rattle.tree.specs.Fields.{FieldsHere}
+use Rattle.field.specs.Field.{nextOf, ReadsFirst}
+use Rattle.field.specs.declared.Slot.{Slot}
+use Rattle.field.specs.declared.Group.{Group}
+use Rattle.field.specs.declared.Field as code
+use Rattle.field.specs.declared.Field.the-variants as read
 use Rattle.zeroing.specs.Lines.{lineType, hasLine, repeats}
-use Rattle.place.specs.Fields.{FieldsHere}
-use Rattle.zeroing.proofs.FieldLaws.{turn, ended-here}
-use Rattle.zeroing.proofs.TurnLaws.{says-slot, says-group}
+use Rattle.zeroing.proofs.SlotLaws.{either-false, either-assoc}
+use Rattle.zeroing.proofs.FieldLaws.{some-slot, some-group, turn, ended-here, says-slot, says-group}
 
--- ---- one field
-
-module _ (s : Str) (line : FieldLine) (c o : ℕ) where
-  module _ (x ty : ℕ) (is : line ≡ says.Slot x ty) where
-    pub has-slot : (kd : ℕ) → kd ≡ kindAt (rows (drop ty s)) → (t : ℕ) → t ≡ lineType kd → x ≡ o
-        → (a : Arm) → SaysArm s line a → eqb t c ≡ hasLine c o a
-    unfolding hasLine
-    has-slot kd kk t tt′ xo a h =
-        let w = says-slot s x ty a (rw is at h) in
-        let k : lineType kd ≡ t = sym tt′ in
-        rw (w .is, w .offsetIs, w .kindIs, ← kk, k, eq-eqb x o xo) refl
-
-    pub has-apart : (x ≡ o → ⊥) → (a : Arm) → SaysArm s line a → false ≡ hasLine c o a
-    unfolding hasLine
-    has-apart xo a h = let w = says-slot s x ty a (rw is at h) in rw (w .is, w .offsetIs, ne-eqb x o xo) refl
-
-  pub has-none : OneOf (1 ∷ 2 ∷ []) (tagOf the-type line) → (a : Arm) → SaysArm s line a → false ≡ hasLine c o a
-  unfolding hasLine
-  has-none one a h = go line one h
-    where
-      go : (line : FieldLine) → OneOf (1 ∷ 2 ∷ []) (tagOf the-type line) → SaysArm s line a → false ≡ hasLine c o a
-      go (says.Slot x ty) one h = absurd (miss (1 ∷ 2 ∷ []) 0 tt one)
-      go (says.Group i) one h = rw (says-group s i a h) refl
-      go says.Nothing one h = absurd h
-
--- ---- the loop
+-- one more field
+pub repeats-append : (c o : ℕ) (fs : List Field) (f : Field)
+    → repeats c o (fs ++ (f ∷ [])) ≡ either (repeats c o fs) (hasLine c o (f .arm))
+unfolding repeats
+repeats-append c o [] f = either-false (hasLine c o (f .arm))
+repeats-append c o (g ∷ fs) f =
+    ap (either (hasLine c o (g .arm))) (repeats-append c o fs f)
+    ∙ sym (either-assoc (hasLine c o (g .arm)) (repeats c o fs) (hasLine c o (f .arm)))
 
 -- whether one of the first n fields that are read at some rows has the line
 abbrev pub Tells : ℕ → ℕ → Rows → ℕ → Bool → Type 0
@@ -65,33 +41,45 @@ module _ (c o : ℕ) (rs : Rows) (n : ℕ) where
   unfolding repeats
   tells-none z fs h = let e : n ≡ 0 = omega arith in rw e refl
 
-  module _ (s : Str) (r : FieldRead) (read : ReadsField s r (fieldOf rs)) where
-    pub tells-end : r .line ≡ says.Nothing → Tells c o rs n false
+  module _ (s : Str) (r : code.Field) (first : (fs : List Field) → FieldsHere rs fs → ReadsFirst s r fs) where
+    pub tells-end : r ≡ read.Nothing → Tells c o rs n false
     unfolding repeats
-    tells-end e fs h = rw (ended-here s rs r read e fs h, take-nil {A = Field} n) refl
+    tells-end e fs h = rw (ended-here s r e fs (first fs h), take-nil {A = Field} n) refl
 
-    module _ (some : OneOf (0 ∷ 1 ∷ []) (tagOf the-type (r .line))) (more : 0 < n) (b : Bool)
-        (has : (a : Arm) → SaysArm s (r .line) a → b ≡ hasLine c o a) where
-      there : (l : FieldLine) → OneOf (0 ∷ 1 ∷ []) (tagOf the-type l) → IsField l
-      there (says.Slot x ty) one = tt
-      there (says.Group i) one = tt
-      there says.Nothing one = absurd (miss (0 ∷ 1 ∷ []) 2 tt one)
-
-      first : (f : Field) (fs : List Field) → repeats c o (take n (f ∷ fs)) ≡ repeats c o (f ∷ take (n - 1) fs)
-      first f fs = go n more
+    module _ (more : 0 < n) where
+      head : (f : Field) (fs : List Field)
+          → repeats c o (take n (f ∷ fs)) ≡ either (hasLine c o (f .arm)) (repeats c o (take (n - 1) fs))
+      unfolding repeats
+      head f fs = go n more
         where
-          go : (m : ℕ) → 0 < m → repeats c o (take m (f ∷ fs)) ≡ repeats c o (f ∷ take (m - 1) fs)
+          go : (m : ℕ) → 0 < m
+              → repeats c o (take m (f ∷ fs)) ≡ either (hasLine c o (f .arm)) (repeats c o (take (m - 1) fs))
           go zero z = let y : ⊥ = omega arith in absurd y
           go (suc m) z = rw (sub-one (suc m)) refl
 
-      pub tells-here : b ≡ true → Tells c o rs n true
-      unfolding repeats
-      tells-here y fs h =
-          let t = turn s rs r read (r .line) refl (there (r .line) some) 0 fs h in
-          rw (t .first, first (t .field) (drop 1 fs), ← has (t .field .arm) (t .said), y) refl
+      module _ (sl : Slot) (is : r ≡ read.Slot sl) (b : Bool)
+          (has : b ≡ both (eqb (sl .offset) o) (eqb (lineType (sl .kind)) c)) where
+        pub tells-here : b ≡ true → Tells c o rs n true
+        unfolding hasLine
+        tells-here y fs h =
+            let t = turn s r (some-slot is) 0 fs (first fs h) in
+            let w = says-slot s r (t .field) sl is (t .said) in
+            rw (t .first, head (t .field) (drop 1 fs), w .is, w .offsetIs, w .kindIs, ← has, y) refl
 
-      pub tells-more : (x : Bool) → b ≡ false → Tells c o (rows (drop (r .next) s)) (n - 1) x → Tells c o rs n x
-      unfolding repeats
-      tells-more x y later fs h =
-          let t = turn s rs r read (r .line) refl (there (r .line) some) 0 fs h in
-          rw (t .first, first (t .field) (drop 1 fs), ← has (t .field .arm) (t .said), y) (later (drop 1 fs) (t .next))
+        pub tells-more : (x : Bool) → b ≡ false → Tells c o (rows (drop (sl .next) s)) (n - 1) x → Tells c o rs n x
+        unfolding hasLine
+        tells-more x y later fs h =
+            let after : Tells c o (rows (drop (nextOf r) s)) (n - 1) x = rw is later in
+            let t = turn s r (some-slot is) 0 fs (first fs h) in
+            let w = says-slot s r (t .field) sl is (t .said) in
+            rw (t .first, head (t .field) (drop 1 fs), w .is, w .offsetIs, w .kindIs, ← has, y)
+            (after (drop 1 fs) (t .next))
+
+      pub tells-group : (g : Group) → r ≡ read.Group g → (x : Bool) → Tells c o (rows (drop (g .next) s)) (n - 1) x
+          → Tells c o rs n x
+      unfolding hasLine
+      tells-group g is x later fs h =
+          let after : Tells c o (rows (drop (nextOf r) s)) (n - 1) x = rw is later in
+          let t = turn s r (some-group is) 0 fs (first fs h) in
+          let w = says-group s r (t .field) g is (t .said) in
+          rw (t .first, head (t .field) (drop 1 fs), w) (after (drop 1 fs) (t .next))

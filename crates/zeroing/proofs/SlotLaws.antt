@@ -10,7 +10,7 @@ use native.Mathlib.Omega.{arith}
 use borrow.Author.Tests.{le-leb, lt-leb, ne-eqb, leb-true, leb-false, eqb-true, eqb-false}
 use lib.Dec.{eqb, leb}
 use Rattle.text.specs.Bytes.{Str, ascii, cond, both, either, same}
-use Rattle.tree.specs.Tree.{kind, Slot, Arm, slot, group, Field, Node}
+use Rattle.tree.specs.Tree.{kind, Slot, Arm, slot, group, Field}
 use Rattle.codegen_types.specs.TypeString.{isPointer}
 use Rattle.calls.specs.Calls.{zeroBool, zeroData, zeroTag, clearPointer}
 use Rattle.codegen_types.specs.Primitive.{primitiveText}
@@ -23,6 +23,10 @@ use Rattle.zeroing.proofs.LineLaws.{same-true, same-line, tag-unlike}
 pub either-false : (a : Bool) → either a false ≡ a
 either-false true = refl
 either-false false = refl
+
+pub either-true : (a : Bool) → either a true ≡ true
+either-true true = refl
+either-true false = refl
 
 either-comm : (a b : Bool) → either a b ≡ either b a
 either-comm true true = refl
@@ -155,30 +159,30 @@ module _ (c o : ℕ) (c0 : c ≡ 0 → ⊥) (c12 : c ≤ 12) where
       ∙ either-assoc (contains seen line) (hasLine c o (f .arm)) (repeats c o fs)
 
   -- a tag's line is no slot's
-  contains-tag : (n : Node) → contains (tagLines n) line ≡ false
+  contains-tag : (a b : ℕ) → contains (tagLines a b) line ≡ false
   unfolding contains
-  contains-tag n = go (eqb (n .tagCount) 0)
+  contains-tag a b = go (eqb a 0)
     where
-      go : (t : Bool) → contains (cond t [] (zeroTag (n .tagOffset) ∷ [])) line ≡ false
+      go : (t : Bool) → contains (cond t [] (zeroTag b ∷ [])) line ≡ false
       go true = refl
-      go false = rw (tag-unlike c (n .tagOffset) o c0 c12) refl
+      go false = rw (tag-unlike c b o c0 c12) refl
 
-  contains-repeat : (n : Node) (fs : List Field) → contains (seenAfter (tagLines n) fs) line ≡ repeats c o fs
-  contains-repeat n fs = contains-after fs (tagLines n) ∙ rw (contains-tag n) refl
+  contains-repeat : (a b : ℕ) (fs : List Field) → contains (seenAfter (tagLines a b) fs) line ≡ repeats c o fs
+  contains-repeat a b fs = contains-after fs (tagLines a b) ∙ rw (contains-tag a b) refl
 
 -- the line that a slot adds to those of its group
 abbrev pub addedLines : List Str → Option Str → List Str
 addedLines seen option.none = []
 addedLines seen (some line) = cond (contains seen line) [] (line ∷ [])
 
-pub slot-lines : (n : Node) (fs : List Field) (s : Slot)
-    → addedLines (seenAfter (tagLines n) fs) (zeroLine s)
+pub slot-lines : (a b : ℕ) (fs : List Field) (s : Slot)
+    → addedLines (seenAfter (tagLines a b) fs) (zeroLine s)
     ≡ slotLines (lineType (kind (s .ty))) (s .offset) (repeats (lineType (kind (s .ty))) (s .offset) fs)
-slot-lines n fs s =
+slot-lines a b fs s =
     rw (line-is s) (go (lineType (kind (s .ty))) (type-least (kind (s .ty))) (eqb (lineType (kind (s .ty))) 0) refl)
   where
     go : (d : ℕ) → d ≤ 12 → (t : Bool) → eqb d 0 ≡ t
-        → addedLines (seenAfter (tagLines n) fs) (cond t option.none (some (zeroText d (s .offset))))
+        → addedLines (seenAfter (tagLines a b) fs) (cond t option.none (some (zeroText d (s .offset))))
         ≡ cond t [] (cond (repeats d (s .offset) fs) [] (zeroText d (s .offset) ∷ []))
     go d d12 true e = refl
-    go d d12 false e = rw (contains-repeat d (s .offset) (eqb-false d 0 e) d12 n fs) refl
+    go d d12 false e = rw (contains-repeat d (s .offset) (eqb-false d 0 e) d12 a b fs) refl

@@ -1,128 +1,132 @@
--- The loop over a group's fields, one law for each turn: what is left to write from a field on, after the fields before it, gives
--- what was to be written from the first one on (`Going`). Assumes nothing.
-use mathlib.Core.Path.{_≡_, refl}
+-- The loop over a group's fields, one law for each turn: what is left to write from a field on, after the fields before it,
+-- gives what was to be written from the first one on (`Going`). Assumes nothing.
+use mathlib.Core.Path.{_≡_, refl, _∙_}
+use mathlib.Core.Bool.{Bool}
 use mathlib.Core.List.{List, [], _∷_, _++_}
 use Prim.Native.Nat.{ℕ, suc, _+_}
 use native.Mathlib.Numerals.{add-one}
-use lib.Dec.{eqb}
-use lib.ListN.{take, drop, set}
+use lib.ListN.{take, drop, replicate}
 use Rattle.text.specs.Bytes.{Str}
 use Rattle.row.specs.Rows.{rows}
-use Rattle.tree.specs.Tree.{kind, Slot, Arm, slot, group, Field, Node}
+use Rattle.tree.specs.Tree.{Field}
 use Rattle.tree.specs.Reader.{Rows}
-use Rattle.tree.specs.Read.{typeOf, fieldOf}
+use Rattle.tree.specs.Fields.{FieldsHere}
+use Rattle.field.specs.Field.{FieldIs, nextOf, ReadsFirst}
+use Rattle.field.specs.declared.Slot.{Slot}
+use Rattle.field.specs.declared.Group.{Group}
+use Rattle.field.specs.declared.Field as code
+use Rattle.field.specs.declared.Field.the-variants as read
 use Rattle.codegen_types.specs.Out.{Out}
-use Rattle.find.specs.Find.{kindAt}
-use Rattle.find.proofs.TypeLaws.{type-kind}
-use Rattle.place.specs.Place.{SaysArm, ReadsField}
-use Rattle.place.specs.declared.FieldLine.{FieldLine}
-use Rattle.place.specs.declared.FieldLine.the-variants as says
-use Rattle.place.specs.declared.FieldRead.{FieldRead}
-use Rattle.place.proofs.PlaceLaws.{IsField}
+use Rattle.codegen_types.specs.declared.Refusal.the-variants.{None, Number}
 use Rattle.codegen.specs.Zeroing.{Zeroing, zeroFields}
-use Rattle.zeroing.specs.Lines.{repeats, slotLines, tagLines, typeAt, markPlace, Marked}
-use Rattle.place.specs.Fields.{FieldsHere}
-use Rattle.zeroing.specs.Told.{Added, Adds}
+use Rattle.zeroing.specs.Lines.{lineType, hasLine, repeats, tagLines}
+use Rattle.zeroing.specs.Table.{Kept, withLine}
+use Rattle.zeroing.specs.Added.{AddedSlot, Adds}
 use Rattle.zeroing.specs.declared.Lines.{Lines}
-use Rattle.find.proofs.Laws.{on-has}
-use Rattle.zeroing.proofs.FieldLaws.{turn, ended-here}
-use Rattle.zeroing.proofs.SlotLaws.{pointer-is, seenArm, seenAfter, seen-append, slot-lines}
-use Rattle.zeroing.proofs.MarkLaws.{marked-none, marked-slot, marked-group}
-use Rattle.zeroing.proofs.GroupLaws.{fields-none, next-slot, next-group}
+use Rattle.zeroing.proofs.FieldLaws.{Turn, some-slot, some-group, turn, ended-here, says-slot, says-group}
+use Rattle.zeroing.proofs.SlotLaws.{either-false, pointer-is, seenArm, seenAfter, seen-append, slot-lines}
+use Rattle.zeroing.proofs.RepeatLaws.{repeats-append}
+use Rattle.zeroing.proofs.TableLaws.{kept-first}
+use Rattle.zeroing.proofs.GroupLaws.{fields-none, next-slot, next-group, next-stop}
 
--- ---- what a field's line says
-
--- a slot by its offset and kind
-pub record IsSlot (a : Arm) (offset k : ℕ) : Type 0 where
-  pub sl : Slot
-  pub is : a ≡ slot sl
-  pub offsetIs : sl .offset ≡ offset
-  pub kindIs : kind (sl .ty) ≡ k
-
--- what a line says of the field with arm a
-module _ (s : Str) where
-  pub says-slot : (o ty : ℕ) (a : Arm) → SaysArm s (says.Slot o ty) a → IsSlot a o (kindAt (rows (drop ty s)))
-  says-slot o ty (slot sl) h =
-      let rs = rows (drop ty s) in
-      record {
-        sl = sl;
-        is = refl;
-        offsetIs = h .0;
-        kindIs = on-has (λ t. kind t ≡ kindAt rs) (typeOf 16 rs) (sl .ty) (type-kind 16 rs) (h .1);
-      }
-  says-slot o ty (group i) h = absurd h
-
-  pub says-group : (i : ℕ) (a : Arm) → SaysArm s (says.Group i) a → a ≡ group i
-  says-group i (slot sl) h = absurd h
-  says-group i (group j) h = rw h refl
-
--- ---- the loop
-
--- after k fields, with these marks and the lines so far: the fields that stand here, the marks of those before, and what is left
-pub record Going (inner : ℕ → Out Zeroing) (rs₀ : Rows) (l₀ : List ℕ) (p₀ : Lines) (rs : Rows) (k : ℕ) (marks l : List ℕ)
-    (p : Lines) : Type 0 where
-  pub here : (fs : List Field) → FieldsHere rs₀ fs → FieldsHere rs (drop k fs)
-  pub marked : (fs : List Field) → FieldsHere rs₀ fs → Marked marks (take k fs)
-  pub rest : (fs : List Field) (n : Node) (l′ : List ℕ) (p′ : Lines) → FieldsHere rs₀ fs
-      → Adds (zeroFields inner (seenAfter (tagLines n) (take k fs)) (drop k fs)) l p l′ p′
-      → Adds (zeroFields inner (tagLines n) fs) l₀ p₀ l′ p′
-
-pub going-first : (inner : ℕ → Out Zeroing) (rs : Rows) (marks l : List ℕ) (p : Lines) → Going inner rs l p rs 0 marks l p
-unfolding seenAfter
-going-first inner rs marks l p = record {
-  here = λ fs h. h;
-  marked = λ fs h. marked-none marks;
-  rest = λ fs n l′ p′ h a. a;
+-- the lines of some fields are those of others
+kept-same : (xs ys : List ℕ) (has has′ : ℕ → ℕ → Bool) → ((c o : ℕ) → has′ c o ≡ has c o) → Kept xs ys has → Kept xs ys has′
+kept-same xs ys has has′ e k = record {
+  held = λ i n. e _ _ ∙ k .held i n;
+  free = λ c o z w p f. e c o ∙ k .free c o z w p f;
 }
 
-module _ (inner : ℕ → Out Zeroing) (rs₀ : Rows) (l₀ : List ℕ) (p₀ : Lines) (rs : Rows) (k : ℕ) (marks l : List ℕ) (p : Lines)
-    (g : Going inner rs₀ l₀ p₀ rs k marks l p) where
-  module _ (s : Str) (r : FieldRead) (read : ReadsField s r (fieldOf rs)) where
-    -- no more fields
-    pub going-end : r .line ≡ says.Nothing → (fs : List Field) (n : Node) → FieldsHere rs₀ fs
-        → Adds (zeroFields inner (tagLines n) fs) l₀ p₀ l p
-    going-end e fs n h =
-        g .rest fs n l p h
-        (rw (ended-here s rs r read e (drop k fs) (g .here fs h)) (fields-none inner (seenAfter (tagLines n) (take k fs)) l p))
+-- after k fields, with this table and the lines so far: the fields that stand here, the lines of those before, and what is left
+pub record Going (inner : ℕ → Out Zeroing) (tags offset : ℕ) (rs₀ : Rows) (l₀ : List ℕ) (p₀ : Lines) (rs : Rows) (k : ℕ)
+    (xs ys l : List ℕ) (p : Lines) : Type 0 where
+  pub here : (fs : List Field) → FieldsHere rs₀ fs → FieldsHere rs (drop k fs)
+  pub kept : (fs : List Field) → FieldsHere rs₀ fs → Kept xs ys (λ c o. repeats c o (take k fs))
+  pub rest : (fs : List Field) (l′ : List ℕ) (p′ : Lines) → FieldsHere rs₀ fs
+      → Adds (zeroFields inner (seenAfter (tagLines tags offset) (take k fs)) (drop k fs)) l p l′ p′
+      → Adds (zeroFields inner (tagLines tags offset) fs) l₀ p₀ l′ p′
 
-    module _ (line : FieldLine) (is : r .line ≡ line) (some : IsField line) (marks₁ l₁ : List ℕ) (p₁ : Lines) where
-      going : ((fs : List Field) (f : Field) → SaysArm s line (f .arm) → Marked marks (take k fs)
-          → Marked marks₁ (take k fs ++ (f ∷ [])))
-          → ((fs : List Field) (f : Field) → FieldsHere rs₀ fs → SaysArm s line (f .arm)
-          → (n : Node) (l′ : List ℕ) (p′ : Lines)
-          → Adds (zeroFields inner (seenArm (seenAfter (tagLines n) (take k fs)) (f .arm)) (drop (suc k) fs)) l₁ p₁ l′ p′
-          → Adds (zeroFields inner (seenAfter (tagLines n) (take k fs)) (f ∷ drop (suc k) fs)) l p l′ p′)
-          → Going inner rs₀ l₀ p₀ (rows (drop (r .next) s)) (k + 1) marks₁ l₁ p₁
-      going mark step = rw (add-one k) (record {
-        here = λ fs h. turn s rs r read line is some k fs (g .here fs h) .next;
-        marked = λ fs h.
-            let t = turn s rs r read line is some k fs (g .here fs h) in
-            rw (t .taken) (mark fs (t .field) (t .said) (g .marked fs h));
-        rest = λ fs n l′ p′ h a.
-            let t = turn s rs r read line is some k fs (g .here fs h) in
-            g .rest fs n l′ p′ h
-            (rw (t .first) (step fs (t .field) h (t .said) n l′ p′
-            (rw (t .taken, seen-append (tagLines n) (take k fs) (t .field)) at a)));
-      })
+pub going-first : (inner : ℕ → Out Zeroing) (tags offset : ℕ) (rs : Rows) (n : ℕ) (l : List ℕ) (p : Lines)
+    → Going inner tags offset rs l p rs 0 (replicate n 0) (replicate n 0) l p
+unfolding seenAfter
+going-first inner tags offset rs n l p = record {
+  here = λ fs h. h;
+  kept = λ fs h. kept-first n;
+  rest = λ fs l′ p′ h a. a;
+}
 
-    pub going-slot : (marks₁ l₁ : List ℕ) (p₁ : Lines) (o ty : ℕ) → r .line ≡ says.Slot o ty
-        → ((fs : List Field) → FieldsHere rs₀ fs → Marked marks (take k fs)
-        → Added (slotLines (typeAt s ty) o (repeats (typeAt s ty) o (take k fs))) (eqb (typeAt s ty) 12) l p l₁ p₁)
-        → marks₁ ≡ set marks (markPlace (typeAt s ty) o) 1
-        → Going inner rs₀ l₀ p₀ (rows (drop (r .next) s)) (k + 1) marks₁ l₁ p₁
-    going-slot marks₁ l₁ p₁ o ty i a m = going (says.Slot o ty) i tt marks₁ l₁ p₁
-        (λ fs f x w.
-        let is = says-slot s o ty (f .arm) x in
-        rw m (rw (is .kindIs, is .offsetIs) at (marked-slot marks (take k fs) f (is .sl) (is .is) w)))
-        (λ fs f h x n l′ p′ w.
-        let is = says-slot s o ty (f .arm) x in
-        next-slot inner (seenAfter (tagLines n) (take k fs)) f (drop (suc k) fs) (is .sl) l p l₁ p₁ l′ p′ (is .is)
-        (rw (slot-lines n (take k fs) (is .sl), pointer-is (is .sl), is .kindIs, is .offsetIs) (a fs h (g .marked fs h))) w)
+module _ (inner : ℕ → Out Zeroing) (tags offset : ℕ) (rs₀ : Rows) (l₀ : List ℕ) (p₀ : Lines) (rs : Rows) (k : ℕ)
+    (xs ys l : List ℕ) (p : Lines) (g : Going inner tags offset rs₀ l₀ p₀ rs k xs ys l p)
+    (s : Str) (r : code.Field) (reads : (fs : List Field) → FieldsHere rs fs → ReadsFirst s r fs) where
+  -- no more fields
+  pub going-end : r ≡ read.Nothing → (fs : List Field) → FieldsHere rs₀ fs
+      → Adds (zeroFields inner (tagLines tags offset) fs) l₀ p₀ l p
+  going-end e fs h =
+      g .rest fs l p h
+      (rw (ended-here s r e (drop k fs) (reads (drop k fs) (g .here fs h)))
+      (fields-none inner (seenAfter (tagLines tags offset) (take k fs)) l p))
 
-    pub going-group : (marks₁ l₁ : List ℕ) (p₁ : Lines) (i : ℕ) → r .line ≡ says.Group i → Adds (inner i) l p l₁ p₁
-        → marks₁ ≡ marks → Going inner rs₀ l₀ p₀ (rows (drop (r .next) s)) (k + 1) marks₁ l₁ p₁
-    going-group marks₁ l₁ p₁ i e a m = going (says.Group i) e tt marks₁ l₁ p₁
-        (λ fs f x w. rw m (marked-group marks (take k fs) f i (says-group s i (f .arm) x) w))
-        (λ fs f h x n l′ p′ w.
-        next-group inner (seenAfter (tagLines n) (take k fs)) f (drop (suc k) fs) i l p l₁ p₁ l′ p′
-        (says-group s i (f .arm) x) a w)
+  -- one more field
+  module _ (some : r ≡ read.Nothing → ⊥) where
+    turns : (fs : List Field) → FieldsHere rs₀ fs → Turn s r k fs
+    turns fs h = turn s r some k fs (reads (drop k fs) (g .here fs h))
+
+    going : (xs₁ ys₁ l₁ : List ℕ) (p₁ : Lines)
+        → ((fs : List Field) → FieldsHere rs₀ fs → (f : Field) → FieldIs s r f
+        → Kept xs₁ ys₁ (λ c o. repeats c o (take k fs ++ (f ∷ []))))
+        → ((fs : List Field) → FieldsHere rs₀ fs → (f : Field) → FieldIs s r f → (l′ : List ℕ) (p′ : Lines)
+        → Adds (zeroFields inner (seenArm (seenAfter (tagLines tags offset) (take k fs)) (f .arm)) (drop (suc k) fs))
+        l₁ p₁ l′ p′
+        → Adds (zeroFields inner (seenAfter (tagLines tags offset) (take k fs)) (f ∷ drop (suc k) fs)) l p l′ p′)
+        → Going inner tags offset rs₀ l₀ p₀ (rows (drop (nextOf r) s)) (k + 1) xs₁ ys₁ l₁ p₁
+    going xs₁ ys₁ l₁ p₁ keep step = rw (add-one k) (record {
+      here = λ fs h. turns fs h .next;
+      kept = λ fs h. let t = turns fs h in rw (t .taken) (keep fs h (t .field) (t .said));
+      rest = λ fs l′ p′ h a.
+          let t = turns fs h in
+          g .rest fs l′ p′ h
+          (rw (t .first) (step fs h (t .field) (t .said) l′ p′
+          (rw (t .taken, seen-append (tagLines tags offset) (take k fs) (t .field)) at a)));
+    })
+
+  module _ (sl : Slot) (is : r ≡ read.Slot sl) where
+    -- the line of a slot
+    pub going-slot : (xs₁ ys₁ l₁ : List ℕ) (p₁ : Lines)
+        → ((fs : List Field) → FieldsHere rs₀ fs → Kept xs ys (λ c o. repeats c o (take k fs))
+        → AddedSlot (lineType (sl .kind)) (sl .offset) (take k fs) l p l₁ p₁
+        × Kept xs₁ ys₁ (withLine (lineType (sl .kind)) (sl .offset) (take k fs)))
+        → Going inner tags offset rs₀ l₀ p₀ (rows (drop (sl .next) s)) (k + 1) xs₁ ys₁ l₁ p₁
+    unfolding hasLine
+    going-slot xs₁ ys₁ l₁ p₁ a = rw is at (going (some-slot is) xs₁ ys₁ l₁ p₁
+        (λ fs h f x.
+        let w = says-slot s r f sl is x in
+        kept-same xs₁ ys₁ (withLine (lineType (sl .kind)) (sl .offset) (take k fs)) _
+        (λ c o. repeats-append c o (take k fs) f ∙ rw (w .is, w .offsetIs, w .kindIs) refl) (a fs h (g .kept fs h) .1))
+        (λ fs h f x l′ p′ v.
+        let w = says-slot s r f sl is x in
+        next-slot inner (seenAfter (tagLines tags offset) (take k fs)) f (drop (suc k) fs) (w .sl) l p l₁ p₁ l′ p′ (w .is)
+        (rw (slot-lines tags offset (take k fs) (w .sl), pointer-is (w .sl), w .kindIs, w .offsetIs)
+        (a fs h (g .kept fs h) .0)) v))
+
+  module _ (gr : Group) (is : r ≡ read.Group gr) (l₁ : List ℕ) (p₁ : Lines) (a : Adds (inner (gr .id)) l p l₁ p₁) where
+    -- the lines of a group inside
+    pub going-group : p₁ .refusal ≡ None
+        → Going inner tags offset rs₀ l₀ p₀ (rows (drop (gr .next) s)) (k + 1) xs ys l₁ p₁
+    unfolding hasLine
+    going-group n = rw is at (going (some-group is) xs ys l₁ p₁
+        (λ fs h f x.
+        let w = says-group s r f gr is x in
+        kept-same xs ys (λ c o. repeats c o (take k fs)) _
+        (λ c o. repeats-append c o (take k fs) f ∙ rw w (either-false (repeats c o (take k fs)))) (g .kept fs h))
+        (λ fs h f x l′ p′ v.
+        let w = says-group s r f gr is x in
+        next-group inner (seenAfter (tagLines tags offset) (take k fs)) f (drop (suc k) fs) (gr .id) w l p l₁ p₁ a l′ p′ n v))
+
+    -- a group inside that is refused
+    pub going-stop : (j : ℕ) → p .refusal ≡ None → p₁ .refusal ≡ Number j → (fs : List Field) → FieldsHere rs₀ fs
+        → Adds (zeroFields inner (tagLines tags offset) fs) l₀ p₀ l₁ p₁
+    going-stop j n y fs h =
+        let t = turns (some-group is) fs h in
+        let w = says-group s r (t .field) gr is (t .said) in
+        g .rest fs l₁ p₁ h
+        (rw (t .first) (next-stop inner (seenAfter (tagLines tags offset) (take k fs)) (t .field) (drop (suc k) fs) (gr .id) w
+        l p l₁ p₁ a j n y))

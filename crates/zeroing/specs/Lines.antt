@@ -1,14 +1,10 @@
 -- The lines of a group's zeroing by type and offset: when a slot's line repeats one before it. Assumes nothing.
-use mathlib.Core.Path.{_≡_}
-use mathlib.Core.Bool.{Bool, true, false}
+use mathlib.Core.Bool.{Bool, false}
 use mathlib.Core.List.{List, [], _∷_}
-use Prim.Native.Nat.{ℕ, _+_, _*_, _%_, _<_}
+use Prim.Native.Nat.{ℕ}
 use lib.Dec.{eqb, leb}
-use lib.ListN.{length, getD, drop}
 use Rattle.text.specs.Bytes.{Str, cond, both, either}
-use Rattle.row.specs.Rows.{rows}
-use Rattle.tree.specs.Tree.{kind, Arm, slot, group, Field, Node}
-use Rattle.find.specs.Find.{kindAt}
+use Rattle.tree.specs.Tree.{kind, Arm, slot, group, Field}
 use Rattle.calls.specs.Calls.{zeroBool, zeroData, zeroTag, clearPointer}
 use Rattle.codegen_types.specs.Primitive.{primitiveText}
 
@@ -36,18 +32,5 @@ abbrev pub slotLines : ℕ → ℕ → Bool → List Str
 slotLines type offset again = cond (eqb type 0) [] (cond again [] (zeroText type offset ∷ []))
 
 -- the tag's line, where a node has a tag
-abbrev pub tagLines : Node → List Str
-tagLines n = cond (eqb (n .tagCount) 0) [] (zeroTag (n .tagOffset) ∷ [])
-
--- the type of the line of a slot whose type stands at a position
-abbrev pub typeAt : Str → ℕ → ℕ
-typeAt s ty = lineType (kindAt (rows (drop ty s)))
-
--- the place of a line's mark
-abbrev pub markPlace : ℕ → ℕ → ℕ
-markPlace type offset = offset % 64 * 16 + type % 16
-
--- every line of some fields has its mark set, if there is a place for it: a line whose mark is not set is none of them
-pub record Marked (marks : List ℕ) (fs : List Field) : Type 0 where
-  pub set : (type offset : ℕ) → repeats type offset fs ≡ true → markPlace type offset < length marks
-      → getD marks (markPlace type offset) 0 ≡ 1
+abbrev pub tagLines : ℕ → ℕ → List Str
+tagLines tagCount tagOffset = cond (eqb tagCount 0) [] (zeroTag tagOffset ∷ [])

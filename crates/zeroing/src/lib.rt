@@ -1,137 +1,176 @@
-// The zeroing of a group: `zero_fields_of_group` of codegen.rs, its refusal and its text, from the sheet's rows.
+// The zeroing of a group: `zero_fields_of_group` of codegen.rs, its text or its refusal, from the sheet's rows.
 use codegen_types::Refusal;
-use find::Found;
-use place::FieldLine;
+use field::Field;
+use field::Slot;
+use nodes::Found;
 use text::Text;
 ghost use mathlib.Core.Path.{_≡_};
 ghost use mathlib.Core.Bool.{false};
 ghost use mathlib.Core.List.{List};
+ghost use Prim.Native.Nat.{_<_};
 ghost use lib.Dec.{eqb};
-ghost use lib.ListN.{drop, set, take};
-ghost use Rattle.text.specs.Bytes.{either};
+ghost use lib.ListN.{length, drop, take};
+ghost use Rattle.text.specs.Bytes.{Str, both, either};
 ghost use Rattle.text.specs.Text.{Wrote};
 ghost use Rattle.row.specs.Rows.{rows};
-ghost use Rattle.tree.specs.Tree.{Arm, Field, Node};
-ghost use Rattle.codegen_types.specs.Out.{refusalOf};
-ghost use Rattle.place.specs.Place.{NodeAt, SaysArm};
-ghost use Rattle.type_refusal.specs.Told.{ForAll};
-ghost use Rattle.codegen.specs.Zeroing.{zeroFieldsOfGroup, zeroingRequest};
-ghost use Rattle.zeroing.specs.Lines.{lineType, zeroText, hasLine, repeats, slotLines, tagLines};
-ghost use Rattle.zeroing.specs.Lines.{typeAt, markPlace, Marked};
-ghost use Rattle.place.specs.Fields.{FieldsHere};
-ghost use Rattle.zeroing.specs.Told.{Added, Adds, Zeroes};
+ghost use Rattle.tree.specs.Tree as tree;
+ghost use Rattle.tree.specs.Fields.{FieldsHere};
+ghost use Rattle.nodes.specs.Index.{ForAll};
+ghost use Rattle.codegen.specs.Zeroing.{zeroFieldsOfGroup};
+ghost use Rattle.zeroing.specs.Lines.{lineType, zeroText, repeats, slotLines, tagLines};
+ghost use Rattle.zeroing.specs.Table.{size, stops, placeOf, Knows, Kept, withLine};
+ghost use Rattle.zeroing.specs.Added.{Added, AddedSlot, Adds};
+ghost use Rattle.zeroing.specs.Told.{Zeroes};
 
-// The lines so far: the text state after them, whether one clears a pointer, and whether there is one.
+// How many lines of one group the table has room for. A sheet of 65,536 bytes has 300 slots at most.
+const SIZE: usize = 307;
+
+// The lines so far: the text state after them, whether one clears a pointer, whether there is one, and the refusal, if one was
+// met.
 struct Lines {
     text: Text,
     clear: bool,
     any: bool,
+    refusal: Refusal,
 }
 
-// A zeroing that was written: the text state after it, and whether a line of it clears a pointer.
+// A zeroing: the text state after it, whether a line of it clears a pointer, and its refusal.
 pub struct Zeroed {
     pub text: Text,
     pub clear: bool,
+    pub refusal: Refusal,
 }
 
 // The type of a slot's line by its kind.
-fn line_type(kind: u64) -> u64
+fn line_type(kind: u64) -> u8
     ensures { λ r. ⌜ r ≡ lineType kind ⌝ }
 {
     if kind == 15 {
         return 7;
     }
     if kind <= 11 {
-        return kind;
+        return kind as u8;
     }
     12
 }
 
-// Whether the field with this row has the line of a type at an offset.
-fn has_line(s: &[u8], line: FieldLine, typ: u64, offset: u64) -> bool
-    ensures { λ r. ⌜ ((a : Arm) → SaysArm (now (s .entry)) line a → r ≡ hasLine typ offset a) ⌝ }
+// Whether a slot has the line of a type at an offset.
+fn has_line(slot: Slot, typ: u8, offset: u64) -> bool
+    ensures { λ r. ⌜ r ≡ both (eqb (slot .offset) offset) (eqb (lineType (slot .kind)) typ) ⌝ }
 {
-    match line {
-        FieldLine::Slot { offset: o, ty } => {
-            if o == offset {
-                return line_type(find::kind(s, ty)) == typ;
-            }
-            false
-        }
-        _ => false,
+    if slot.offset == offset {
+        return line_type(slot.kind) == typ;
     }
+    false
 }
 
-// Whether one of so many fields from a position on has the line of a type at an offset.
-fn is_repeat(s: &[u8], first: usize, count: usize, typ: u64, offset: u64) -> bool
-    ensures { λ r. ⌜ ((fs : List Field) → FieldsHere (rows (drop first (now (s .entry)))) fs
+// Whether one of so many fields from a position on has the line of a type at an offset: they are read again.
+fn is_repeat(s: &[u8], first: usize, count: usize, typ: u8, offset: u64) -> bool
+    ensures { λ r. ⌜ ((fs : List tree.Field) → FieldsHere (rows (drop first (now (s .entry)))) fs
         → r ≡ repeats typ offset (take count fs)) ⌝ }
 {
     let mut at = first;
     let mut n = count;
     while 0 < n {
-        let f = place::read_field(s, at);
-        let line = f.line;
-        if let FieldLine::Nothing = line {
-            return false;
+        let f = field::read(s, at);
+        match f {
+            Field::Slot(slot) => {
+                if has_line(slot, typ, offset) {
+                    return true;
+                }
+                at = slot.next;
+                n -= 1;
+                continue;
+            }
+            Field::Group(group) => {
+                at = group.next;
+                n -= 1;
+                continue;
+            }
+            Field::Nothing => return false,
         }
-        if has_line(s, line, typ, offset) {
-            return true;
-        }
-        at = f.next;
-        n -= 1;
     }
     false
 }
 
-// The place of a line's mark, by its type and offset.
-fn mark_place(typ: u64, offset: u64) -> usize
-    ensures { λ r. ⌜ r ≡ markPlace typ offset ⌝ }
+// Whether a place of the table is free, or has the line of a type at an offset.
+fn is_stop(offsets: &[u32], types: &[u8], i: usize, typ: u8, offset: u64) -> bool
+    requires { ⌜ (i < length (now offsets)) × (i < length (now types)) ⌝ }
+    ensures { λ r. ⌜ r ≡ stops (now (offsets .entry)) (now (types .entry)) typ offset i ⌝ }
 {
-    (offset % 64 * 16 + typ % 16) as usize
-}
-
-// Sets the mark of a line.
-fn mark(marks: &mut [u8], typ: u64, offset: u64)
-    ensures { λ r. ⌜ now (marks .exit) ≡ set (now (marks .entry)) (markPlace typ offset) 1 ⌝ }
-{
-    let at = mark_place(typ, offset);
-    if marks.len() <= at {
-        return;
+    if types[i] == 0 {
+        return true;
     }
-    marks[at] = 1;
+    if types[i] == typ {
+        return offsets[i] as u64 == offset;
+    }
+    false
 }
 
-// Whether one of so many fields from a position on has the line of a type at an offset. Where its mark is 0 none has, and no
-// search is made.
-fn is_known(s: &[u8], first: usize, count: usize, marks: &[u8], typ: u64, offset: u64) -> bool
-    ensures { λ r. ⌜ ((fs : List Field) → FieldsHere (rows (drop first (now (s .entry)))) fs
-        → Marked (now (marks .entry)) (take count fs) → r ≡ repeats typ offset (take count fs)) ⌝ }
+// The place of the line of a type at an offset in the table: the first one, from the line's own on, that has the line or is
+// free. The table's size where there is none.
+fn place(offsets: &[u32], types: &[u8], typ: u8, offset: u64) -> usize
+    requires { ⌜ (length (now offsets) ≡ size) × (length (now types) ≡ size) ⌝ }
+    ensures { λ r. ⌜ r ≡ placeOf (now (offsets .entry)) (now (types .entry)) typ offset ⌝ }
 {
-    let at = mark_place(typ, offset);
-    if at < marks.len() {
-        if marks[at] == 0 {
-            return false;
+    let mut i = ((offset % 65536) as usize * 13 + typ as usize) % SIZE;
+    let mut left = SIZE;
+    while 0 < left {
+        if is_stop(offsets, types, i, typ, offset) {
+            return i;
         }
+        i = (i + 1) % SIZE;
+        left -= 1;
     }
-    is_repeat(s, first, count, typ, offset)
+    SIZE
+}
+
+// Whether a group has the line of a type at an offset already, after `count` fields, the first of them at `first`. If not, the
+// table keeps it. A line that has no place there, or whose offset has more than 32 bits, is sought by reading the fields again.
+fn is_known(
+    s: &[u8],
+    first: usize,
+    count: usize,
+    offsets: &mut [u32],
+    types: &mut [u8],
+    typ: u8,
+    offset: u64,
+) -> bool
+    requires { ⌜ (length (now offsets) ≡ size) × (length (now types) ≡ size) × (typ ≡ 0 → ⊥) ⌝ }
+    ensures { λ r. ⌜ ((fs : List tree.Field) → FieldsHere (rows (drop first (now (s .entry)))) fs
+        → Kept (now (offsets .entry)) (now (types .entry)) (λ c o. repeats c o (take count fs))
+        → Knows typ offset (take count fs) r (now (offsets .exit)) (now (types .exit))) ⌝ }
+{
+    if 0xffff_ffff < offset {
+        return is_repeat(s, first, count, typ, offset);
+    }
+    let i = place(offsets, types, typ, offset);
+    if SIZE <= i {
+        return is_repeat(s, first, count, typ, offset);
+    }
+    if types[i] != 0 {
+        return true;
+    }
+    types[i] = typ;
+    offsets[i] = offset as u32;
+    false
 }
 
 // The line of a type at an offset.
-fn zero_line(t: Text, buf: &mut [u8], typ: u64, offset: u64) -> Text
+fn zero_line(typ: u8, offset: u64, t: Text, buf: &mut [u8]) -> Text
     ensures { λ r. ⌜ Wrote (now (buf .entry)) t (zeroText typ offset) (now (buf .exit)) r ⌝ }
 {
     if typ == 1 {
         return calls::zero_bool(t, buf, offset);
     }
     if typ <= 11 {
-        return codegen::zero_number(t, buf, typ, offset);
+        return codegen::zero_number(typ as u64, offset, t, buf);
     }
     calls::clear_pointer(t, buf, offset)
 }
 
 // Whether a line clears a pointer, once there is one of this type too.
-fn clears(before: bool, typ: u64) -> bool
+fn clears(before: bool, typ: u8) -> bool
     ensures { λ r. ⌜ r ≡ either before (eqb typ 12) ⌝ }
 {
     if before {
@@ -140,183 +179,167 @@ fn clears(before: bool, typ: u64) -> bool
     typ == 12
 }
 
-// The line of a type at an offset after the lines so far: none for Void, none where it is one of them.
-fn next_line(typ: u64, offset: u64, again: bool, p: Lines, buf: &mut [u8]) -> Lines
+// The line of a type at an offset after the lines so far: none where it is one of them.
+fn next_line(typ: u8, offset: u64, again: bool, p: Lines, buf: &mut [u8]) -> Lines
+    requires { ⌜ (typ ≡ 0 → ⊥) ⌝ }
     ensures { λ r. ⌜ Added (slotLines typ offset again) (eqb typ 12) (now (buf .entry)) p (now (buf .exit)) r ⌝ }
 {
-    if typ == 0 {
-        return p;
-    }
     let t = p.text;
     let clear = clears(p.clear, typ);
+    let refusal = p.refusal;
     if again {
         return Lines {
             text: t,
             clear,
             any: p.any,
+            refusal,
         };
     }
-    let t = zero_line(t, buf, typ, offset);
+    let t = zero_line(typ, offset, t, buf);
     let t = t.byte(buf, b'\n');
     Lines {
         text: t,
         clear,
         any: true,
+        refusal,
     }
 }
 
-// The line of the slot with this type and offset, after `count` fields of its group, the first of them at `first`.
+// The line of a slot, after `count` fields of its group, the first of them at `first`: none for Void.
 fn zero_slot(
     s: &[u8],
     first: usize,
     count: usize,
-    marks: &mut [u8],
-    ty: usize,
-    offset: u64,
+    offsets: &mut [u32],
+    types: &mut [u8],
+    slot: Slot,
     p: Lines,
     buf: &mut [u8],
 ) -> Lines
-    ensures lines { λ r. ⌜ ((fs : List Field) → FieldsHere (rows (drop first (now (s .entry)))) fs
-        → Marked (now (marks .entry)) (take count fs)
-        → Added (slotLines (typeAt (now (s .entry)) ty) offset (repeats (typeAt (now (s .entry)) ty) offset (take count fs)))
-        (eqb (typeAt (now (s .entry)) ty) 12) (now (buf .entry)) p (now (buf .exit)) r) ⌝ }
-    ensures marked { λ r. ⌜ now (marks .exit)
-        ≡ set (now (marks .entry)) (markPlace (typeAt (now (s .entry)) ty) offset) 1 ⌝ }
+    requires { ⌜ (length (now offsets) ≡ size) × (length (now types) ≡ size) ⌝ }
+    ensures refusal { λ r. ⌜ r .refusal ≡ p .refusal ⌝ }
+    ensures lines { λ r. ⌜ ((fs : List tree.Field) → FieldsHere (rows (drop first (now (s .entry)))) fs
+        → Kept (now (offsets .entry)) (now (types .entry)) (λ c o. repeats c o (take count fs))
+        → AddedSlot (lineType (slot .kind)) (slot .offset) (take count fs) (now (buf .entry)) p (now (buf .exit)) r
+        × Kept (now (offsets .exit)) (now (types .exit)) (withLine (lineType (slot .kind)) (slot .offset) (take count fs))) ⌝ }
 {
-    let typ = line_type(find::kind(s, ty));
-    let again = is_known(s, first, count, marks, typ, offset);
-    mark(marks, typ, offset);
+    let typ = line_type(slot.kind);
+    let offset = slot.offset;
+    if typ == 0 {
+        return p;
+    }
+    let again = is_known(s, first, count, offsets, types, typ, offset);
     next_line(typ, offset, again, p, buf)
 }
 
 // The line of a node's tag, where it has one.
-fn tag_line(s: &[u8], node: usize, p: Lines, buf: &mut [u8]) -> Lines
-    ensures { λ r. ⌜ ((n : Node) → NodeAt (now (s .entry)) node n
-        → Added (tagLines n) false (now (buf .entry)) p (now (buf .exit)) r) ⌝ }
+fn tag_line(tag_count: u64, tag_offset: u64, p: Lines, buf: &mut [u8]) -> Lines
+    ensures { λ r. ⌜ Added (tagLines «tag_count» «tag_offset») false (now (buf .entry)) p (now (buf .exit)) r ⌝ }
 {
-    let n = place::node_line(s, node);
-    if n.tag_count == 0 {
+    if tag_count == 0 {
         return p;
     }
-    let t = calls::zero_tag(p.text, buf, n.tag_offset);
+    let refusal = p.refusal;
+    let t = calls::zero_tag(p.text, buf, tag_offset);
     let t = t.byte(buf, b'\n');
     Lines {
         text: t,
         clear: p.clear,
         any: true,
+        refusal,
     }
 }
 
-// The lines of the group with this id, with so many levels left. The request is known not to be refused. An inner group has
-// marks of its own: repeats are dropped inside one group only.
+// The lines so far with a refusal: what was written counts for nothing.
+fn refused(p: Lines, number: u8) -> Lines
+    ensures { λ r. ⌜ r .refusal ≡ Refusal.Number number ⌝ }
+{
+    let t = p.text;
+    Lines {
+        text: t,
+        clear: p.clear,
+        any: p.any,
+        refusal: Refusal::Number(number),
+    }
+}
+
+// The lines of the group with this id, with so many levels left, or the refusal that is met first. An inner group has a table
+// of its own: repeats are dropped inside one group only.
 fn zero_fields_of_group(
     s: &[u8],
-    ids: &[u64],
-    ats: &[usize],
+    index: &[u64],
     id: u64,
     left: usize,
     before: Lines,
     buf: &mut [u8],
 ) -> Lines
-    ensures { λ r. ⌜ ForAll (now (s .entry)) (now (ids .entry)) (now (ats .entry)) (λ sheet.
-        Adds (zeroFieldsOfGroup sheet left id) (now (buf .entry)) before (now (buf .exit)) r) ⌝ }
+    requires { ⌜ before .refusal ≡ Refusal.None ⌝ }
+    ensures { λ r. ⌜ ((root : Str) → ForAll root (now (s .entry)) (now (index .entry)) (λ sheet.
+        Adds (zeroFieldsOfGroup sheet left id) (now (buf .entry)) before (now (buf .exit)) r)) ⌝ }
 {
     if left == 0 {
-        return before;
+        return refused(before, 4);
     }
-    let Found::At(node) = find::node(ids, ats, id) else {
-        return before;
+    let Found::At(node) = nodes::find(index, id) else {
+        return refused(before, 5);
     };
-    let first = place::first_field(s, node);
-    let mut marks = [0u8; 1024];
-    let mut p = tag_line(s, node, before, buf);
+    if node.is_struct != 1 {
+        return refused(before, 14);
+    }
+    let mut offsets = [0u32; SIZE];
+    let mut types = [0u8; SIZE];
+    let mut p = tag_line(node.tag_count, node.tag_offset, before, buf);
+    let first = node.fields;
     let mut at = first;
     let mut count = 0;
     loop {
-        let f = place::read_field(s, at);
-        let line = f.line;
-        match line {
-            FieldLine::Slot { offset, ty } => {
-                p = zero_slot(s, first, count, &mut marks, ty, offset, p, buf);
-                at = f.next;
+        let f = field::read(s, at);
+        match f {
+            Field::Slot(slot) => {
+                p = zero_slot(s, first, count, &mut offsets, &mut types, slot, p, buf);
+                at = slot.next;
                 count += 1;
                 continue;
             }
-            FieldLine::Group { id: inner } => {
-                p = zero_fields_of_group(s, ids, ats, inner, left - 1, p, buf);
-                at = f.next;
+            Field::Group(inner) => {
+                p = zero_fields_of_group(s, index, inner.id, left - 1, p, buf);
+                let refusal = p.refusal;
+                if let Refusal::Number(_) = refusal {
+                    return p;
+                }
+                at = inner.next;
                 count += 1;
                 continue;
             }
-            FieldLine::Nothing => return p,
+            Field::Nothing => return p,
         }
     }
 }
 
-// The zeroing of the group with this id: its text, where it has one.
-pub fn zeroing(s: &[u8], ids: &[u64], ats: &[usize], id: u64, t: Text, buf: &mut [u8]) -> Zeroed
-    ensures { λ r. ⌜ ForAll (now (s .entry)) (now (ids .entry)) (now (ats .entry)) (λ sheet.
-        Zeroes (zeroFieldsOfGroup sheet 16 id) (now (buf .entry)) t (now (buf .exit)) r) ⌝ }
+// The zeroing of the group with this id: its text, or its refusal.
+pub fn zeroing(s: &[u8], index: &[u64], id: u64, t: Text, buf: &mut [u8]) -> Zeroed
+    ensures { λ r. ⌜ ((root : Str) → ForAll root (now (s .entry)) (now (index .entry)) (λ sheet.
+        Zeroes (zeroFieldsOfGroup sheet 16 id) (now (buf .entry)) t (now (buf .exit)) r)) ⌝ }
 {
     let none = Lines {
         text: t,
         clear: false,
         any: false,
+        refusal: Refusal::None,
     };
-    let p = zero_fields_of_group(s, ids, ats, id, 16, none, buf);
+    let p = zero_fields_of_group(s, index, id, 16, none, buf);
     let t = p.text;
+    let refusal = p.refusal;
     if p.any {
         return Zeroed {
             text: t,
             clear: p.clear,
+            refusal,
         };
     }
     Zeroed {
         text: t.no_lines(buf),
         clear: p.clear,
+        refusal,
     }
-}
-
-// The refusal of the group with this id, with so many levels left: the first that is met in the order of the fields.
-fn group_refusal(s: &[u8], ids: &[u64], ats: &[usize], id: u64, left: usize) -> Refusal
-    ensures { λ r. ⌜ ForAll (now (s .entry)) (now (ids .entry)) (now (ats .entry))
-        (λ sheet. r ≡ refusalOf (zeroFieldsOfGroup sheet left id)) ⌝ }
-{
-    if left == 0 {
-        return Refusal::Number(4);
-    }
-    let Found::At(node) = find::node(ids, ats, id) else {
-        return Refusal::Number(5);
-    };
-    let n = place::node_line(s, node);
-    if n.is_struct != 1 {
-        return Refusal::Number(14);
-    }
-    let mut at = place::first_field(s, node);
-    loop {
-        let f = place::read_field(s, at);
-        let line = f.line;
-        match line {
-            FieldLine::Slot { offset: _, ty: _ } => {
-                at = f.next;
-                continue;
-            }
-            FieldLine::Group { id: inner } => {
-                if let Refusal::Number(number) = group_refusal(s, ids, ats, inner, left - 1) {
-                    return Refusal::Number(number);
-                }
-                at = f.next;
-                continue;
-            }
-            FieldLine::Nothing => return Refusal::None,
-        }
-    }
-}
-
-// The refusal of the zeroing of the group with this id.
-pub fn zeroing_refusal(s: &[u8], ids: &[u64], ats: &[usize], id: u64) -> Refusal
-    ensures { λ r. ⌜ ForAll (now (s .entry)) (now (ids .entry)) (now (ats .entry))
-        (λ sheet. r ≡ refusalOf (zeroingRequest sheet id)) ⌝ }
-{
-    group_refusal(s, ids, ats, id, 16)
 }

@@ -82,7 +82,10 @@ pub fn names() -> Vec<String> {
     }
     names.push("zero group".to_string());
     names.extend(hostile::all().iter().filter(|corner| last_field(&corner.sheet).is_some()).map(worst_name));
-    names.extend(sheets::WHOLE.iter().map(|(name, _)| format!("accessors {name}")));
+    for (shape, _) in hostile::GROWING {
+        names.extend(sheets::SIZES.iter().map(|(size, _)| format!("grows {shape}-{size}")));
+    }
+    names.extend(sheets::whole().into_iter().map(|(name, _)| format!("accessors {name}")));
     names
 }
 
@@ -91,7 +94,8 @@ pub fn work(name: &str, side: Side) -> Option<Round> {
     match name.split_once(' ')? {
         ("leaf", name) => leaves::work(name, side),
         ("admit", sheet) => admission(sheets::admitted().into_iter().find(|(name, _)| name == sheet)?.1(), side),
-        ("accessors", sheet) => program(sheets::WHOLE.iter().find(|(name, _)| *name == sheet)?.1, side),
+        ("accessors", sheet) => program(sheets::whole().into_iter().find(|(name, _)| name == sheet)?.1(), side),
+        ("grows", name) => grows(name, side),
         ("zero", "group") => request(sheets::group_sheet(), FIRST, Request::Zero, side),
         ("worst", _) => worst(hostile::all().into_iter().find(|corner| worst_name(corner) == name)?.sheet, side),
         (request_name, slot) => {
@@ -145,6 +149,21 @@ fn worst(sheet: Sheet, side: Side) -> Option<Round> {
     request(sheet, at, asked, side)
 }
 
+/// The setter of the last slot, or the zeroing of the last group, of a growing shape at a size.
+fn grows(name: &str, side: Side) -> Option<Round> {
+    let (shape, size) = name.rsplit_once('-')?;
+    let (_, size) = sheets::SIZES.iter().find(|(known, _)| *known == size)?;
+    let (_, shape) = hostile::GROWING.iter().find(|(known, _)| *known == shape)?;
+    let sheet = hostile::growing(*shape, *size);
+    let at = last_field(&sheet)?;
+    let node = sheet.nodes.iter().find(|node| node.id == at.0)?;
+    let asked = match node.fields[at.1] {
+        Field::Slot(_) => Request::Setter,
+        Field::Group(_) => Request::Zero,
+    };
+    request(sheet, at, asked, side)
+}
+
 /// The answer to a request on a field.
 fn request(sheet: Sheet, at: FieldAt, request: Request, side: Side) -> Option<Round> {
     let bytes = print(&sheet);
@@ -176,8 +195,7 @@ fn admission(bytes: Vec<u8>, side: Side) -> Option<Round> {
 }
 
 /// A whole sheet. The program of Kitlubas is measured by itself, on the bytes that `sheet` gives.
-fn program(size: usize, side: Side) -> Option<Round> {
-    let bytes = print(&sheets::ordinary(size));
+fn program(bytes: Vec<u8>, side: Side) -> Option<Round> {
     match side {
         Side::RustFromBytes => Some(Box::new(move || discard(accessors(black_box(&bytes))))),
         _ => None,
@@ -197,6 +215,5 @@ pub fn nanoseconds(mut round: Round) -> f64 {
 
 /// The bytes of a case about whole sheets.
 pub fn sheet(name: &str) -> Option<Vec<u8>> {
-    let (_, size) = sheets::WHOLE.iter().find(|(known, _)| *known == name)?;
-    Some(print(&sheets::ordinary(*size)))
+    Some(sheets::whole().into_iter().find(|(known, _)| known == name)?.1())
 }

@@ -1,15 +1,33 @@
 //! The sheets of the measured cases: ordinary ones and the worst known, at a quarter, a half and the whole of 65,536 bytes.
 
 use crate::generate::corners::{group, node, slot};
-use crate::generate::filled;
+use crate::generate::{filled, hostile};
 use crate::sheet::print::print;
 use crate::sheet::{Binding, Node, Scope, Sheet, Slot, Type, MAX_BYTES};
 
 /// Sizes of the ordinary sheets that the whole program is measured on.
-pub const WHOLE: [(&str, usize); 4] = [("1K", 1_024), ("8K", 8_192), ("32K", 32_768), ("64K", MAX_BYTES)];
+const ORDINARY: [(&str, usize); 4] = [("1K", 1_024), ("8K", 8_192), ("32K", 32_768), ("64K", MAX_BYTES)];
+
+/// Sizes at which growth is measured.
+pub const SIZES: [(&str, usize); 3] = [("16K", MAX_BYTES / 4), ("32K", MAX_BYTES / 2), ("64K", MAX_BYTES)];
 
 /// A case's name and how its sheet is made.
 type Made = (String, Box<dyn Fn() -> Vec<u8>>);
+
+/// The sheets that the whole program is measured on: ordinary ones, growing shapes, and nodes without fields.
+pub fn whole() -> Vec<Made> {
+    let mut sheets: Vec<Made> = Vec::new();
+    for (name, size) in ORDINARY {
+        sheets.push((name.to_string(), Box::new(move || print(&ordinary(size)))));
+    }
+    for (name, shape) in hostile::GROWING {
+        for (label, size) in SIZES {
+            sheets.push((format!("{name}-{label}"), Box::new(move || print(&hostile::growing(shape, size)))));
+        }
+    }
+    sheets.push(("64-nodes".to_string(), Box::new(|| print(&Sheet::of((1..=64).map(|id| node(id, 0, "bed", &[])).collect())))));
+    sheets
+}
 
 /// The sheets that admission is measured on.
 pub fn admitted() -> Vec<Made> {
@@ -24,7 +42,7 @@ pub fn admitted() -> Vec<Made> {
     ];
     let mut sheets: Vec<Made> = Vec::new();
     for (name, shape) in shapes {
-        for (size, label) in [(MAX_BYTES / 4, "16K"), (MAX_BYTES / 2, "32K"), (MAX_BYTES, "64K")] {
+        for (label, size) in SIZES {
             sheets.push((format!("{name}-{label}"), Box::new(move || print(&shape(size)))));
         }
     }

@@ -121,6 +121,38 @@ fn a_small_stack() {
             assert!(requests().iter().all(|&request| text(&bytes, 7, 0, request).is_ok()));
         }
     };
+    on_a_small_stack(work);
+}
+
+/// Runs on a thread of exactly the stack that the crate promises to get along with.
+fn on_a_small_stack(work: impl FnOnce() + Send + 'static) {
     let thread = thread::Builder::new().stack_size(64 * 1024).spawn(work).expect("a thread can be started");
     thread.join().expect("the work is done");
+}
+
+/// A brand 16 deep over a chain of 16 nodes, bound by the outermost, by the innermost and by every second node.
+#[test]
+fn the_deepest_brands_on_a_small_stack() {
+    let chain: String = (1..=16).map(|id| format!("N {id} {} 0 1 1 0 0 bed\nP Plan\n", if id == 16 { 0 } else { id + 1 })).collect();
+    let brand = |scopes: &[u64], inner: &str| {
+        let plain: String = scopes[1..].iter().map(|id| format!("S {id} 1 1\nT 12 0 0 0\n")).collect();
+        format!("T 16 1 {} 0\nS {} 1 1\n{inner}{plain}", scopes.len(), scopes[0])
+    };
+    for scopes in [vec![16], vec![1], (1..=16).step_by(2).collect::<Vec<u64>>()] {
+        let typ = (0..15).fold("T 12 0 0 0\n".to_string(), |inner, _| brand(&scopes, &inner));
+        let bytes = sheet(&format!("R ::capnp\n{chain}N 17 0 0 1 0 0 0 ward\nF 0 65535 0 0 plan\n{typ}V 16 0\n"));
+        on_a_small_stack(move || assert!(requests().iter().all(|&request| text(&bytes, 17, 0, request).is_ok())));
+    }
+}
+
+/// Groups 16 deep, each with slots and a tag.
+#[test]
+fn the_deepest_groups_on_a_small_stack() {
+    let slots = "F 1 65535 0 0 a\nT 7 0 0 0\nV 7 0\nF 1 65535 0 0 b\nT 12 0 0 0\nV 12 0\n";
+    let nodes: String = (1..=16)
+        .map(|id| format!("N {id} 0 0 1 0 2 9 bed\n{slots}G {} 65535 inner\n", id + 1))
+        .chain([format!("N 17 0 0 1 0 2 9 bed\n{slots}")])
+        .collect();
+    let bytes = sheet(&format!("R ::capnp\n{nodes}"));
+    on_a_small_stack(move || assert!(text(&bytes, 1, 2, Request::Zeroing).is_ok()));
 }

@@ -12,7 +12,7 @@ returns c =
     let c3 = c .before .before in
     let c2 = c3 .before .before in
     let c1 = c2 .before in
-    λ s k o. rw (haser-none _ _ _ s _ (pointer-is s _ _ k (c1 .is-pointer .ensures) ∙ not-true _ (c2 .if1 .taken)))
+    λ s h. rw (haser-none _ _ _ s _ (pointer-is s _ _ (h .kind) (c1 .is-pointer .ensures) ∙ not-true _ (c2 .if1 .taken)))
     (c3 .no-lines .ensures)
 
 same-length-2 : tie.Need-same-length-2
@@ -39,8 +39,8 @@ returns-2 c =
     let c3 = c4 .before .before .before .before in
     let c2 = c3 .before .before .before in
     let c1 = c2 .before in
-    λ s k o.
-    rw (haser-lines _ _ _ s _ (pointer-is s _ _ k (c1 .is-pointer .ensures) ∙ not-false _ (c2 .if1 .left)), o)
+    λ s h.
+    rw (haser-lines _ _ _ s _ (pointer-is s _ _ (h .kind) (c1 .is-pointer .ensures) ∙ not-false _ (c2 .if1 .left)), h .offset)
     (c3 .bytes .ensures ⨾ c4 .snake-name .ensures ⨾ c5 .bytes2 .ensures ⨾ c6 .tag-test-line .ensures
     ⨾ c7 .bytes3 .ensures ⨾ c8 .not-null .ensures ⨾ c9 .bytes4 .ensures)
 

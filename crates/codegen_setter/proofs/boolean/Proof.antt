@@ -20,7 +20,7 @@ same-length c =
     let c3 = c4 .before .before .before .before .before in
     let c2 = c3 .before .before .before .before in
     let c1 = c2 .before .before .before .before .before in
-    kept (c6 .bytes3 .ensures) ∙ (c5 .set-bool .kept .1 .0) ∙ kept
+    kept (c6 .bytes3 .ensures) ∙ (c5 .set-bool .kept .1 .1 .1 .1 .0) ∙ kept
     (c1 .set-open .ensures ⨾ c2 .bytes .ensures ⨾ c3 .tag-line .ensures ⨾ c4 .bytes2 .ensures)
 
 returns : tie.Need-returns
@@ -32,10 +32,10 @@ returns c =
     let c3 = c4 .before .before .before .before in
     let c2 = c3 .before .before .before .before .before in
     let c1 = c2 .before .before .before in
-    λ root. masked-text root (c1 .args .tag) (nameOf (c1 .args .name)) (c1 .args .discriminant) (ascii "bool")
-    (setBoolField (c1 .args .offset) (ascii "value"))
-    (primDefault (value (c1 .args .default) (c1 .args .bits)))
-    (retext (bool-open (nameOf (c1 .args .name)) (tagLine (c1 .args .tag) (c1 .args .discriminant))) (c2 .set-open .ensures
+    λ root. masked-text root (c1 .args .tag) (nameOf (c1 .args .name)) (c1 .args .slot .discriminant) (ascii "bool")
+    (setBoolField (c1 .args .slot .offset) (ascii "value"))
+    (primDefault (value (c1 .args .slot .default) (c1 .args .slot .bits)))
+    (retext (bool-open (nameOf (c1 .args .name)) (tagLine (c1 .args .tag) (c1 .args .slot .discriminant))) (c2 .set-open .ensures
     ⨾ c3 .bytes .ensures ⨾ c4 .tag-line .ensures ⨾ c5 .bytes2 .ensures)) (c6 .set-bool .ensures) (c7 .bytes3 .ensures)
 
 pub boolean-spec : {M : Type 1} → statement M

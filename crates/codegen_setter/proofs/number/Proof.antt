@@ -20,7 +20,7 @@ same-length c =
     let c3 = c4 .before .before .before .before in
     let c2 = c3 .before .before .before .before .before in
     let c1 = c2 .before .before .before .before in
-    kept (c7 .bytes3 .ensures) ∙ (c6 .set-number .kept .1 .0) ∙ kept
+    kept (c7 .bytes3 .ensures) ∙ (c6 .set-number .kept .1 .1 .1 .1 .1 .0) ∙ kept
     (c1 .set-open .ensures ⨾ c2 .type-name .ensures ⨾ c3 .bytes .ensures ⨾ c4 .tag-line .ensures ⨾ c5 .bytes2 .ensures)
 
 returns : tie.Need-returns
@@ -33,9 +33,10 @@ returns c =
     let c3 = c4 .before .before .before .before .before in
     let c2 = c3 .before .before .before .before in
     let c1 = c2 .before .before .before in
-    λ root. masked-text root (c1 .args .tag) (nameOf (c1 .args .name)) (c1 .args .discriminant) (primitiveText (c1 .args .kind))
-    (setDataField (primitiveText (c1 .args .kind)) (c1 .args .offset) (ascii "value"))
-    (primDefault (value (c1 .args .default) (c1 .args .bits))) (c2 .set-open .ensures ⨾ c3 .type-name .ensures
+    λ root. masked-text root (c1 .args .tag) (nameOf (c1 .args .name)) (c1 .args .slot .discriminant)
+    (primitiveText (c1 .args .slot .kind))
+    (setDataField (primitiveText (c1 .args .slot .kind)) (c1 .args .slot .offset) (ascii "value"))
+    (primDefault (value (c1 .args .slot .default) (c1 .args .slot .bits))) (c2 .set-open .ensures ⨾ c3 .type-name .ensures
     ⨾ c4 .bytes .ensures ⨾ c5 .tag-line .ensures ⨾ c6 .bytes2 .ensures) (c7 .set-number .ensures) (c8 .bytes3 .ensures)
 
 pub number-spec : {M : Type 1} → statement M

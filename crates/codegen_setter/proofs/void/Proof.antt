@@ -15,7 +15,7 @@ returns c =
     let c3 = c4 .before .before .before .before .before in
     let c2 = c3 .before .before .before .before in
     let c1 = c2 .before .before .before .before in
-    λ root. retext (void-text root (c1 .args .tag) (nameOf (c1 .args .name)) (c1 .args .discriminant)) (c2 .bytes .ensures
+    λ root. retext (void-text root (c1 .args .tag) (nameOf (c1 .args .name)) (c1 .args .slot .discriminant)) (c2 .bytes .ensures
     ⨾ c3 .write .ensures ⨾ c4 .bytes2 .ensures ⨾ c5 .tag-line .ensures ⨾ c6 .bytes3 .ensures)
 
 pub void-spec : {M : Type 1} → statement M

@@ -33,7 +33,7 @@ returns-5 c =
 returns-6 : tie.Need-returns-6
 unfolding requestOf
 returns-6 c =
-    rw ((c .match .keys6))
+    rw (c .before .match .keys6) (c .field .ensures)
 
 returns-7 : tie.Need-returns-7
 unfolding requestOf
@@ -48,11 +48,11 @@ returns-8 c =
 returns-9 : tie.Need-returns-9
 unfolding requestOf
 returns-9 c =
-    rw ((c .match .keys9))
+    rw (c .before .match .keys9) (c .field2 .ensures)
 
 returns-10 : tie.Need-returns-10
 returns-10 c =
-    no-request _ _ (c .match .rest .0 .0 .0 .0 .0 .0 .0 .0 .1) (c .match .rest .0 .0 .0 .0 .0 .0 .0 .1)
+    no-request _ _ _ (c .match .rest .0 .0 .0 .0 .0 .0 .0 .0 .1) (c .match .rest .0 .0 .0 .0 .0 .0 .0 .1)
     (c .match .rest .0 .0 .0 .0 .0 .0 .1) (c .match .rest .0 .0 .0 .0 .0 .1) (c .match .rest .0 .0 .0 .0 .1)
     (c .match .rest .0 .0 .0 .1) (c .match .rest .0 .0 .1) (c .match .rest .0 .1) (c .match .rest .1)
 
@@ -60,6 +60,8 @@ pub request-of-spec : {M : Type 1} → statement M
 request-of-spec =
     tie.close
     (tie.spec
+    (λ c κs. search needs)
+    (λ c κs. search needs)
     (λ c κs. search needs)
     (λ c κs. search needs)
     (λ c κs. search needs)

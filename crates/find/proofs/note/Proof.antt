@@ -1,6 +1,5 @@
 -- `find::note` meets its contract: `Noting` says what is known at each turn. Assumes nothing.
-use Rattle.find.proofs.ChainLaws.{Noting, note-start, note-out, note-full, note-this, note-next}
-use mathlib.Core.Path.{_≡_, refl, sym, _∙_}
+use Rattle.find.proofs.ScopeLaws.{Noting, note-start, note-out, note-full, note-this, note-next}
 use mathlib.Core.Logic.{⊎-elim}
 use Prim.Native.Nat.{_-_}
 use native.Mathlib.Omega.{arith}

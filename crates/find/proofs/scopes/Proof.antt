@@ -1,7 +1,5 @@
 -- `find::scopes` meets its contract: `Passing` says what is known at each turn, for every id at once. Assumes nothing.
-use Rattle.find.proofs.ChainLaws.{Passing, pass-start, pass-none, pass-other, pass-last, pass-next}
-use mathlib.Core.Path.{_≡_, refl, sym, _∙_}
-use native.Mathlib.Omega.{arith}
+use Rattle.find.proofs.ScopeLaws.{Passing, pass-start, pass-none, pass-other, pass-last, pass-next}
 use borrow.Author.Needs.{needs}
 use Rattle.find.proofs.scopes.Statement.{statement}
 use Rattle.find.proofs.scopes.Tie as tie
@@ -32,8 +30,8 @@ loop-again c =
     let at-owed = c .before in let at-note = at-owed .before .before in let at-line = at-note .before .before .before in
     let at-next = at-line .before .before in let at-test = at-next .before in
     pass-next _ _ _ _ _ _ _ (at-test .before .loop .inv) (at-test .loop-test .taken) _ (at-next .next .ensures .0)
-    _ _ _ (at-line .line .given .1) _ (at-note .note .ensures) (at-next .next .result .next) _ (c .past .result) (at-next .next .ensures .1) (at-owed .owed .ensures)
-    (c .past .ensures)
+    _ _ _ (at-line .line .given .1) _ (at-note .note .ensures) (at-next .next .result .next) _ (c .past .result)
+    (at-next .next .ensures .1) (at-owed .owed .ensures) (c .past .ensures)
 
 returns-3 : tie.Need-returns-3 Inv-loop μ-loop
 returns-3 c = pass-none _ _ _ _ _ _ _ (c .before .loop .inv) (c .loop-test .left)

@@ -8,19 +8,19 @@ use Rattle.getter.proofs.declaration.Tie as tie
 
 returns : tie.Need-returns
 returns c =
-    let c4 = c .before .before in
-    let c3 = c4 .before .before in
-    let c2 = c3 .before in
-    let c1 = c2 .before .before .before .before .before in
-    λ sl h. rw (words-text _ _ _ _ sl h (sym (c2 .has-words .ensures) ∙ (c3 .if1 .taken)))
-    ((c4 .word-array-declaration .ensures) (sl .words)
-    (words-here _ ((c1 .args .root) .now) ((c1 .args .name) .now) _ sl h (sym (c2 .has-words .ensures) ∙ (c3 .if1 .taken))))
+    let written = c .before .before in
+    let at-if-1 = written .before .before in
+    let at-has-words = at-if-1 .before in
+    let has = sym (at-has-words .has-words .ensures) ∙ (at-if-1 .if1 .taken) in
+    λ f h k. rw (words-text _ _ f h _ _ has)
+    ((written .word-array-declaration .ensures) (f .slot .words) (words-here _ _ f h k has) (h .count))
 
 returns-2 : tie.Need-returns-2
 unfolding put adv
 returns-2 c =
-    let c1 = c .before in
-    λ sl h. rw (no-words _ _ _ _ sl h (sym (c1 .has-words .ensures) ∙ (c .if1 .left))) record { bytes = refl; state = refl }
+    let at-has-words = c .before in
+    λ f h k. rw (no-words _ _ f h _ _ (sym (at-has-words .has-words .ensures) ∙ (c .if1 .left)))
+    record { bytes = refl; state = refl }
 
 pub declaration-spec : {M : Type 1} → statement M
 declaration-spec =

@@ -1,6 +1,7 @@
--- `getter::enum_result` meets its contract: the module between its parts. Assumes nothing.
+-- `getter::enum_result` meets its contract: the module between its parts, its refusal handed on. Assumes nothing.
+use mathlib.Core.Path.{refl}
+use Rattle.nodes.specs.Index.{sheetOf}
 use Rattle.codegen_types.specs.TypeString.{getQualifiedModule}
-use Rattle.find.specs.Find.{sheetOf}
 use Rattle.getter.proofs.ResultLaws.{enum-told}
 use borrow.Author.Needs.{needs}
 use Rattle.getter.proofs.enum_result.Statement.{statement}
@@ -8,15 +9,15 @@ use Rattle.getter.proofs.enum_result.Tie as tie
 
 returns : tie.Need-returns
 returns c =
-    let c6 = c .before .before in
-    let c5 = c6 .before .before .before .before .before in
-    let c4 = c5 .before .before .before .before in
-    let c3 = c4 .before .before .before .before .before in
-    let c2 = c3 .before .before .before .before in
-    let c1 = c2 .before .before .before .before .before .before .before .before in
-    λ ns ix. enum-told (getQualifiedModule (sheetOf ((c1 .args .root) .now) ns) (c1 .args .id)) (c2 .bytes .ensures)
-    ((c3 .qualified-module .ensures) ns ix)
-    (c4 .bytes2 .ensures) (c5 .bytes3 .ensures) (c6 .bytes4 .ensures) .writes
+    let at-bytes-4 = c .before .before in
+    let at-bytes-3 = at-bytes-4 .before .before .before .before .before in
+    let at-bytes-2 = at-bytes-3 .before .before .before .before in
+    let at-qualified-module = at-bytes-2 .before .before .before .before .before in
+    let at-bytes = at-qualified-module .before .before .before .before in
+    let a = at-bytes .before .before .before .before .before .before .before .args in
+    λ ns ix. enum-told _ (getQualifiedModule (sheetOf (a .root .now) ns) (a .id)) (at-bytes .bytes .ensures)
+    ((at-qualified-module .qualified-module .ensures) (a .root .now) ns ix)
+    (at-bytes-2 .bytes2 .ensures) (at-bytes-3 .bytes3 .ensures) (at-bytes-4 .bytes4 .ensures) refl
 
 pub enum-result-spec : {M : Type 1} → statement M
 enum-result-spec =

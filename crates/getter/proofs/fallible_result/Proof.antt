@@ -1,24 +1,25 @@
--- `getter::fallible_result` meets its contract: the type's text between its parts. Assumes nothing.
+-- `getter::fallible_result` meets its contract: the type's text between its parts, its refusal handed on. Assumes nothing.
+use mathlib.Core.Path.{refl}
 use lib.ListN.{drop}
+use Rattle.text.proofs.Laws.{_⨾_}
 use Rattle.row.specs.Rows.{rows}
 use Rattle.tree.specs.Read.{typeOf}
+use Rattle.nodes.specs.Index.{sheetOf}
 use Rattle.getter.proofs.ResultLaws.{on-fallible}
-use Rattle.text.proofs.Laws.{_⨾_}
-use Rattle.find.specs.Find.{sheetOf}
 use borrow.Author.Needs.{needs}
 use Rattle.getter.proofs.fallible_result.Statement.{statement}
 use Rattle.getter.proofs.fallible_result.Tie as tie
 
 returns : tie.Need-returns
 returns c =
-    let c5 = c .before .before in
-    let c4 = c5 .before .before .before .before .before in
-    let c3 = c4 .before .before .before .before in
-    let c2 = c3 .before .before .before .before .before in
-    let c1 = c2 .before .before .before .before .before .before .before in
-    λ ns ix. on-fallible (typeOf 16 (rows (drop (c1 .args .at) ((c1 .args .s) .now)))) (sheetOf ((c1 .args .root) .now) ns)
-    (c1 .args .leaf) ((c1 .args .root) .now)
-    (c1 .args .option) ((c2 .bytes .ensures) ⨾ (c3 .bytes2 .ensures)) ((c4 .optional-type .ensures) ns ix) (c5 .bytes3 .ensures)
+    let at-bytes-3 = c .before .before in
+    let at-optional-type = at-bytes-3 .before .before .before .before .before in
+    let at-bytes-2 = at-optional-type .before .before .before .before in
+    let at-bytes = at-bytes-2 .before .before .before .before .before in
+    let a = at-bytes .before .before .before .before .before .before .args in
+    λ ns ix. on-fallible (typeOf 16 (rows (drop (a .at) (a .s .now)))) (sheetOf (a .root .now) ns)
+    (a .leaf) _ (a .root .now) (a .option) ((at-bytes .bytes .ensures) ⨾ (at-bytes-2 .bytes2 .ensures))
+    ((at-optional-type .optional-type .ensures) ns ix) (at-bytes-3 .bytes3 .ensures) refl refl
 
 pub fallible-result-spec : {M : Type 1} → statement M
 fallible-result-spec =

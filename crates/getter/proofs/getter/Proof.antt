@@ -1,27 +1,35 @@
--- `getter::getter` meets its contract: the result type, a newline, the code and the declaration. Assumes nothing.
-use Rattle.find.specs.Find.{sheetOf}
-use Rattle.getter.proofs.TextLaws.{getter-on}
+-- `getter::getter` meets its contract: the result type, a newline, the code and the declaration; the type's refusal before
+-- the slot's own. Assumes nothing.
+use Rattle.nodes.specs.Index.{sheetOf}
+use Rattle.getter.proofs.TextLaws.{getter-here}
 use borrow.Author.Needs.{needs}
 use Rattle.getter.proofs.getter.Statement.{statement}
 use Rattle.getter.proofs.getter.Tie as tie
 
 returns : tie.Need-returns
 returns c =
-    let c7 = c .before .before in
-    let c6 = c7 .before .before .before .before in
-    let c5 = c6 .before .before .before .before in
-    let c4 = c5 .before .before .before .before in
-    let c3 = c4 .before .before in
-    let c1 = c3 .before .before .before .before .before .before in
-    λ here ns ix. getter-on ((c1 .args .buf) .now) (c1 .args .t) _ _ _ _ (sheetOf ((c1 .args .root) .now) ns)
-    (c1 .args .is-reader) (c1 .args .is-fn)
-    here (c3 .text .ensures) ((c4 .result-type .ensures) ns ix) (c5 .byte .ensures) (c6 .code .ensures)
-    (c7 .declaration .ensures)
+    let at-first = c .before in
+    let at-default = at-first .before in
+    let at-option = at-default .before in
+    let at-declaration = at-option .before .before .before in
+    let at-code = at-declaration .before .before .before .before in
+    let at-byte = at-code .before .before .before .before in
+    let at-result-type = at-byte .before .before .before .before in
+    let at-name = at-result-type .before .before in
+    let a = at-name .before .before .before .before .before .args in
+    λ ns ix. getter-here _ (a .buf .now) (a .t) (a .s .now) (a .slot) _ (sheetOf (a .root .now) ns)
+    (a .is-reader) (a .is-fn) (at-name .name .ensures) ((at-result-type .result-type .ensures) ns ix) (at-byte .byte .ensures)
+    (at-code .code .ensures) (at-declaration .declaration .ensures) (at-option .option-refusal .ensures)
+    (at-default .default-refusal .ensures) (at-first .first .ensures) (c .first2 .ensures)
 
 pub getter-spec : {M : Type 1} → statement M
 getter-spec =
     tie.close
     (tie.spec
+    (λ c κs. search needs)
+    (λ c κs. search needs)
+    (λ c κs. search needs)
+    (λ c κs. search needs)
     (λ c κs. search needs)
     (λ c κs. search needs)
     (λ c κs. search needs)

@@ -1,30 +1,30 @@
--- `getter::optional_type` meets its contract: the type's text, in an option or not. Assumes nothing.
+-- `getter::optional_type` meets its contract: the type's text, in an option or not, its refusal handed on. Assumes nothing.
+use mathlib.Core.Path.{refl}
 use lib.ListN.{drop}
 use Rattle.row.specs.Rows.{rows}
 use Rattle.tree.specs.Read.{typeOf}
+use Rattle.nodes.specs.Index.{sheetOf}
 use Rattle.getter.proofs.ResultLaws.{on-option, then-ok}
-use Rattle.getter.proofs.ResultLaws.{on-option}
-use Rattle.find.specs.Find.{sheetOf}
 use borrow.Author.Needs.{needs}
 use Rattle.getter.proofs.optional_type.Statement.{statement}
 use Rattle.getter.proofs.optional_type.Tie as tie
 
 returns : tie.Need-returns
 returns c =
-    let c5 = c .before .before in
-    let c4 = c5 .before .before .before .before .before in
-    let c3 = c4 .before .before .before .before in
-    let c2 = c3 .before .before .before in
-    let c1 = c2 .before .before .before .before .before .before in
-    λ ns ix. rw (c2 .if1 .taken) (on-option (typeOf 16 (rows (drop (c1 .args .at) ((c1 .args .s) .now))))
-    (sheetOf ((c1 .args .root) .now) ns) (c1 .args .leaf)
-    (c3 .bytes .ensures) ((c4 .type-string .ensures) ns ix) (c5 .bytes2 .ensures))
+    let at-bytes-2 = c .before .before in
+    let at-type-string = at-bytes-2 .before .before .before .before .before in
+    let at-bytes = at-type-string .before .before .before .before in
+    let at-if-1 = at-bytes .before .before .before in
+    let a = at-if-1 .before .before .before .before .before .args in
+    λ ns ix. rw (at-if-1 .if1 .taken) (on-option (typeOf 16 (rows (drop (a .at) (a .s .now)))) (sheetOf (a .root .now) ns)
+    (a .leaf) _ (at-bytes .bytes .ensures) ((at-type-string .type-string .ensures) ns ix)
+    (at-bytes-2 .bytes2 .ensures) refl refl)
 
 returns-2 : tie.Need-returns-2
 returns-2 c =
-    let c2 = c .before .before in
-    let c1 = c2 .before .before in
-    λ ns ix. rw (c1 .if1 .left) (simp then-ok ((c2 .type-string2 .ensures) ns ix))
+    let at-type-string-2 = c .before .before in
+    let at-if-1 = at-type-string-2 .before .before in
+    λ ns ix. rw (at-if-1 .if1 .left) (simp then-ok ((at-type-string-2 .type-string2 .ensures) ns ix))
 
 pub optional-type-spec : {M : Type 1} → statement M
 optional-type-spec =

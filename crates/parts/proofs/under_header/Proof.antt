@@ -1,49 +1,92 @@
--- `parts::under_header` meets its contract: the text that the entry put into the whole buffer, or its refusal. Assumes nothing.
-use mathlib.Core.Path.{_≡_, _∙_}
+-- `parts::under_header` meets its contract: by what the accessor's text comes to, one law of PartLaws. Assumes nothing.
+use Prim.Native.Nat.{_^_, _<_}
+use native.Mathlib.Omega.{arith}
 use borrow.Author.Needs.{needs}
 use lib.ListN.{length}
-use Rattle.row.specs.Rows.{rows}
-use Rattle.row.specs.Line.{textAt}
-use Rattle.find.specs.Find.{sheetOf}
-use Rattle.requests.specs.Requests.{requestText}
-use Rattle.parts.specs.Program.{requestOf}
-use Rattle.parts.proofs.TextLaws.{answer-done, answer-refused}
+use Rattle.nodes.specs.Index.{sheetOf}
+use Rattle.requests.specs.Requests.{accessorText}
+use Rattle.parts.specs.Program.{accessorOf}
+use Rattle.parts.proofs.FitLaws.{taken-within, taken-most, fits-same}
+use Rattle.parts.proofs.PartLaws.{refused-part, long-part, whole-part}
 use Rattle.parts.proofs.under_header.Statement.{statement}
 use Rattle.parts.proofs.under_header.Tie as tie
 
-at-requires : tie.Need-at-requires
-at-requires c κs = search needs
+room : (c : tie.Start) → length (c .args .buf .now) < 2 ^ 63
+room c = search needs
 
 returns : tie.Need-returns
 returns c =
-    let at-t = c .before .before .before .before in
-    let at-answer = at-t .before .before in
-    let at-at = at-answer .before .before in
+    let at-refused = c .before .before in
+    let at-refusal = at-refused .before .before .before in
+    let at-write-accessor = at-refusal .before .before .before .before in
+    let at-at = at-write-accessor .before .before in
     let at-asked = at-at .before in
-    let a = at-asked .before .before .before .before .args in
-    let full : length (a .buf .now) ≡ 65536 = search needs in (
-      c .filled .ensures .1,
-      λ nodes at x n f.
-          answer-done (a .buf .now) full (requestText (sheetOf (textAt (rows (a .s .now))) nodes) at (requestOf (a .part))) _ _ _
-          (rw (at-asked .asked .ensures, at-at .at .ensures, at-t .t .given .1) at
-          (at-answer .answer-at .ensures nodes at x n f))
-          (c .filled .ensures .0) (search needs),
+    let start = at-asked .before .before .before .before .before in
+    let a = start .args in
+    let after = at-write-accessor .write-accessor .last .1 .1 .1 .1 .1 .1 .1 .0 in
+    let same = at-write-accessor .write-accessor .kept .1 .1 .1 .1 .1 .1 .1 .0 in
+    let done = at-refused .refused .ensures in
+    let z = at-at .at .ensures in (
+      done .0,
+      (
+        fits-same 65536 (a .buf .now) after (at-refused .refused .result) same (done .1 .0),
+        λ ns x at tag-is is.
+            let o = accessorText (sheetOf (a .root .now) ns) at (accessorOf (a .part)) in
+            let w = rw (at-asked .asked .ensures) at (at-write-accessor .write-accessor .ensures ns x at tag-is is) in
+            rw (← refused-part z o _ w (at-refusal .refusal .given .1)) (done .1 .1),
+      ),
     )
 
 returns-2 : tie.Need-returns-2
 returns-2 c =
-    let at-number = c .before .before .before in
-    let at-answer = at-number .before .before in
-    let at-at = at-answer .before .before in
+    let at-refused2 = c .before .before in
+    let at-if1 = at-refused2 .before .before in
+    let at-fill = at-if1 .before in
+    let at-enum-told = at-fill .before .before in
+    let at-write-accessor = at-enum-told .before .before .before .before in
+    let at-at = at-write-accessor .before .before in
     let at-asked = at-at .before in
-    let a = at-asked .before .before .before .before .args in
-    let full : length (a .buf .now) ≡ 65536 = search needs in (
-      c .refused .ensures .0,
-      λ nodes at x n f.
-          c .refused .ensures .1 ∙ answer-refused (a .buf .now) full
-          (requestText (sheetOf (textAt (rows (a .s .now))) nodes) at (requestOf (a .part))) _ _ _
-          (rw (at-asked .asked .ensures, at-at .at .ensures, at-number .number .given .1) at
-          (at-answer .answer-at .ensures nodes at x n f)),
+    let start = at-asked .before .before .before .before .before in
+    let a = start .args in
+    let after = at-write-accessor .write-accessor .last .1 .1 .1 .1 .1 .1 .1 .0 in
+    let same = at-write-accessor .write-accessor .kept .1 .1 .1 .1 .1 .1 .1 .0 in
+    let done = at-refused2 .refused2 .ensures in
+    let z = at-at .at .ensures in (
+      done .0,
+      (
+        fits-same 65536 (a .buf .now) after (at-refused2 .refused2 .result) same (done .1 .0),
+        λ ns x at tag-is is.
+            let o = accessorText (sheetOf (a .root .now) ns) at (accessorOf (a .part)) in
+            let w = rw (at-asked .asked .ensures) at (at-write-accessor .write-accessor .ensures ns x at tag-is is) in
+            let none = at-enum-told .enum-told .given .1 in
+            rw (← long-part z o w none (omega (arith, at-fill .fill .ensures, at-if1 .if1 .taken))) (done .1 .1),
+      ),
+    )
+
+returns-3 : tie.Need-returns-3
+returns-3 c =
+    let at-if1 = c .before .before in
+    let at-fill = at-if1 .before in
+    let at-enum-told = at-fill .before .before in
+    let at-write-accessor = at-enum-told .before .before .before .before in
+    let at-at = at-write-accessor .before .before in
+    let at-asked = at-at .before in
+    let start = at-asked .before .before .before .before .before in
+    let a = start .args in
+    let after = at-write-accessor .write-accessor .last .1 .1 .1 .1 .1 .1 .1 .0 in
+    let same = at-write-accessor .write-accessor .kept .1 .1 .1 .1 .1 .1 .1 .0 in
+    let i = c .taken .ensures in
+    let z = at-at .at .ensures in (
+      taken-within _ _ _ i,
+      (
+        fits-same 65536 (a .buf .now) after (c .taken .result) same
+            (taken-most _ after _ 65536 (omega (arith, at-fill .fill .ensures, at-if1 .if1 .left)) i),
+        λ ns x at tag-is is.
+            let o = accessorText (sheetOf (a .root .now) ns) at (accessorOf (a .part)) in
+            let w = rw (at-asked .asked .ensures) at (at-write-accessor .write-accessor .ensures ns x at tag-is is) in
+            whole-part z o _ w (at-enum-told .enum-told .given .1) (room start)
+            (omega (arith, at-fill .fill .ensures, at-if1 .if1 .left)) i,
+      ),
     )
 
 pub under-header-spec : {M : Type 1} → statement M
@@ -51,11 +94,18 @@ under-header-spec =
     tie.close
     (tie.spec
     (λ c κs. search needs)
-    at-requires
     (λ c κs. search needs)
+    (λ c κs. search needs)
+    (λ c. search needs)
     (λ c. search needs)
     (λ c κs. search needs)
     (λ c. search needs)
-    (λ c κs. search needs)
     returns
-    returns-2)
+    (λ c. search needs)
+    (λ c κs. search needs)
+    (λ c κs. search needs)
+    (λ c. search needs)
+    returns-2
+    (λ c κs. search needs)
+    (λ c. search needs)
+    returns-3)

@@ -11,11 +11,11 @@ use Rattle.pointer_constants.proofs.bytes.Statement.{statement}
 use Rattle.pointer_constants.proofs.bytes.Tie as tie
 
 abbrev Inv-loop : tie.InvT-loop
-Inv-loop buf₀ w t₀ left₀ n₀ t7 buf t left n =
+Inv-loop w buf₀ t₀ left₀ n₀ t7 buf t left n =
     (t7 ≡ ascii ", ") × (length buf ≡ length buf₀) × Left buf t (bytesFrom n left) buf₀ t₀ (bytesFrom n₀ left₀)
 
 abbrev μ-loop : tie.MeasureT-loop
-μ-loop buf₀ w t₀ left₀ n₀ t7 buf t left n = n
+μ-loop w buf₀ t₀ left₀ n₀ t7 buf t left n = n
 
 loop-holds : tie.Need-loop-holds Inv-loop μ-loop
 loop-holds c = (refl, refl, left-all)

@@ -22,26 +22,24 @@ same-length c =
 
 returns : tie.Need-returns
 returns c =
-    let c10 = c .before .before in
-    let c9 = c10 .before .before .before .before .before in
-    let c8 = c9 .before .before .before .before in
-    let c7 = c8 .before .before .before .before .before in
-    let c6 = c7 .before .before .before .before in
-    let c5 = c6 .before .before .before .before .before in
-    let c4 = c5 .before .before .before .before in
-    let c3 = c4 .before .before .before .before .before in
-    let c2 = c3 .before .before .before .before in
-    let c1 = c2 .before .before .before in
-    λ ws h.
-    rw (words-of _ ws h, ← declaration _ _ _, ← (c1 .count-words .ensures))
-    (c2 .bytes .ensures ⨾ c3 .default-name .ensures ⨾ c4 .bytes2 .ensures ⨾ c5 .bytes3 .ensures ⨾ c6 .bytes4 .ensures
-    ⨾ c7 .number .ensures ⨾ c8 .bytes5 .ensures ⨾ c9 .words .ensures ⨾ c10 .bytes6 .ensures)
+    let c9 = c .before .before in
+    let c8 = c9 .before .before .before .before .before in
+    let c7 = c8 .before .before .before .before in
+    let c6 = c7 .before .before .before .before .before in
+    let c5 = c6 .before .before .before .before in
+    let c4 = c5 .before .before .before .before .before in
+    let c3 = c4 .before .before .before .before in
+    let c2 = c3 .before .before .before .before .before in
+    let c1 = c2 .before .before .before .before in
+    λ ws h k.
+    rw (← declaration _ _ ws, ← k, ← words-of _ ws _ h k)
+    (c1 .bytes .ensures ⨾ c2 .default-name .ensures ⨾ c3 .bytes2 .ensures ⨾ c4 .bytes3 .ensures ⨾ c5 .bytes4 .ensures
+    ⨾ c6 .number .ensures ⨾ c7 .bytes5 .ensures ⨾ c8 .words .ensures ⨾ c9 .bytes6 .ensures)
 
 pub word-array-declaration-spec : {M : Type 1} → statement M
 word-array-declaration-spec =
     tie.close
     (tie.spec
-    (λ c κs. search needs)
     (λ c. search needs)
     (λ c κs. search needs)
     (λ c κs. search needs)

@@ -12,12 +12,12 @@ use Rattle.pointer_constants.proofs.words.Statement.{statement}
 use Rattle.pointer_constants.proofs.words.Tie as tie
 
 abbrev Inv-loop : tie.InvT-loop
-Inv-loop buf₀ root s from most t₀ at₀ n₀ buf t at n =
+Inv-loop root s from most buf₀ t₀ at₀ n₀ buf t at n =
     (length buf ≡ length buf₀)
     × Left buf t (wordsText root (wordsAt n (rows (drop at s)))) buf₀ t₀ (wordsText root (wordsAt most (rows (drop from s))))
 
 abbrev μ-loop : tie.MeasureT-loop
-μ-loop buf₀ root s from most t₀ at₀ n₀ buf t at n = n
+μ-loop root s from most buf₀ t₀ at₀ n₀ buf t at n = n
 
 loop-holds : tie.Need-loop-holds Inv-loop μ-loop
 loop-holds c = (refl, left-all)

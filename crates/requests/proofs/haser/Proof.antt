@@ -1,29 +1,31 @@
--- `requests::haser` meets its contract: the haser of the slot at its row, with the tag's offset of its node. Assumes nothing.
-use Rattle.requests.proofs.SlotLaws.{of-slot, haser-here, tag-at}
-use Rattle.requests.specs.Requests.{haserOf, requestText}
-use Rattle.type_parts.specs.Parts.{Writes}
-use Rattle.codegen_types.specs.Out.{Out}
-use Rattle.text.specs.Bytes.{Str}
-use Rattle.row.specs.Rows.{rows}
-use lib.ListN.{drop}
+use Rattle.codegen_types.proofs.WrittenLaws as written
+use Rattle.requests.specs.Requests.{accessorText}
+use Rattle.requests.proofs.FieldLaws.{slot-accessor}
 use borrow.Author.Needs.{needs}
 use Rattle.requests.proofs.haser.Statement.{statement}
 use Rattle.requests.proofs.haser.Tie as tie
+use Rattle.requests.proofs.haser.Reads as reads
+use Rattle.requests.proofs.haser.Lts as lts
+use Rattle.codegen.proofs.haser.Reads as haser-reads
+use Rattle.codegen_types.proofs.whole.Reads as whole-reads
+use Rattle.field.proofs.Slot.name.Reads as name-reads
+
+name-requires : tie.Need-name-requires
+name-requires c κs = search needs
+
+haser-requires : tie.Need-haser-requires
+haser-requires c κs = search needs
+
+whole-requires : tie.Need-whole-requires
+whole-requires c κs = search needs
+
+same-length : tie.Need-same-length
+same-length c = search needs
 
 returns : tie.Need-returns
-unfolding requestText
+unfolding accessorText
 returns c =
-    let at-haser = c .before .before in
-    let at-text = at-haser .before .before in
-    let at-node-line = at-text .before in
-    let start = at-node-line .before .before .before .before .before .before in
-    let a = start .args in
-    λ here nodes at x n f. let Q : Out Str → Type 0 = λ o. Writes o (a .buf .now) (a .t) (at-haser .haser .last .1 .0)
-    (at-haser .haser .result) in of-slot Q (haserOf (at .0 .tagOffset) (a .is-reader)) (rows (drop (a .field) (a .s .now)))
-    (at .1) f (haser-here Q (a .s .now) (rows (drop (a .field) (a .s .now))) (a .slot) (at .0 .tagOffset) _ (a .is-reader) here
-    (at-text .text .ensures) (rw (tag-at (rows (drop (a .node) (a .s .now))) (at .0) _ (at-node-line .node-line .ensures) n) at
-    (at-haser .haser .ensures))) (λ e. tt)
+    λ root index nodes x at e h. slot-accessor (c .before .before .before .before .before .before .before .before .args .s .now) (at .1) (c .before .before .before .before .before .before .before .before .args .slot) _ h (λ f here. written.whole (rw ((c .whole .ensures .0), e, here .discriminant, ← ((c .before .before .before .before .before .name .ensures) f here)) ((c .before .before .before .haser .ensures) (f .slot) (here .slot))) (c .whole .ensures .1))
 
 pub haser-spec : {M : Type 1} → statement M
-haser-spec =
-    tie.close (tie.spec (λ c κs. search needs) (λ c κs. search needs) (λ c κs. search needs) (λ c. search needs) returns)
+haser-spec = tie.close (tie.spec name-requires haser-requires whole-requires same-length returns)

@@ -1,5 +1,5 @@
 -- `requests::leaf_of` meets its contract: each number of document 01 has its leaf, and no other has one. Assumes nothing.
-use Rattle.place.specs.Place.{nth}
+use Rattle.nodes.specs.Index.{nth}
 use Rattle.requests.proofs.LeafLaws.{no-leaf}
 use Rattle.requests.proofs.leaf_of.Statement.{statement}
 use Rattle.requests.proofs.leaf_of.Tie as tie

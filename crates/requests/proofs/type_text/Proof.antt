@@ -1,61 +1,81 @@
--- `requests::type_text` meets its contract: each return is one law of TypeTextLaws, for the fact that a type's text is written.
--- Assumes nothing.
+use mathlib.Core.Path.{sym, _∙_}
+use Rattle.codegen_types.proofs.WrittenLaws as written
+use Rattle.requests.proofs.LeafLaws.{leaf-is, leaf-none}
+use Rattle.requests.proofs.FieldLaws.{slot-type, slot-no-leaf, group-no-type}
 use borrow.Author.Needs.{needs}
-use Rattle.codegen_types.specs.Out.{Out}
-use Rattle.find.specs.Find.{sheetOf}
-use Rattle.text.specs.Bytes.{Str}
-use Rattle.type_parts.specs.Parts.{Writes}
-use Rattle.requests.proofs.TypeTextLaws.{type-of-none, type-of-slot, type-no-leaf}
 use Rattle.requests.proofs.type_text.Statement.{statement}
 use Rattle.requests.proofs.type_text.Tie as tie
+use Rattle.requests.proofs.type_text.Reads as reads
+use Rattle.requests.proofs.type_text.Lts as lts
+use Rattle.codegen_types.proofs.refused.Reads as refused-reads
+use Rattle.requests.proofs.leaf_of.Reads as leaf-of-reads
+use Rattle.type_string.proofs.type_string.Reads as type-string-reads
 
-returns : tie.Need-returns
-returns c =
-    let start = c .before .before .before .before .before .before .before in
-    let a = start .args in
-    λ nodes f x h. type-of-none (λ (o : Out Str). Writes o (a .buf .now) (a .t) (a .buf .now) (a .t)) (a .s .now) (a .field)
-    (a .leaf) (c .before .field-line .result) (c .before .field-line .ensures) (sheetOf (a .root .now) nodes) f h
-    (c .match .keys2) tt
+enum-known-field : tie.Need-enum-known-field
+enum-known-field c = search needs
+
+leaf-of-requires : tie.Need-leaf-of-requires
+leaf-of-requires c κs = search needs
+
+enum-known-leaf : tie.Need-enum-known-leaf
+enum-known-leaf c = search needs
+
+type-string-requires : tie.Need-type-string-requires
+type-string-requires c κs = search needs
 
 enum-told : tie.Need-enum-told
 enum-told c = search needs
 
+refused-requires : tie.Need-refused-requires
+refused-requires c κs = search needs
+
+enum-told-2 : tie.Need-enum-told-2
+enum-told-2 c = search needs
+
+refused-requires-2 : tie.Need-refused-requires-2
+refused-requires-2 c κs = search needs
+
+enum-told-3 : tie.Need-enum-told-3
+enum-told-3 c = search needs
+
+refused-requires-3 : tie.Need-refused-requires-3
+refused-requires-3 c κs = search needs
+
+same-length : tie.Need-same-length
+same-length c = search needs
+
+returns : tie.Need-returns
+returns c =
+    λ tag nodes x at e h. slot-type (c .before .before .before .before .before .before .before .before .before .before .before .before .before .before .before .args .s .now) (at .1) _ _ _ _ (rw (c .before .before .before .before .before .before .before .before .before .field .given .1) at h) (leaf-is _ _ (sym (c .before .before .before .before .before .leaf .given .1) ∙ (c .before .before .before .before .before .before .before .leaf-of .ensures))) ((c .before .before .type-string .ensures) nodes x)
+
 returns-2 : tie.Need-returns-2
 returns-2 c =
-    let at-type-string = c .before .before in
-    let at-leaf = at-type-string .before .before .before in
-    let at-leaf-of = at-leaf .before .before in
-    let at-ty = at-leaf-of .before .before in
-    let at-field-line = at-ty .before .before in
-    let start = at-field-line .before .before .before .before .before .before in
-    let a = start .args in
-    λ nodes f x h. type-of-slot (λ (o : Out Str). Writes o (a .buf .now) (a .t)
-    (at-type-string .type-string .last .1 .1 .1 .1 .1 .1 .1 .0) (at-type-string .type-string .result)) (a .s .now) (a .field)
-    (a .leaf) _ (at-field-line .field-line .ensures) (sheetOf (a .root .now) nodes) f h _ _ (at-ty .ty .given .1) _
-    (at-leaf-of .leaf-of .ensures) _ (at-leaf .leaf .given .1) ((at-type-string .type-string .ensures) nodes x)
+    λ tag nodes x at e h. slot-no-leaf (c .before .before .before .before .before .before .before .before .before .before .before .args .s .now) (at .1) _ _ _ (rw (c .before .before .before .before .before .field .given .1) at h) (leaf-none _ (sym (c .before .enum-told .given .1) ∙ (c .before .before .before .leaf-of .ensures))) (written.none (c .refused .ensures))
 
 returns-3 : tie.Need-returns-3
 returns-3 c =
-    let at-leaf-of = c .before .before in
-    let at-ty = at-leaf-of .before .before in
-    let at-field-line = at-ty .before .before in
-    let start = at-field-line .before .before .before .before .before .before in
-    let a = start .args in
-    λ nodes f x h. type-no-leaf (λ (o : Out Str). Writes o (a .buf .now) (a .t) (a .buf .now) (a .t)) (a .s .now) (a .field)
-    (a .leaf) _ (at-field-line .field-line .ensures) (sheetOf (a .root .now) nodes) f h _ _ (at-ty .ty .given .1) _
-    (at-leaf-of .leaf-of .ensures) (c .enum-told .given .1) tt
+    λ tag nodes x at e h. group-no-type (c .before .before .before .before .before .before .before .args .s .now) (at .1) _ _ _ (rw (c .before .enum-told2 .given .1) at h) (written.none (c .refused2 .ensures))
+
+returns-4 : tie.Need-returns-4
+returns-4 c =
+    λ tag nodes x at e h. absurd (rw (c .before .enum-told3 .given .1) at h)
 
 pub type-text-spec : {M : Type 1} → statement M
 type-text-spec =
     tie.close
     (tie.spec
-    (λ c κs. search needs)
-    (λ c. search needs)
-    returns
-    (λ c κs. search needs)
-    (λ c. search needs)
-    (λ c κs. search needs)
+    enum-known-field
+    leaf-of-requires
+    enum-known-leaf
+    type-string-requires
     enum-told
-    (λ c. search needs)
+    refused-requires
+    enum-told-2
+    refused-requires-2
+    enum-told-3
+    refused-requires-3
+    same-length
+    returns
     returns-2
-    returns-3)
+    returns-3
+    returns-4)

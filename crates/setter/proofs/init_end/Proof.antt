@@ -6,21 +6,15 @@ use Rattle.setter.proofs.init_end.Tie as tie
 
 returns : tie.Need-returns
 returns c =
-    let c5 = c .before .before in
-    let c4 = c5 .before .before .before .before .before in
-    let c3 = c4 .before .before .before .before in
+    let c3 = c .before .before in
     let c2 = c3 .before .before .before .before .before in
     let c1 = c2 .before .before .before .before in
-    (c1 .bytes .ensures ⨾ c2 .tag-line .ensures ⨾ c3 .bytes2 .ensures ⨾ c4 .init-pointer .ensures ⨾ c5 .bytes3 .ensures)
+    c1 .init-start .ensures ⨾ c2 .init-pointer .ensures ⨾ c3 .bytes .ensures
 
 pub init-end-spec : {M : Type 1} → statement M
 init-end-spec =
     tie.close
     (tie.spec
-    (λ c. search needs)
-    (λ c κs. search needs)
-    (λ c κs. search needs)
-    (λ c. search needs)
     (λ c κs. search needs)
     (λ c κs. search needs)
     (λ c. search needs)

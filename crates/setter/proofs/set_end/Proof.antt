@@ -11,7 +11,7 @@ returns c =
     let c3 = c4 .before .before .before .before in
     let c2 = c3 .before .before .before .before .before in
     let c1 = c2 .before .before .before .before in
-    (c1 .set-close .ensures ⨾ c2 .tag-line .ensures ⨾ c3 .bytes .ensures ⨾ c4 .set-pointer .ensures ⨾ c5 .bytes2 .ensures)
+    c1 .set-close .ensures ⨾ c2 .tag-line .ensures ⨾ c3 .bytes .ensures ⨾ c4 .set-pointer .ensures ⨾ c5 .bytes2 .ensures
 
 pub set-end-spec : {M : Type 1} → statement M
 set-end-spec =

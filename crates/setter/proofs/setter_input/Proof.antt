@@ -1,11 +1,11 @@
 -- `setter::setter_input` meets its contract: the type's text between its parts. Assumes nothing.
+use mathlib.Core.Path.{refl}
 use lib.ListN.{drop}
 use Rattle.text.proofs.Laws.{_⨾_}
 use Rattle.row.specs.Rows.{rows}
 use Rattle.tree.specs.Read.{typeOf}
-use Rattle.codegen_types.specs.declared.Leaf.the-variants.{Owned}
-use Rattle.find.specs.Find.{sheetOf}
-use Rattle.setter.proofs.TypedLaws.{on-around}
+use Rattle.nodes.specs.Index.{sheetOf}
+use Rattle.setter.proofs.ArmLaws.{on-input}
 use borrow.Author.Needs.{needs}
 use Rattle.setter.proofs.setter_input.Statement.{statement}
 use Rattle.setter.proofs.setter_input.Tie as tie
@@ -13,14 +13,14 @@ use Rattle.setter.proofs.setter_input.Tie as tie
 returns : tie.Need-returns
 returns c =
     let c6 = c .before .before in
-    let c5 = c6 .before .before .before .before .before in
+    let c5 = c6 .before .before .before .before .before .before in
     let c4 = c5 .before .before .before .before in
     let c3 = c4 .before .before .before .before .before in
     let c2 = c3 .before .before .before .before in
-    let c1 = c2 .before .before .before .before .before .before .before .before in
-    λ ns ix. on-around (typeOf 16 (rows (drop (c1 .args .at) ((c1 .args .s) .now)))) (sheetOf ((c1 .args .root) .now) ns) Owned
-    ((c2 .bytes .ensures) ⨾ (c3 .bytes2 .ensures)
-    ⨾ (c4 .bytes3 .ensures)) ((c5 .type-string .ensures) ns ix) (c6 .bytes4 .ensures)
+    let c1 = c2 .before .before .before .before .before .before .before in
+    λ ns ix. on-input (typeOf 16 (rows (drop (c1 .args .at) (c1 .args .s .now)))) (sheetOf (c1 .args .root .now) ns)
+    (c5 .type-string .result) (c2 .bytes .ensures ⨾ c3 .bytes2 .ensures ⨾ c4 .bytes3 .ensures)
+    (c5 .type-string .ensures ns ix) (c6 .bytes4 .ensures) refl refl
 
 pub setter-input-spec : {M : Type 1} → statement M
 setter-input-spec =

@@ -1,11 +1,8 @@
 -- `setter::struct_setter` meets its contract: the setter and the initializer around the type's texts. Assumes nothing.
-use lib.ListN.{drop}
-use mathlib.Core.Path.{_∙_}
+use mathlib.Core.Path.{refl, _∙_}
 use Rattle.text.proofs.Laws.{_⨾_, kept}
-use Rattle.row.specs.Rows.{rows}
-use Rattle.tree.specs.Read.{typeOf}
 use Rattle.names.specs.Names.{nameOf}
-use Rattle.find.specs.Find.{sheetOf}
+use Rattle.nodes.specs.Index.{sheetOf}
 use Rattle.setter.proofs.ArmLaws.{struct-here}
 use borrow.Author.Needs.{needs}
 use Rattle.setter.proofs.struct_setter.Statement.{statement}
@@ -13,30 +10,28 @@ use Rattle.setter.proofs.struct_setter.Tie as tie
 
 same-length : tie.Need-same-length
 same-length c =
-    let c6 = c .before .before in
-    let c5 = c6 .before .before .before .before .before in
+    let c6 = c .before .before .before in
+    let c5 = c6 .before .before .before .before .before .before in
     let c4 = c5 .before .before .before .before in
     let c3 = c4 .before .before .before .before in
-    let c2 = c3 .before .before .before .before in
+    let c2 = c3 .before .before .before .before .before in
     let c1 = c2 .before .before .before .before in
-    kept (c6 .init-end .ensures) ∙ (c5 .init-type .kept .1 .1 .1 .1 .1 .1 .0) ∙ kept
-    ((c3 .set-end .ensures)
-    ⨾ (c4 .init-open .ensures)) ∙ (c2 .type-string .kept .1 .1 .1 .1 .1 .1 .1 .0) ∙ kept (c1 .set-open .ensures)
+    kept (c6 .init-end .ensures) ∙ (c5 .init-type .kept .1 .1 .1 .1 .1 .0) ∙ kept (c3 .set-end .ensures ⨾ c4 .init-open .ensures)
+    ∙ (c2 .reader-type .kept .1 .1 .1 .1 .1 .0) ∙ kept (c1 .set-open .ensures)
 
 returns : tie.Need-returns
 returns c =
-    let c7 = c .before .before in
-    let c6 = c7 .before .before .before .before .before in
+    let c7 = c .before .before .before in
+    let c6 = c7 .before .before .before .before .before .before in
     let c5 = c6 .before .before .before .before in
     let c4 = c5 .before .before .before .before in
-    let c3 = c4 .before .before .before .before in
+    let c3 = c4 .before .before .before .before .before in
     let c2 = c3 .before .before .before .before in
-    let c1 = c2 .before .before .before .before .before .before .before in
-    λ ns ix sl h k. struct-here (sheetOf ((c1 .args .root) .now) ns) sl (c1 .args .slot) (h .slot) (c1 .args .tag)
-    (nameOf (c1 .args .name)) ((c1 .args .slot) .discriminant)
-    (typeOf 16 (rows (drop ((c1 .args .slot) .typ) ((c1 .args .s) .now)))) (h .typ) k (c2 .set-open .ensures)
-    ((c3 .type-string .ensures) ns ix)
-    (c4 .set-end .ensures) (c5 .init-open .ensures) ((c6 .init-type .ensures) ns ix) (c7 .init-end .ensures) .writes
+    let c1 = c2 .before .before .before .before .before .before in
+    λ ns ix f h k. struct-here (c1 .args .s .now) (c1 .args .slot) f h (sheetOf (c1 .args .root .now) ns) (c1 .args .tag)
+    (nameOf (c1 .args .name)) (c3 .reader-type .result) (c6 .init-type .result) k
+    (c2 .set-open .ensures) (c3 .reader-type .ensures ns ix) (c4 .set-end .ensures)
+    (c5 .init-open .ensures) (c6 .init-type .ensures ns ix) (c7 .init-end .ensures) refl (c .first .ensures)
 
 pub struct-setter-spec : {M : Type 1} → statement M
 struct-setter-spec =
@@ -48,6 +43,7 @@ struct-setter-spec =
     (λ c κs. search needs)
     (λ c κs. search needs)
     (λ c. search needs)
+    (λ c κs. search needs)
     (λ c κs. search needs)
     same-length
     returns)

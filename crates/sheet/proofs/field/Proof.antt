@@ -1,5 +1,5 @@
 -- `sheet::field` meets its contract: each return is one law of FieldsLaws for the row's line, and an id that was put after the
--- others has its mark. Assumes nothing.
+-- others has its flag. Assumes nothing.
 use mathlib.Core.Path.{sym, _∙_, ap}
 use mathlib.Core.List.{List}
 use Prim.Native.Nat.{ℕ}
@@ -8,7 +8,7 @@ use lib.ListN.{take, drop, length-set}
 use borrow.Author.Needs.{needs}
 use Rattle.sheet.proofs.FieldsLaws.{group-less, group-fits, pushed, groups-stop, groups-slot, groups-slot-no, slot-less}
 use Rattle.sheet.proofs.FieldsLaws.{slot-room, groups-double, groups-group}
-use Rattle.sheet.proofs.MarksLaws.{marked-more}
+use Rattle.sheet.proofs.FlagsLaws.{flagged-more}
 use Rattle.sheet.specs.Admission.{groupsAfter}
 use Rattle.tree.proofs.WalkLaws.{came, refused}
 use Rattle.row.specs.Rows.{rows}
@@ -82,7 +82,7 @@ returns-4 c =
           (m .before .before .if1 .left)
           ∙ ap (λ (x : List ℕ). groupsAfter x (rows (drop (r .next .result .next) (a .s .now)))) (sym put),
       omega (arith, p .1, length-set (a .groups .now) (a .count) i),
-      rw (put, m .mark .ensures) (marked-more (a .marks .now) (take (a .count) (a .groups .now)) i (p .0) (p .2)),
+      rw (put, m .flag .ensures) (flagged-more (a .flags .now) (take (a .count) (a .groups .now)) i (p .0) (p .2)),
       group-less _ _ _ (r .next .ensures .0) (r .next .ensures .1) _ _ is,
     )
 

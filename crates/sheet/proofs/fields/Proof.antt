@@ -1,24 +1,24 @@
 -- `sheet::fields` meets its contract: the groups after the fields from the start are those after the fields from here, the
--- bytes that are left leave room for their ids, and each id that was put there has its mark. Assumes nothing.
+-- bytes that are left leave room for their ids, and each id that was put there has its flag. Assumes nothing.
 use mathlib.Core.Path.{_≡_, refl, _∙_}
 use native.Mathlib.Omega.{arith}
 use lib.ListN.{length, take, drop}
 use borrow.Author.Needs.{needs}
 use Rattle.row.specs.Rows.{rows, size}
-use Rattle.sheet.specs.Admission.{Marked, Room, groupsAfter}
+use Rattle.sheet.specs.Admission.{Flagged, Room, groupsAfter}
 use Rattle.sheet.proofs.fields.Statement.{statement}
 use Rattle.sheet.proofs.fields.Tie as tie
 
 abbrev Inv-loop : tie.InvT-loop
-Inv-loop s from groups₀ marks₀ count at₀ n₀ groups marks at n =
+Inv-loop s from groups₀ flags₀ count at₀ n₀ groups flags at n =
     (length groups ≡ length groups₀)
-    × (length marks ≡ 2048)
+    × (length flags ≡ 2048)
     × Room groups n (size (rows (drop at s)))
-    × Marked marks (take n groups)
+    × Flagged flags (take n groups)
     × (groupsAfter (take count groups₀) (rows (drop from s)) ≡ groupsAfter (take n groups) (rows (drop at s)))
 
 abbrev μ-loop : tie.MeasureT-loop
-μ-loop s from groups₀ marks₀ count at₀ n₀ groups marks at n = length (rows (drop at s))
+μ-loop s from groups₀ flags₀ count at₀ n₀ groups flags at n = length (rows (drop at s))
 
 loop-holds : tie.Need-loop-holds Inv-loop μ-loop
 loop-holds c =

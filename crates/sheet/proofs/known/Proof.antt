@@ -1,14 +1,14 @@
--- `sheet::known` meets its contract: an id whose mark is not set is none of the first ids, any other is searched for.
+-- `sheet::known` meets its contract: an id whose flag is not set is none of the first ids, any other is searched for.
 -- Assumes nothing.
 use mathlib.Core.Path.{sym}
 use borrow.Author.Needs.{needs}
-use Rattle.sheet.proofs.MarksLaws.{unmarked}
+use Rattle.sheet.proofs.FlagsLaws.{unflagged}
 use Rattle.sheet.proofs.known.Statement.{statement}
 use Rattle.sheet.proofs.known.Tie as tie
 
 returns : tie.Need-returns
 returns c =
-    sym (unmarked _ _ _ (c .before .before .before .before .pre .2) (c .if1 .taken))
+    sym (unflagged _ _ _ (c .before .before .before .before .pre .2) (c .if1 .taken))
 
 seen-requires : tie.Need-seen-requires
 seen-requires c κs =

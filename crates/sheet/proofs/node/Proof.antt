@@ -1,49 +1,48 @@
--- `sheet::node` meets its contract: an N row, then parameters and fields by their own contracts. Assumes nothing.
-use native.Mathlib.Omega.{arith}
-use lib.ListN.{take}
+-- `sheet::node` meets its contract: a node is its N row and what belongs to it. Assumes nothing.
 use borrow.Author.Needs.{needs}
-use Rattle.sheet.proofs.NodesLaws.{node-other, node-double, node-fields, params-room}
+use Rattle.sheet.proofs.NodeLaws.{node-refused, node-other, node-double, ready-after, node-begun, node-whole}
 use Rattle.sheet.proofs.node.Statement.{statement}
 use Rattle.sheet.proofs.node.Tie as tie
 
 returns : tie.Need-returns
 returns c =
-    let p = c .before .before .before .before .before .before .pre in (
-      node-other _ _ _ (c .before .next .ensures .0) (c .before .next .ensures .1) _ _ (c .match .keys2),
-      (omega (arith, p .2), p .3),
-    )
+    let at-match = c .before in
+    let at-next = at-match .before in
+    let start = at-next .before .before .before .before .before .before in
+    rw (c .refused .ensures) (node-refused _ _ _ _ _ _ _ _ _ (start .pre .1)
+    (node-other _ _ (at-next .next .ensures .0) _ _ (at-match .match .keys2)))
 
 returns-2 : tie.Need-returns-2
 returns-2 c =
-    let l = c .before .before .before in
-    let n = l .before .before in
-    let p = n .before .before .before .before .before .pre in (
-      node-double _ _ _ (n .next .ensures .0) (n .next .ensures .1) _ _ _ _ _ _ _ _ _ (l .l .given .1) _
-          (c .before .seen .ensures) (c .if1 .taken),
-      (omega (arith, p .2), p .3),
-    )
+    let at-seen = c .before .before in
+    let at-l = at-seen .before .before in
+    let at-next = at-l .before .before in
+    let start = at-next .before .before .before .before .before .before in
+    rw (c .refused2 .ensures) (node-refused _ _ _ _ _ _ _ _ _ (start .pre .1)
+    (node-double _ _ (at-next .next .ensures .0) _ _ _ _ _ _ _ _ _ (at-l .l .given .1) _ (at-seen .seen .ensures)
+    (c .before .if1 .taken)))
 
-fields-requires : tie.Need-fields-requires
-fields-requires c κs =
-    let q = c .before .before in
-    let n = q .before .before .before .before .before .before in
-    let p = n .before .before .before .before .before .pre in (
-      p .1,
-      omega (arith, p .2, params-room _ _ _ (n .next .ensures .1) (q .params .ensures)),
-      p .3,
+members-requires : tie.Need-members-requires
+members-requires c κs =
+    let at-seen = c .before .before .before .before in
+    let at-l = at-seen .before .before in
+    let at-next = at-l .before .before in
+    let start = at-next .before .before .before .before .before .before in (
+      ready-after _ _ _ _ _ _ (start .pre .1) (at-next .next .ensures .1),
+      node-begun _ _ _ _ (at-next .next .ensures .0) (at-next .next .ensures .1) _ _ _ _ _ _ _ (at-l .l .given .1) _,
     )
 
 returns-3 : tie.Need-returns-3
 returns-3 c =
-    let f = c .before .before .before .before in
-    let b = f .before .before .before .before in
-    let n = b .before .before .before .before .before in (
-      node-fields _ _ _ (n .next .ensures .0) (n .next .ensures .1) _ _ _ _ _ _ _ _ _ (b .before .before .before .l .given .1) _
-          (b .before .seen .ensures) (n .before .before .before .before .before .args .s .now) (f .fields .result .walk)
-          (take (f .fields .result .count) (f .fields .last .1 .1 .0)) _ (b .if1 .left)
-          (f .before .before .before .params .ensures) (f .fields .ensures .0),
-      f .fields .ensures .1,
-    )
+    let at-members = c .before .before .before .before .before .before in
+    let at-else = at-members .before .before .before .before in
+    let at-seen = at-else .before in
+    let at-l = at-seen .before .before in
+    let at-next = at-l .before .before in
+    let start = at-next .before .before .before .before .before .before in
+    node-whole _ (start .args .at) (at-next .next .result .next) _ (at-next .next .ensures .0) (at-next .next .ensures .1)
+    _ _ _ _ _ _ _ (at-l .l .given .1) _ _ _ _ _ _ _ _ _ (at-seen .seen .ensures) (at-else .if1 .left)
+    (at-members .members .ensures)
 
 pub node-spec : {M : Type 1} → statement M
 node-spec =
@@ -51,11 +50,13 @@ node-spec =
     (tie.spec
     (λ c κs. search needs)
     (λ c. search needs)
+    (λ c κs. search needs)
     returns
     (λ c κs. search needs)
-    returns-2
     (λ c κs. search needs)
-    fields-requires
+    returns-2
+    members-requires
+    (λ c. search needs)
     (λ c. search needs)
     (λ c. search needs)
     returns-3)

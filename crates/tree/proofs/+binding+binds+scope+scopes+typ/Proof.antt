@@ -1,8 +1,9 @@
 -- The walk over a type meets its contracts: each return is one law of WalkLaws, and each loop keeps what is left to read from
--- the start equal to what is left from here. Levels fall from a type to its parts, and below a level a type calls scopes, a
--- scope its bindings, a binding its type. Assumes nothing.
+-- the start equal to what is left from here, past a run of U rows too. Levels fall from a type to its parts, and below a level
+-- a type calls scopes, a scope its bindings, a binding its type. Assumes nothing.
 use mathlib.Core.Path.{_≡_, sym, _∙_}
 use Prim.Native.Nat.{ℕ, _+_, _*_, _<_}
+use native.Mathlib.Omega.{arith}
 use lib.ListN.{drop}
 use borrow.Author.Needs.{needs}
 use borrow.Fn.Kinds.{In}
@@ -10,6 +11,7 @@ use borrow.Fn.PlainCycle.{Measures, is, falls, and}
 use Rattle.tree.proofs.WalkLaws.{type-other, type-deep, type-plain, type-list, type-branded, type-pointer, times-none}
 use Rattle.tree.proofs.WalkLaws.{times-on, times-stop, binding-unbound, binding-type, scope-inherit, scope-bind}
 use Rattle.tree.proofs.WalkLaws.{scope-other}
+use Rattle.tree.proofs.UnboundLaws.{passed-unbound}
 use Rattle.tree.specs.Walked.{passed}
 use Rattle.tree.specs.Read.{typeOf, scopeOf, bindingOf}
 use Rattle.tree.specs.Reader.{times}
@@ -33,6 +35,7 @@ use Rattle.tree.proofs.typ.Reads as typ
 use Rattle.tree.proofs.typ.Kinds as typ-kinds
 use Rattle.tree.proofs.+binding+binds+scope+scopes+typ.Lts-typ as typ-lts
 use Rattle.row.proofs.next.Reads as next-reads
+use Rattle.row.proofs.unbound_run.Reads as unbound-run-reads
 
 abbrev μ-binding : Measures 1 binding-kinds.ps ℕ
 μ-binding κs a = 5 * a .1 .1 .0 + 1
@@ -99,6 +102,9 @@ binding-returns-2 t c =
     binding-type _ _ _ (c .before .before .next .ensures .0) (c .before .before .next .ensures .1) _ _
     (c .before .match .keys2) (c .typ .ensures)
 
+abbrev binds-calls : ℕ → binds-lts.Claims
+binds-calls t = (unbound-run-reads.Asked, unbound-run-reads.Learnt, binding-below t, binding.Post)
+
 abbrev binds-Inv-loop : binds-lts.InvT-loop
 binds-Inv-loop s from left count at₀ n₀ at n =
     passed (times (bindingOf (typeOf left)) stop count (rows (drop from s))) ≡ passed
@@ -107,44 +113,30 @@ binds-Inv-loop s from left count at₀ n₀ at n =
 abbrev binds-μ-loop : binds-lts.MeasureT-loop
 binds-μ-loop s from left count at₀ n₀ at n = n
 
-binds-returns :
-    (t : ℕ) →
-    binds-lts.Need-returns
-    (binding-below t, binding.Post)
-    (binds-at t)
-    binds.Post
-    binds-Inv-loop
-    binds-μ-loop
-binds-returns t c =
-    sym ((c .before .before .before .before .before .loop .inv) ∙ times-stop _ _
-    (c .before .before .before .before .before .before .before .args .s .now)
-    (c .before .before .before .before .before .loop .n) (c .before .before .before .before .before .loop .at) _ _ _
-    (c .before .before .before .before .loop-test .taken) (c .before .before .before .binding .ensures)
-    (c .before .number .given .1))
+binds-mul-at : (t : ℕ) → binds-lts.Need-mul-at (binds-calls t) (binds-at t) binds.Post binds-Inv-loop binds-μ-loop
+binds-mul-at t c = omega (arith, c .before .unbound-run .ensures .1 .0 (c .if1 .taken))
 
-binds-loop-again :
-    (t : ℕ) →
-    binds-lts.Need-loop-again
-    (binding-below t, binding.Post)
-    (binds-at t)
-    binds.Post
-    binds-Inv-loop
-    binds-μ-loop
+binds-add-at : (t : ℕ) → binds-lts.Need-add-at (binds-calls t) (binds-at t) binds.Post binds-Inv-loop binds-μ-loop
+binds-add-at t c = omega (arith, c .before .unbound-run .ensures .1 .0 (c .if1 .taken))
+
+binds-loop-again : (t : ℕ) → binds-lts.Need-loop-again (binds-calls t) (binds-at t) binds.Post binds-Inv-loop binds-μ-loop
 binds-loop-again t c =
-    (c .before .before .before .before .before .loop .inv) ∙ times-on _ _
-    (c .before .before .before .before .before .before .before .args .s .now)
-    (c .before .before .before .before .before .loop .n) (c .before .before .before .before .before .loop .at) _ _
-    (c .before .before .before .before .loop-test .taken) (c .before .before .before .binding .ensures)
-    (c .before .q .given .1)
+    let run = c .before .unbound-run .ensures in
+    c .before .before .before .loop .inv ∙ passed-unbound _ _ _ _ _ (run .0) (run .1 .1)
 
-binds-returns-2 :
-    (t : ℕ) →
-    binds-lts.Need-returns-2
-    (binding-below t, binding.Post)
-    (binds-at t)
-    binds.Post
-    binds-Inv-loop
-    binds-μ-loop
+binds-returns : (t : ℕ) → binds-lts.Need-returns (binds-calls t) (binds-at t) binds.Post binds-Inv-loop binds-μ-loop
+binds-returns t c =
+    let at-loop = c .before .before .before .before .before .before .before in
+    sym (at-loop .loop .inv ∙ times-stop _ _ (at-loop .before .before .args .s .now) (at-loop .loop .n) (at-loop .loop .at) _ _ _
+    (omega arith) (c .before .before .before .binding .ensures) (c .before .number .given .1))
+
+binds-loop-again-2 : (t : ℕ) → binds-lts.Need-loop-again-2 (binds-calls t) (binds-at t) binds.Post binds-Inv-loop binds-μ-loop
+binds-loop-again-2 t c =
+    let at-loop = c .before .before .before .before .before .before .before in
+    at-loop .loop .inv ∙ times-on _ _ (at-loop .before .before .args .s .now) (at-loop .loop .n) (at-loop .loop .at) _ _
+    (omega arith) (c .before .before .before .binding .ensures) (c .before .q .given .1)
+
+binds-returns-2 : (t : ℕ) → binds-lts.Need-returns-2 (binds-calls t) (binds-at t) binds.Post binds-Inv-loop binds-μ-loop
 binds-returns-2 t c =
     sym ((c .before .loop .inv) ∙ times-none _ _ (c .before .before .before .args .s .now) (c .before .loop .n)
     (c .before .loop .at) (c .loop-test .left))
@@ -322,19 +314,25 @@ pub +binding+binds+scope+scopes+typ-spec : {M : Type 1} → statement M
     (binding-returns t)
     (binding-returns-2 t))
     (λ t. binds-lts.spec
-    (binding-below t, binding.Post)
+    (binds-calls t)
     (binds-at t)
     binds.Post
     binds-Inv-loop
     binds-μ-loop
     (λ c. search needs)
     (λ c κs. search needs)
+    (binds-mul-at t)
+    (binds-add-at t)
+    (λ c. search needs)
+    (λ c. search needs)
+    (binds-loop-again t)
+    (λ c κs. search needs)
     (λ c. search needs)
     (λ c. search needs)
     (binds-returns t)
     (λ c. search needs)
     (λ c. search needs)
-    (binds-loop-again t)
+    (binds-loop-again-2 t)
     (binds-returns-2 t))
     (λ t. scope-lts.spec
     (next-reads.Asked, next-reads.Learnt, binds-below t, binds.Post)

@@ -1,59 +1,38 @@
--- `type_parts::inherited` meets its contract. The loop's invariant: whatever the names from here on make of what is written,
--- all names make of the start. Assumes nothing.
-use Rattle.type_parts.proofs.Laws as law
-use Rattle.type_parts.specs.declared.Arguments.{Arguments}
-use Rattle.type_parts.specs.Parts.{Listed}
-use Rattle.find.specs.Find.{namesOf}
-use Rattle.row.specs.Rows.{rows}
-use Rattle.text.proofs.Laws.{_⨾_}
-use borrow.Author.Tests.{not-true, not-false}
-use Prim.Native.Nat.{ℕ}
-use mathlib.Core.Path.{_≡_, refl}
-use mathlib.Core.List.{List}
+-- `type_parts::inherited` meets its contract: `Naming` says what is known at each turn. Assumes nothing.
+use lib.ListN.{length}
 use native.Mathlib.Omega.{arith}
-use lib.ListN.{length, drop}
+use mathlib.Core.Path.{_≡_, refl}
+use Rattle.text.proofs.Laws.{_⨾_}
+use Rattle.type_parts.proofs.Laws.{Naming}
+use Rattle.type_parts.proofs.Laws as law
 use borrow.Author.Needs.{needs}
 use Rattle.type_parts.proofs.inherited.Statement.{statement}
 use Rattle.type_parts.proofs.inherited.Tie as tie
 
 abbrev Inv-loop : tie.InvT-loop
-Inv-loop s from buf₀ at₀ p₀ buf at p = (length buf ≡ length buf₀) ×
-    ((l′ : List ℕ) (p′ : Arguments) → Listed buf p (namesOf (rows (drop at s))) l′ p′
-    → Listed buf₀ p₀ (namesOf (rows (drop from s))) l′ p′)
+Inv-loop s from count buf₀ at₀ n₀ p₀ buf at n p = (length buf ≡ length buf₀) × Naming s from count buf₀ p₀ at n buf p
 
 abbrev μ-loop : tie.MeasureT-loop
-μ-loop s from buf₀ at₀ p₀ buf at p = length (rows (drop at s))
+μ-loop s from count buf₀ at₀ n₀ p₀ buf at n p = n
 
 loop-holds : tie.Need-loop-holds Inv-loop μ-loop
-loop-holds c =
-    (refl, λ l′ p′ h. h)
-
-returns : tie.Need-returns Inv-loop μ-loop
-returns c =
-    let c1 = c .before in let c2 = c1 .before in let c3 = c2 .before in
-    (c3 .loop .inv .1) _ _ (rw (law.names-end _ _ _ _ (c2 .next .ensures .0) (c2 .next .ensures .1) (c1 .is-parameter .ensures)
-    (not-true _ (c .if1 .taken))) (law.listed-none _ _))
-
-loop-less : tie.Need-loop-less Inv-loop μ-loop
-loop-less c =
-    let c10 = c .before .before .before .before .before .before .before .before .before .before in let c11 = c10 .before in
-    let c12 = c11 .before in
-    law.fewer _ _ _ _ (c12 .next .ensures .0) (c12 .next .ensures .1) (c11 .is-parameter .ensures)
-    (not-false _ (c10 .if1 .left))
+loop-holds c = (refl, law.naming-start _ _ _ _ _)
 
 loop-again : tie.Need-loop-again Inv-loop μ-loop
 loop-again c =
-    let c2 = c .before .before in let c4 = c2 .before .before in let c7 = c4 .before .before .before in
-    let c10 = c7 .before .before .before in let c11 = c10 .before in let c12 = c11 .before in
-    let c13 = c12 .before in (
+    let at-bytes = c .before .before in let at-byte = at-bytes .before .before .before .before in
+    let at-text-before = at-byte .before .before .before in let at-next = at-text-before .before in
+    let at-test = at-next .before in
+    let at-loop = at-test .before in (
       omega arith,
-      λ l′ p′ h. (c13 .loop .inv .1) l′ p′ (rw (
-        law.names-on _ _ _ _ (c12 .next .ensures .0) (c12 .next .ensures .1)
-            (c11 .is-parameter .ensures) (not-false _ (c10 .if1 .left)),
-        ← (c4 .text .ensures),
-      )
-          (law.listed-cons ((c7 .byte .ensures) ⨾ (c2 .bytes .ensures)) h)),
+      law.naming-next _ _ _ _ _ _ _ _ _ (at-loop .loop .inv .1) (at-test .loop-test .taken) (at-next .next .result .next)
+          (at-next .next .ensures .1) _ _ _
+          ((at-text-before .text-before .ensures) (at-next .next .ensures .1))
+          ((at-byte .byte .ensures) ⨾ (at-bytes .bytes .ensures)),
     )
+
+returns : tie.Need-returns Inv-loop μ-loop
+returns c = let at-loop = c .before in law.naming-end _ _ _ _ _ _ _ _ _ (at-loop .loop .inv .1) (c .loop-test .left)
 
 pub inherited-spec : {M : Type 1} → statement M
 inherited-spec =
@@ -64,10 +43,10 @@ inherited-spec =
     loop-holds
     (λ c κs. search needs)
     (λ c κs. search needs)
+    (λ c κs. search needs)
+    (λ c κs. search needs)
     (λ c. search needs)
-    returns
-    (λ c κs. search needs)
-    (λ c κs. search needs)
-    (λ c κs. search needs)
-    loop-less
-    loop-again)
+    (λ c. search needs)
+    loop-again
+    (λ c. search needs)
+    returns)

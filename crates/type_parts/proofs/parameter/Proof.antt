@@ -1,9 +1,11 @@
--- `type_parts::parameter` meets its contract: each arm's leaf chooses its clause of the definition, whose three last parts are
--- one constant in the code; the leaves that are left are refused. Assumes nothing.
-use Rattle.codegen_types.specs.TypeString.{parameterString}
-use Rattle.text.specs.Bytes.{ascii}
-use mathlib.Core.List.{_++_}
-use Rattle.type_parts.proofs.Laws as law
+-- `type_parts::parameter` meets its contract: each return is a law for a node that is looked up, missing or found, with the
+-- parameter's name from its P row. Assumes nothing.
+use Rattle.text.specs.Bytes.{Str}
+use Rattle.codegen_types.proofs.WrittenLaws.{none}
+use Rattle.codegen_types.specs.Written.{Writes}
+use Rattle.codegen_types.specs.Out.{Out}
+use Rattle.nodes.specs.Index.{sheetOf}
+use Rattle.type_parts.proofs.Laws.{parameter-none, parameter-out, parameter-at}
 use borrow.Author.Needs.{needs}
 use Rattle.type_parts.proofs.parameter.Statement.{statement}
 use Rattle.type_parts.proofs.parameter.Tie as tie
@@ -12,88 +14,55 @@ enum-told : tie.Need-enum-told
 enum-told c = search needs
 
 returns : tie.Need-returns
-unfolding parameterString
 returns c =
-    let c2 = c .before .before in let c5 = c2 .before .before .before in let c8 = c5 .before .before .before in
-    let c13 = c8 .before .before .before .before .before in
-    rw ((c8 .leaf .given .1), (c5 .enum-told .given .1)) (law.in-three
-    (ascii "<" ++ (c13 .args .name .now) ++ ascii " as " ++ (c13 .args .root .now)) (ascii "::traits::Owned>::Reader<")
-    (ascii "'a") (ascii ">") (c2 .projected .ensures))
+    let at-enum-told = c .before in let at-find = at-enum-told .before .before in
+    let at-args = at-find .before .before .before .before .before in
+    λ ns x. parameter-none (at-args .args .s .now) (sheetOf (at-args .args .root .now) ns) (at-args .args .index .now) _ _
+    (at-find .find .ensures) x (λ (o : Out Str). Writes o (at-args .args .buf .now) (at-args .args .t) (at-args .args .buf .now)
+    (c .refused .result)) (at-args .args .leaf) (at-args .args .k) (at-enum-told .enum-told .given .1)
+    (none (c .refused .ensures))
 
 returns-2 : tie.Need-returns-2
-unfolding parameterString
 returns-2 c =
-    let c2 = c .before .before in let c5 = c2 .before .before .before in let c8 = c5 .before .before .before in
-    let c13 = c8 .before .before .before .before .before in
-    rw ((c8 .leaf .given .1), (c5 .enum-told2 .given .1)) (law.in-three
-    (ascii "<" ++ (c13 .args .name .now) ++ ascii " as " ++ (c13 .args .root .now)) (ascii "::traits::Owned>::Reader<")
-    (ascii "'_") (ascii ">") (c2 .projected2 .ensures))
+    let at-enum-told2 = c .before in let at-parameter = at-enum-told2 .before .before in
+    let at-node = at-parameter .before .before in let at-find = at-node .before .before in
+    let at-args = at-find .before .before .before .before .before in
+    λ ns x. parameter-out (at-args .args .s .now) (sheetOf (at-args .args .root .now) ns) (at-args .args .index .now) _ _
+    (at-find .find .ensures) x (λ (o : Out Str). Writes o (at-args .args .buf .now) (at-args .args .t) (at-args .args .buf .now)
+    (c .refused2 .result)) (at-args .args .leaf) (at-args .args .k) (at-node .node .given .0 .0) (at-node .node .given .1) _
+    (at-parameter .parameter .ensures) (at-enum-told2 .enum-told2 .given .1) (none (c .refused2 .ensures))
+
+text-requires : tie.Need-text-requires
+text-requires c κs = search needs
 
 returns-3 : tie.Need-returns-3
-unfolding parameterString
 returns-3 c =
-    let c2 = c .before .before in let c5 = c2 .before .before .before in let c8 = c5 .before .before .before in
-    let c13 = c8 .before .before .before .before .before in
-    rw ((c8 .leaf2 .given .1), (c5 .enum-told3 .given .1)) (law.in-three
-    (ascii "<" ++ (c13 .args .name .now) ++ ascii " as " ++ (c13 .args .root .now)) (ascii "::traits::Owned>::Builder<")
-    (ascii "'a") (ascii ">") (c2 .projected3 .ensures))
-
-returns-4 : tie.Need-returns-4
-unfolding parameterString
-returns-4 c =
-    let c2 = c .before .before in let c5 = c2 .before .before .before in let c8 = c5 .before .before .before in
-    let c13 = c8 .before .before .before .before .before in
-    rw ((c8 .leaf2 .given .1), (c5 .enum-told4 .given .1)) (law.in-three
-    (ascii "<" ++ (c13 .args .name .now) ++ ascii " as " ++ (c13 .args .root .now)) (ascii "::traits::Owned>::Builder<")
-    (ascii "'_") (ascii ">") (c2 .projected4 .ensures))
-
-returns-5 : tie.Need-returns-5
-unfolding parameterString
-returns-5 c =
-    rw (c .before .before .before .before .enum-told5 .given .1) (c .before .before .bytes .ensures)
-
-returns-6 : tie.Need-returns-6
-unfolding parameterString
-returns-6 c =
-    rw (c .before .before .before .before .before .enum-told6 .given .1) (c .before .before .projected5 .ensures)
-
-returns-7 : tie.Need-returns-7
-returns-7 c =
-    law.refused-leaf _ _ _ _ _ _ (c .before .before .before .before .args .leaf) (c .match .keys5)
+    let at-parameter-text = c .before .before in let at-text = at-parameter-text .before .before in
+    let at-place = at-text .before .before in let at-parameter = at-place .before .before in
+    let at-node = at-parameter .before .before in let at-find = at-node .before .before in
+    let at-args = at-find .before .before .before .before .before in
+    λ ns x. parameter-at (at-args .args .s .now) (sheetOf (at-args .args .root .now) ns) (at-args .args .index .now) _ _
+    (at-find .find .ensures) x (λ (o : Out Str). Writes o (at-args .args .buf .now) (at-args .args .t)
+    ((at-parameter-text .parameter-text .last .1 .1 .1 .1 .0)) (at-parameter-text .parameter-text .result))
+    (at-args .args .leaf) (at-args .args .k) (at-node .node .given .0 .0) (at-node .node .given .1) _
+    (at-parameter .parameter .ensures) (at-place .place .given .0 .0) (at-place .place .given .1)
+    (rw (at-text .text .ensures) at (at-parameter-text .parameter-text .ensures))
 
 pub parameter-spec : {M : Type 1} → statement M
 parameter-spec =
     tie.close
     (tie.spec
+    (λ c κs. search needs)
     (λ c. search needs)
     enum-told
-    (λ c. search needs)
     (λ c κs. search needs)
-    (λ c. search needs)
-    (λ c. search needs)
-    (λ c κs. search needs)
-    (λ c. search needs)
-    (λ c. search needs)
-    (λ c. search needs)
-    (λ c κs. search needs)
-    (λ c. search needs)
-    (λ c. search needs)
-    (λ c κs. search needs)
-    (λ c. search needs)
-    (λ c κs. search needs)
-    (λ c. search needs)
-    (λ c. search needs)
-    (λ c κs. search needs)
-    (λ c. search needs)
     returns
+    (λ c κs. search needs)
     (λ c. search needs)
+    (λ c. search needs)
+    (λ c κs. search needs)
     returns-2
+    text-requires
+    (λ c κs. search needs)
     (λ c. search needs)
-    returns-3
-    (λ c. search needs)
-    returns-4
-    (λ c. search needs)
-    returns-5
-    (λ c. search needs)
-    returns-6
-    returns-7)
+    returns-3)

@@ -1,62 +1,63 @@
 -- `zeroing::zero_fields_of_group`, which calls itself, meets its contract: the levels left fall, and the rows left fall in its
--- loop. Whatever the fields from here on add to the lines so far, all of them add to the start. Assumes nothing.
+-- loop. Whatever the fields from here on add to the lines so far, all of them add to the start; the first refusal that is met
+-- ends it. Assumes nothing.
 use native.Mathlib.Omega.{arith}
 use Prim.Native.Nat.{_+_, _-_, _≤_, ℕ, _<_}
 use mathlib.Core.List.{List}
-use mathlib.Core.Path.{_≡_, refl}
-use lib.ListN.{length, drop, length-set}
+use mathlib.Core.Path.{_≡_, refl, _∙_}
+use lib.ListN.{length, drop}
 use borrow.Author.Needs.{needs}
 use borrow.Fn.Kinds.{In}
 use borrow.Fn.PlainCycle.{Measures, is, falls, and}
 use Rattle.codegen.specs.Zeroing.{zeroFieldsOfGroup}
-use Rattle.find.specs.Find.{sheetOf}
-use Rattle.tree.specs.Index.{Indexed}
+use Rattle.codegen_types.specs.declared.Refusal.the-variants.{None}
+use Rattle.nodes.specs.Index.{Indexed, sheetOf}
 use Rattle.tree.specs.Tree.{Node}
 use Rattle.row.specs.Rows.{rows}
 use Rattle.text.specs.Bytes.{Str}
-use Rattle.find.proofs.node.Reads as node-reads
-use Rattle.place.proofs.read_field.Reads as read-field-reads
-use Rattle.zeroing.proofs.TurnLaws.{Going, going-first, going-end, going-slot, going-group}
-use Rattle.zeroing.proofs.GroupLaws.{none-left, group-missing, group-adds}
-use Rattle.zeroing.proofs.FieldLaws.{fewer, count-fits, count-more}
+use Rattle.zeroing.proofs.TurnLaws.{Going, going-first, going-end, going-slot, going-group, going-stop}
+use Rattle.zeroing.proofs.GroupLaws.{none-left, group-missing, no-struct, group-adds}
+use Rattle.zeroing.proofs.FieldLaws.{slot-fewer, group-fewer, count-fits, count-more}
 use Rattle.zeroing.proofs.zero_fields_of_group.Reads as zero-fields-of-group
 use Rattle.zeroing.proofs.zero_fields_of_group.Kinds as zero-fields-of-group-kinds
 use Rattle.zeroing.proofs.+zero_fields_of_group.Lts-zero_fields_of_group as zero-fields-of-group-lts
-use Rattle.place.proofs.first_field.Reads as first-field-reads
+use Rattle.field.proofs.read.Reads as read-reads
+use Rattle.nodes.proofs.find.Reads as find-reads
+use Rattle.zeroing.proofs.refused.Reads as refused-reads
 use Rattle.zeroing.proofs.tag_line.Reads as tag-line-reads
 use Rattle.zeroing.proofs.zero_slot.Reads as zero-slot-reads
 use Rattle.zeroing.proofs.+zero_fields_of_group.{statement}
 use Rattle.zeroing.proofs.+zero_fields_of_group.Tie.{close}
 
-abbrev μ-zero-fields-of-group : Measures 4 zero-fields-of-group-kinds.ps ℕ
-μ-zero-fields-of-group κs a = a .1 .1 .1 .1 .0
+abbrev μ-zero-fields-of-group : Measures 3 zero-fields-of-group-kinds.ps ℕ
+μ-zero-fields-of-group κs a = a .1 .1 .1 .0
 
-abbrev zero-fields-of-group-at : ℕ → In 4 zero-fields-of-group-kinds.ps
+abbrev zero-fields-of-group-at : ℕ → In 3 zero-fields-of-group-kinds.ps
 zero-fields-of-group-at t =
     and
-    4
+    3
     zero-fields-of-group-kinds.ps
-    (is 4 zero-fields-of-group-kinds.ps μ-zero-fields-of-group t)
+    (is 3 zero-fields-of-group-kinds.ps μ-zero-fields-of-group t)
     zero-fields-of-group.Pre
 
-abbrev zero-fields-of-group-below : ℕ → In 4 zero-fields-of-group-kinds.ps
+abbrev zero-fields-of-group-below : ℕ → In 3 zero-fields-of-group-kinds.ps
 zero-fields-of-group-below t =
     and
-    4
+    3
     zero-fields-of-group-kinds.ps
-    (falls 4 zero-fields-of-group-kinds.ps _<_ μ-zero-fields-of-group t)
+    (falls 3 zero-fields-of-group-kinds.ps _<_ μ-zero-fields-of-group t)
     zero-fields-of-group.Pre
 
 abbrev zero-fields-of-group-calls : ℕ → zero-fields-of-group-lts.Claims
 zero-fields-of-group-calls t = (
-  node-reads.Asked,
-  node-reads.Learnt,
-  first-field-reads.Asked,
-  first-field-reads.Learnt,
+  refused-reads.Asked,
+  refused-reads.Learnt,
+  find-reads.Asked,
+  find-reads.Learnt,
   tag-line-reads.Asked,
   tag-line-reads.Learnt,
-  read-field-reads.Asked,
-  read-field-reads.Learnt,
+  read-reads.Asked,
+  read-reads.Learnt,
   zero-slot-reads.Asked,
   zero-slot-reads.Learnt,
   zero-fields-of-group-below t,
@@ -64,170 +65,219 @@ zero-fields-of-group-calls t = (
 )
 
 abbrev zero-fields-of-group-Inv-loop : zero-fields-of-group-lts.InvT-loop
-zero-fields-of-group-Inv-loop s ids ats id left buf₀ node first marks₀ p₀ at₀ count₀ buf marks p at count =
-    (length buf ≡ length buf₀) × (length marks ≡ 1024)
+zero-fields-of-group-Inv-loop s index id left buf₀ offsets₀ types₀ p₀ first at₀ count₀ buf offsets types p at count =
+    (length buf ≡ length buf₀) × (length offsets ≡ 307) × (length types ≡ 307) × (p .refusal ≡ None)
     × (count + length (rows (drop at s)) ≤ length (rows (drop first s)))
-    × ((root : Str) (ns : List Node) → Indexed s ns ids ats → Going (zeroFieldsOfGroup (sheetOf root ns) (left - 1))
-    (rows (drop first s)) buf₀ p₀ (rows (drop at s)) count marks buf p)
+    × ((root : Str) (ns : List Node) → Indexed s ns index → (tags offset : ℕ)
+    → Going (zeroFieldsOfGroup (sheetOf root ns) (left - 1)) tags offset (rows (drop first s)) buf₀ p₀ (rows (drop at s)) count
+    offsets types buf p)
 
 abbrev zero-fields-of-group-μ-loop : zero-fields-of-group-lts.MeasureT-loop
-zero-fields-of-group-μ-loop s ids ats id left buf₀ node first marks₀ p₀ at₀ count₀ buf marks p at count =
+zero-fields-of-group-μ-loop s index id left buf₀ offsets₀ types₀ p₀ first at₀ count₀ buf offsets types p at count =
     length (rows (drop at s))
 
 zero-fields-of-group-returns : (t : ℕ) → zero-fields-of-group-lts.Need-returns (zero-fields-of-group-calls t)
     (zero-fields-of-group-at t) zero-fields-of-group.Post zero-fields-of-group-Inv-loop zero-fields-of-group-μ-loop
 zero-fields-of-group-returns t c =
     let start = c .before .before .before .before .before in
-    λ root ns x. rw (none-left (sheetOf root ns) (start .args .left) (start .args .id) (c .if1 .taken)) tt
+    λ root ns x. rw (none-left (sheetOf root ns) (start .args .left) (start .args .id) (c .before .if1 .taken))
+    (c .refused .ensures)
 
 zero-fields-of-group-returns-2 : (t : ℕ) → zero-fields-of-group-lts.Need-returns-2 (zero-fields-of-group-calls t)
     (zero-fields-of-group-at t) zero-fields-of-group.Post zero-fields-of-group-Inv-loop zero-fields-of-group-μ-loop
 zero-fields-of-group-returns-2 t c =
-    let at-node = c .before .before in
-    let at-if1 = at-node .before in
-    let start = at-if1 .before .before .before .before .before in
-    let a = start .args in
-    λ root ns x. rw (group-missing (a .s .now) (sheetOf root ns) (a .ids .now) (a .ats .now) (a .left) (a .id)
-    (at-if1 .if1 .left) _ (at-node .node .ensures) x (c .enum-told .given .1)) tt
+    let at-find = c .before .before .before in
+    let at-if1 = at-find .before in
+    let a = at-if1 .before .before .before .before .args in
+    λ root ns x. rw (group-missing (a .s .now) (sheetOf root ns) (a .index .now) (a .left) (a .id) (at-if1 .if1 .left) _
+    (at-find .find .ensures) x (c .before .enum-told .given .1)) (c .refused2 .ensures)
+
+zero-fields-of-group-returns-3 : (t : ℕ) → zero-fields-of-group-lts.Need-returns-3 (zero-fields-of-group-calls t)
+    (zero-fields-of-group-at t) zero-fields-of-group.Post zero-fields-of-group-Inv-loop zero-fields-of-group-μ-loop
+zero-fields-of-group-returns-3 t c =
+    let at-if2 = c .before in
+    let at-node = at-if2 .before .before .before in
+    let at-find = at-node .before .before in
+    let at-if1 = at-find .before in
+    let a = at-if1 .before .before .before .before .args in
+    λ root ns x. rw (no-struct (a .s .now) (sheetOf root ns) (a .index .now) (a .left) (a .id) (at-if1 .if1 .left) _
+    (at-find .find .ensures) x _ (at-node .node .given .1) (at-if2 .if2 .taken)) (c .refused3 .ensures)
 
 zero-fields-of-group-loop-holds : (t : ℕ) → zero-fields-of-group-lts.Need-loop-holds (zero-fields-of-group-calls t)
     (zero-fields-of-group-at t) zero-fields-of-group.Post zero-fields-of-group-Inv-loop zero-fields-of-group-μ-loop
 zero-fields-of-group-loop-holds t c =
-    (refl, refl, omega arith, λ root ns x. going-first _ _ _ _ _)
+    let at-tag-line = c .before .before in
+    let start = at-tag-line .before .before .before .before .before .before .before .before .before .before .before .before in (
+      refl,
+      refl,
+      refl,
+      at-tag-line .tag-line .ensures .refusal ∙ start .pre .1,
+      omega arith,
+      λ root ns x tags offset. going-first _ tags offset _ 307 _ _,
+    )
 
 zero-fields-of-group-add-count : (t : ℕ) → zero-fields-of-group-lts.Need-add-count (zero-fields-of-group-calls t)
     (zero-fields-of-group-at t) zero-fields-of-group.Post zero-fields-of-group-Inv-loop zero-fields-of-group-μ-loop
 zero-fields-of-group-add-count t c =
-    let at-line = c .before .before .before .before .before .before .before in
-    let at-read-field = at-line .before .before in
-    let at-loop = at-read-field .before in
-    let at-first-field = at-loop .before .before .before .before .before in
-    let start = at-first-field .before .before .before .before .before .before .before .before .before .before in
+    let at-zero-slot = c .before .before .before .before in
+    let at-f = at-zero-slot .before .before .before .before .before in
+    let at-read = at-f .before .before in
+    let at-loop = at-read .before in
+    let at-node = at-loop .before .before .before .before .before .before .before .before in
+    let start = at-node .before .before .before .before .before .before .before in
     let a = start .args in
-    let read = at-read-field .read-field in
-    omega (
-      arith,
-      count-fits (a .s .now) _ (read .result) (read .ensures) _ (at-line .line .given .1) tt
-          (at-first-field .first-field .result) (at-loop .loop .count) (at-loop .loop .inv .2) (start .good .0 .0),
-    )
+    let first = at-node .node .given .0 .0 .fields in
+    let fewer = slot-fewer (a .s .now) (at-loop .loop .at) _ (at-read .read .ensures .1) _ (at-f .f .given .1) in
+    omega (arith, count-fits (a .s .now) first (at-loop .loop .count) _ _ (at-loop .loop .inv .4) fewer (start .good .0 .0))
 
 zero-fields-of-group-loop-less : (t : ℕ) → zero-fields-of-group-lts.Need-loop-less (zero-fields-of-group-calls t)
     (zero-fields-of-group-at t) zero-fields-of-group.Post zero-fields-of-group-Inv-loop zero-fields-of-group-μ-loop
 zero-fields-of-group-loop-less t c =
-    let at-line = c .before .before .before .before .before .before .before in
-    let at-read-field = at-line .before .before in
-    let at-loop = at-read-field .before in
-    let a = at-loop .before .before .before .before .before .before .before .before .before .before .before .before .before
-    .before .before .args
-    in
-    let read = at-read-field .read-field in
-    fewer (a .s .now) _ (read .result) (read .ensures) _ (at-line .line .given .1) tt
+    let at-zero-slot = c .before .before .before .before in
+    let at-f = at-zero-slot .before .before .before .before .before in
+    let at-read = at-f .before .before in
+    let at-loop = at-read .before in
+    let at-node = at-loop .before .before .before .before .before .before .before .before in
+    let start = at-node .before .before .before .before .before .before .before in
+    let a = start .args in
+    let first = at-node .node .given .0 .0 .fields in
+    let fewer = slot-fewer (a .s .now) (at-loop .loop .at) _ (at-read .read .ensures .1) _ (at-f .f .given .1) in
+    fewer
 
 zero-fields-of-group-loop-again : (t : ℕ) → zero-fields-of-group-lts.Need-loop-again (zero-fields-of-group-calls t)
     (zero-fields-of-group-at t) zero-fields-of-group.Post zero-fields-of-group-Inv-loop zero-fields-of-group-μ-loop
 zero-fields-of-group-loop-again t c =
-    let at-zero-slot = c .before .before .before in
-    let at-line = at-zero-slot .before .before .before .before in
-    let at-read-field = at-line .before .before in
-    let at-loop = at-read-field .before in
-    let at-first-field = at-loop .before .before .before .before .before in
-    let start = at-first-field .before .before .before .before .before .before .before .before .before .before in
+    let at-zero-slot = c .before .before .before .before in
+    let at-f = at-zero-slot .before .before .before .before .before in
+    let at-read = at-f .before .before in
+    let at-loop = at-read .before in
+    let at-node = at-loop .before .before .before .before .before .before .before .before in
+    let start = at-node .before .before .before .before .before .before .before in
     let a = start .args in
-    let read = at-read-field .read-field in (
+    let first = at-node .node .given .0 .0 .fields in
+    let fewer = slot-fewer (a .s .now) (at-loop .loop .at) _ (at-read .read .ensures .1) _ (at-f .f .given .1) in (
       omega arith,
-      rw (at-zero-slot .zero-slot .ensures .1, length-set) (at-loop .loop .inv .1),
-      count-more (a .s .now) _ (read .result) (read .ensures) _ (at-line .line .given .1) tt
-          (at-first-field .first-field .result) (at-loop .loop .count) (at-loop .loop .inv .2),
-      λ root ns x. going-slot _ _ _ _ _ _ _ _ _ (at-loop .loop .inv .3 root ns x) (a .s .now) (read .result) (read .ensures)
-          _ _ _ _ _ (at-line .line .given .1) (at-zero-slot .zero-slot .ensures .0) (at-zero-slot .zero-slot .ensures .1),
+      omega (arith, c .before .before .before .offsets2 .given, at-loop .loop .inv .1),
+      omega (arith, c .before .before .types2 .given, at-loop .loop .inv .2),
+      at-zero-slot .zero-slot .ensures .0 ∙ at-loop .loop .inv .3,
+      count-more (a .s .now) first (at-loop .loop .count) _ _ (at-loop .loop .inv .4) fewer,
+      λ root ns x tags offset. going-slot _ _ _ _ _ _ _ _ _ _ _ _ (at-loop .loop .inv .5 root ns x tags offset) (a .s .now)
+          (at-read .read .result) (at-read .read .ensures .0) _ (at-f .f .given .1) _ _ _ _
+          (at-zero-slot .zero-slot .ensures .1),
     )
 
 zero-fields-of-group-zero-fields-of-group-requires : (t : ℕ)
     → zero-fields-of-group-lts.Need-zero-fields-of-group-requires (zero-fields-of-group-calls t)
     (zero-fields-of-group-at t) zero-fields-of-group.Post zero-fields-of-group-Inv-loop zero-fields-of-group-μ-loop
 zero-fields-of-group-zero-fields-of-group-requires t c κs =
-    let at-if1 = c .before .before .before .before .before .before .before .before .before .before .before .before .before
-    .before .before
-    in
-    let start = at-if1 .before .before .before .before .before in
-    (omega (arith, start .pre .0, at-if1 .if1 .left), tt)
+    let at-loop = c .before .before .before .before .before in
+    let at-if1 = at-loop .before .before .before .before .before .before .before .before .before .before .before in
+    let start = at-if1 .before .before .before .before in
+    (omega (arith, start .pre .0, at-if1 .if1 .left), at-loop .loop .inv .3)
+
+zero-fields-of-group-returns-4 : (t : ℕ) → zero-fields-of-group-lts.Need-returns-4 (zero-fields-of-group-calls t)
+    (zero-fields-of-group-at t) zero-fields-of-group.Post zero-fields-of-group-Inv-loop zero-fields-of-group-μ-loop
+zero-fields-of-group-returns-4 t c =
+    let at-inner = c .before .before .before .before in
+    let at-f = at-inner .before .before .before in
+    let at-read = at-f .before .before in
+    let at-loop = at-read .before in
+    let at-tag-line = at-loop .before .before .before in
+    let at-if2 = at-tag-line .before .before in
+    let at-node = at-if2 .before .before .before in
+    let node = at-node .node .given .0 .0 in
+    let at-find = at-node .before .before in
+    let at-if1 = at-find .before in
+    let a = at-if1 .before .before .before .before .args in
+    λ root ns x. group-adds (a .s .now) (sheetOf root ns) (a .index .now) (a .left) (a .id) (at-if1 .if1 .left) _
+    (at-find .find .ensures) x _ (at-node .node .given .1) (at-if2 .if2 .left) _ _ _ _ _ _ (at-tag-line .tag-line .ensures)
+    (going-stop _ _ _ _ _ _ _ _ _ _ _ _ (at-loop .loop .inv .5 root ns x (node .«tag_count») (node .«tag_offset»)) (a .s .now)
+    (at-read .read .result) (at-read .read .ensures .0) _ (at-f .f2 .given .1) _ _
+    (at-inner .zero-fields-of-group .ensures root ns x) _ (at-loop .loop .inv .3) (c .enum-told2 .given .1))
 
 zero-fields-of-group-add-count-2 : (t : ℕ) → zero-fields-of-group-lts.Need-add-count-2 (zero-fields-of-group-calls t)
     (zero-fields-of-group-at t) zero-fields-of-group.Post zero-fields-of-group-Inv-loop zero-fields-of-group-μ-loop
 zero-fields-of-group-add-count-2 t c =
-    let at-line = c .before .before .before .before .before in
-    let at-read-field = at-line .before .before in
-    let at-loop = at-read-field .before in
-    let at-first-field = at-loop .before .before .before .before .before in
-    let start = at-first-field .before .before .before .before .before .before .before .before .before .before in
+    let at-inner = c .before .before .before .before in
+    let at-f = at-inner .before .before .before in
+    let at-read = at-f .before .before in
+    let at-loop = at-read .before in
+    let at-node = at-loop .before .before .before .before .before .before .before .before in
+    let start = at-node .before .before .before .before .before .before .before in
     let a = start .args in
-    let read = at-read-field .read-field in
-    omega (
-      arith,
-      count-fits (a .s .now) _ (read .result) (read .ensures) _ (at-line .line2 .given .1) tt
-          (at-first-field .first-field .result) (at-loop .loop .count) (at-loop .loop .inv .2) (start .good .0 .0),
-    )
+    let first = at-node .node .given .0 .0 .fields in
+    let fewer = group-fewer (a .s .now) (at-loop .loop .at) _ (at-read .read .ensures .1) _ (at-f .f2 .given .1) in
+    omega (arith, count-fits (a .s .now) first (at-loop .loop .count) _ _ (at-loop .loop .inv .4) fewer (start .good .0 .0))
 
 zero-fields-of-group-loop-less-2 : (t : ℕ) → zero-fields-of-group-lts.Need-loop-less-2 (zero-fields-of-group-calls t)
     (zero-fields-of-group-at t) zero-fields-of-group.Post zero-fields-of-group-Inv-loop zero-fields-of-group-μ-loop
 zero-fields-of-group-loop-less-2 t c =
-    let at-line = c .before .before .before .before .before in
-    let at-read-field = at-line .before .before in
-    let at-loop = at-read-field .before in
-    let a = at-loop .before .before .before .before .before .before .before .before .before .before .before .before .before
-    .before .before .args
-    in
-    let read = at-read-field .read-field in
-    fewer (a .s .now) _ (read .result) (read .ensures) _ (at-line .line2 .given .1) tt
+    let at-inner = c .before .before .before .before in
+    let at-f = at-inner .before .before .before in
+    let at-read = at-f .before .before in
+    let at-loop = at-read .before in
+    let at-node = at-loop .before .before .before .before .before .before .before .before in
+    let start = at-node .before .before .before .before .before .before .before in
+    let a = start .args in
+    let first = at-node .node .given .0 .0 .fields in
+    let fewer = group-fewer (a .s .now) (at-loop .loop .at) _ (at-read .read .ensures .1) _ (at-f .f2 .given .1) in
+    fewer
 
 zero-fields-of-group-loop-again-2 : (t : ℕ) → zero-fields-of-group-lts.Need-loop-again-2 (zero-fields-of-group-calls t)
     (zero-fields-of-group-at t) zero-fields-of-group.Post zero-fields-of-group-Inv-loop zero-fields-of-group-μ-loop
 zero-fields-of-group-loop-again-2 t c =
-    let at-zero-fields-of-group = c .before .before in
-    let at-line = at-zero-fields-of-group .before .before .before in
-    let at-read-field = at-line .before .before in
-    let at-loop = at-read-field .before in
-    let at-first-field = at-loop .before .before .before .before .before in
-    let start = at-first-field .before .before .before .before .before .before .before .before .before .before in
+    let at-inner = c .before .before .before .before in
+    let at-f = at-inner .before .before .before in
+    let at-read = at-f .before .before in
+    let at-loop = at-read .before in
+    let at-node = at-loop .before .before .before .before .before .before .before .before in
+    let start = at-node .before .before .before .before .before .before .before in
     let a = start .args in
-    let read = at-read-field .read-field in (
-      omega arith,
+    let first = at-node .node .given .0 .0 .fields in
+    let fewer = group-fewer (a .s .now) (at-loop .loop .at) _ (at-read .read .ensures .1) _ (at-f .f2 .given .1) in (
+      omega (arith, c .before .before .before .buf3 .given),
       at-loop .loop .inv .1,
-      count-more (a .s .now) _ (read .result) (read .ensures) _ (at-line .line2 .given .1) tt
-          (at-first-field .first-field .result) (at-loop .loop .count) (at-loop .loop .inv .2),
-      λ root ns x. going-group _ _ _ _ _ _ _ _ _ (at-loop .loop .inv .3 root ns x) (a .s .now) (read .result) (read .ensures)
-          _ _ _ _ (at-line .line2 .given .1) (at-zero-fields-of-group .zero-fields-of-group .ensures root ns x) refl,
+      at-loop .loop .inv .2,
+      c .enum-told3 .given .1,
+      count-more (a .s .now) first (at-loop .loop .count) _ _ (at-loop .loop .inv .4) fewer,
+      λ root ns x tags offset. going-group _ _ _ _ _ _ _ _ _ _ _ _ (at-loop .loop .inv .5 root ns x tags offset) (a .s .now)
+          (at-read .read .result) (at-read .read .ensures .0) _ (at-f .f2 .given .1) _ _
+          (at-inner .zero-fields-of-group .ensures root ns x) (c .enum-told3 .given .1),
     )
 
-zero-fields-of-group-returns-3 : (t : ℕ) → zero-fields-of-group-lts.Need-returns-3 (zero-fields-of-group-calls t)
+zero-fields-of-group-returns-5 : (t : ℕ) → zero-fields-of-group-lts.Need-returns-5 (zero-fields-of-group-calls t)
     (zero-fields-of-group-at t) zero-fields-of-group.Post zero-fields-of-group-Inv-loop zero-fields-of-group-μ-loop
-zero-fields-of-group-returns-3 t c =
-    let at-read-field = c .before .before in
-    let at-loop = at-read-field .before in
+zero-fields-of-group-returns-5 t c =
+    let at-read = c .before .before in
+    let at-loop = at-read .before in
     let at-tag-line = at-loop .before .before .before in
-    let at-first-field = at-tag-line .before .before in
-    let at-node2 = at-first-field .before .before in
-    let at-node = at-node2 .before .before in
-    let at-if1 = at-node .before in
-    let a = at-if1 .before .before .before .before .before .args in
-    let read = at-read-field .read-field in
-    λ root ns x. group-adds (a .s .now) (sheetOf root ns) (a .ids .now) (a .ats .now) (a .left) (a .id) (at-if1 .if1 .left) _
-    (at-node .node .ensures) x _ (at-node2 .node2 .given .1) _ _ _ _ _ _ (at-tag-line .tag-line .ensures)
-    (λ n w. going-end _ _ _ _ _ _ _ _ _ (at-loop .loop .inv .3 root ns x) (a .s .now) (read .result) (read .ensures)
-    (c .enum-told2 .given .1) (n .fields) n (at-first-field .first-field .ensures n w))
+    let at-if2 = at-tag-line .before .before in
+    let at-node = at-if2 .before .before .before in
+    let node = at-node .node .given .0 .0 in
+    let at-find = at-node .before .before in
+    let at-if1 = at-find .before in
+    let a = at-if1 .before .before .before .before .args in
+    λ root ns x. group-adds (a .s .now) (sheetOf root ns) (a .index .now) (a .left) (a .id) (at-if1 .if1 .left) _
+    (at-find .find .ensures) x _ (at-node .node .given .1) (at-if2 .if2 .left) _ _ _ _ _ _ (at-tag-line .tag-line .ensures)
+    (going-end _ _ _ _ _ _ _ _ _ _ _ _ (at-loop .loop .inv .5 root ns x (node .«tag_count») (node .«tag_offset»)) (a .s .now)
+    (at-read .read .result) (at-read .read .ensures .0) (c .enum-told4 .given .1))
 
 pub +zero-fields-of-group-spec : {M : Type 1} → statement M
 +zero-fields-of-group-spec = close μ-zero-fields-of-group λ t. zero-fields-of-group-lts.spec (zero-fields-of-group-calls t)
     (zero-fields-of-group-at t) zero-fields-of-group.Post zero-fields-of-group-Inv-loop zero-fields-of-group-μ-loop
+    (λ c κs. search needs)
     (zero-fields-of-group-returns t)
     (λ c κs. search needs)
     (λ c. search needs)
     (λ c. search needs)
+    (λ c κs. search needs)
     (zero-fields-of-group-returns-2 t)
     (λ c κs. search needs)
+    (zero-fields-of-group-returns-3 t)
     (λ c κs. search needs)
     (zero-fields-of-group-loop-holds t)
     (λ c κs. search needs)
+    (λ c. search needs)
     (λ c. search needs)
     (λ c. search needs)
     (λ c κs. search needs)
@@ -237,9 +287,13 @@ pub +zero-fields-of-group-spec : {M : Type 1} → statement M
     (λ c. search needs)
     (λ c. search needs)
     (zero-fields-of-group-zero-fields-of-group-requires t)
+    (λ c. search needs)
+    (λ c. search needs)
+    (zero-fields-of-group-returns-4 t)
+    (λ c. search needs)
     (zero-fields-of-group-add-count-2 t)
     (zero-fields-of-group-loop-less-2 t)
     (zero-fields-of-group-loop-again-2 t)
     (λ c. search needs)
     (λ c. search needs)
-    (zero-fields-of-group-returns-3 t)
+    (zero-fields-of-group-returns-5 t)

@@ -3,7 +3,7 @@ use mathlib.Core.Bool.{Bool, true, false}
 use lib.ListN.{drop}
 use borrow.Author.Needs.{needs}
 use Rattle.row.specs.Rows.{rows}
-use Rattle.zeroing.proofs.RepeatLaws.{Tells, tells-none, tells-end, tells-here, tells-more}
+use Rattle.zeroing.proofs.RepeatLaws.{Tells, tells-none, tells-end, tells-here, tells-more, tells-group}
 use Rattle.zeroing.proofs.is_repeat.Statement.{statement}
 use Rattle.zeroing.proofs.is_repeat.Tie as tie
 
@@ -18,41 +18,49 @@ loop-holds : tie.Need-loop-holds Inv-loop μ-loop
 loop-holds c =
     λ r x. x
 
-enum-told : tie.Need-enum-told Inv-loop μ-loop
-enum-told c = search needs
-
 returns : tie.Need-returns Inv-loop μ-loop
 returns c =
-    let at-read-field = c .before .before in
-    let at-loop = at-read-field .before .before in
-    let a = at-loop .before .before .args in
-    at-loop .loop .inv false
-    (tells-end _ _ _ (at-loop .loop .n) (a .s .now) (at-read-field .read-field .result) (at-read-field .read-field .ensures)
-    (c .enum-told .given .1))
-
-returns-2 : tie.Need-returns-2 Inv-loop μ-loop
-returns-2 c =
     let at-has-line = c .before in
-    let at-match = at-has-line .before in
-    let at-read-field = at-match .before in
-    let at-loop-test = at-read-field .before in
+    let at-f = at-has-line .before .before in
+    let at-read = at-f .before .before in
+    let at-loop-test = at-read .before in
     let at-loop = at-loop-test .before in
     let a = at-loop .before .before .args in
     at-loop .loop .inv true
-    (tells-here _ _ _ (at-loop .loop .n) (a .s .now) (at-read-field .read-field .result) (at-read-field .read-field .ensures)
-    (at-match .match .keys2) (at-loop-test .loop-test .taken) _ (at-has-line .has-line .ensures) (c .if1 .taken))
+    (tells-here _ _ _ (at-loop .loop .n) (a .s .now) (at-read .read .result) (at-read .read .ensures .0)
+    (at-loop-test .loop-test .taken) _ (at-f .f .given .1) _ (at-has-line .has-line .ensures) (c .if1 .taken))
 
 loop-again : tie.Need-loop-again Inv-loop μ-loop
 loop-again c =
     let at-has-line = c .before in
-    let at-match = at-has-line .before in
-    let at-read-field = at-match .before in
-    let at-loop-test = at-read-field .before in
+    let at-f = at-has-line .before .before in
+    let at-read = at-f .before .before in
+    let at-loop-test = at-read .before in
     let at-loop = at-loop-test .before in
     let a = at-loop .before .before .args in
     λ r x. at-loop .loop .inv r
-    (tells-more _ _ _ (at-loop .loop .n) (a .s .now) (at-read-field .read-field .result) (at-read-field .read-field .ensures)
-    (at-match .match .keys2) (at-loop-test .loop-test .taken) _ (at-has-line .has-line .ensures) r (c .if1 .left) x)
+    (tells-more _ _ _ (at-loop .loop .n) (a .s .now) (at-read .read .result) (at-read .read .ensures .0)
+    (at-loop-test .loop-test .taken) _ (at-f .f .given .1) _ (at-has-line .has-line .ensures) r (c .if1 .left) x)
+
+loop-again-2 : tie.Need-loop-again-2 Inv-loop μ-loop
+loop-again-2 c =
+    let at-f = c .before in
+    let at-read = at-f .before .before in
+    let at-loop-test = at-read .before in
+    let at-loop = at-loop-test .before in
+    let a = at-loop .before .before .args in
+    λ r x. at-loop .loop .inv r
+    (tells-group _ _ _ (at-loop .loop .n) (a .s .now) (at-read .read .result) (at-read .read .ensures .0)
+    (at-loop-test .loop-test .taken) _ (at-f .f2 .given .1) r x)
+
+returns-2 : tie.Need-returns-2 Inv-loop μ-loop
+returns-2 c =
+    let at-read = c .before .before in
+    let at-loop = at-read .before .before in
+    let a = at-loop .before .before .args in
+    at-loop .loop .inv false
+    (tells-end _ _ _ (at-loop .loop .n) (a .s .now) (at-read .read .result) (at-read .read .ensures .0)
+    (c .enum-told .given .1))
 
 returns-3 : tie.Need-returns-3 Inv-loop μ-loop
 returns-3 c =
@@ -66,11 +74,16 @@ is-repeat-spec =
     μ-loop
     loop-holds
     (λ c κs. search needs)
-    enum-told
-    returns
+    (λ c. search needs)
     (λ c κs. search needs)
-    returns-2
+    returns
     (λ c. search needs)
     (λ c. search needs)
     loop-again
+    (λ c. search needs)
+    (λ c. search needs)
+    (λ c. search needs)
+    loop-again-2
+    (λ c. search needs)
+    returns-2
     returns-3)

@@ -1,4 +1,5 @@
 -- `zeroing::line_type` meets its contract: by the tests on the kind. Assumes nothing.
+use borrow.Author.Needs.{needs}
 use borrow.Author.Tests.{eq-eqb, ne-eqb, le-leb, lt-leb}
 use Rattle.zeroing.specs.Lines.{lineType}
 use Rattle.zeroing.proofs.line_type.Statement.{statement}
@@ -20,4 +21,4 @@ returns-3 c =
     simp (ne-eqb _ _ (c .before .if1 .left), lt-leb _ _ (c .if2 .left))
 
 pub line-type-spec : {M : Type 1} → statement M
-line-type-spec = tie.close (tie.spec returns returns-2 returns-3)
+line-type-spec = tie.close (tie.spec returns (λ c. search needs) returns-2 returns-3)

@@ -1,0 +1,151 @@
+-- Laws of the fields that stand at some rows: the first is what its row says, and the others stand after it. By cases on what is
+-- read. Assumes nothing.
+use mathlib.Core.Path.{_≡_, refl, sym, ap, _∙_}
+use mathlib.Core.Bool.{true, false}
+use mathlib.Core.List.{List, [], _∷_}
+use Prim.Native.Nat.{ℕ, zero, suc, _-_, _<_, _≤_}
+use native.Mathlib.Numerals.{sub-one}
+use native.Mathlib.Omega.{arith}
+use package.types.Run.{OneOf}
+use denote.Enum.Declared.{tagOf}
+use lib.ListN.{drop}
+use Rattle.text.specs.Bytes.{Str}
+use Rattle.row.specs.Rows.{rows, restOf}
+use Rattle.row.specs.Line.{lineAt, textAt}
+use Rattle.row.specs.declared.Line.{Line}
+use Rattle.row.specs.declared.Line.the-variants as line
+use Rattle.row.proofs.Line.{the-type}
+use Rattle.tree.specs.Tree as tree
+use Rattle.tree.specs.Tree.{slot, group}
+use Rattle.tree.specs.Reader.{Rows, Reading, got, no, _then_}
+use Rattle.tree.specs.Read as read
+use Rattle.tree.specs.Read.{slotOf, fieldOf, isField}
+use Rattle.tree.specs.Fields as fields
+use Rattle.tree.specs.Fields.{FieldsHere}
+use Rattle.tree.proofs.OtherLines.{never, not-a-field}
+use Rattle.nodes.specs.Index.{nth}
+use Rattle.field.specs.Field.{nextOf, ReadsFirst, Fewer, FindsField}
+use Rattle.field.specs.Parts.{Gets, SlotRead}
+use Rattle.field.specs.declared.Slot.{Slot}
+use Rattle.field.specs.declared.Group.{Group}
+use Rattle.field.specs.declared.Field.{Field}
+use Rattle.field.specs.declared.Field.the-variants as field
+use Rattle.field.proofs.SlotLaws.{row-fewer}
+use Rattle.field.proofs.TypeLaws.{rest-fewer}
+
+-- where no field stands, none is read
+field-none : (rs : Rows) → isField (lineAt rs) ≡ false → fieldOf rs ≡ no 2 rs
+unfolding fieldOf
+field-none rs h = go (lineAt rs) refl h
+  where
+    go : (l : Line) → lineAt rs ≡ l → isField l ≡ false → fieldOf rs ≡ no 2 rs
+    go line.Root e h = rw (e, e)
+    go (line.Node a b c d x f g) e h = rw (e, e)
+    go line.Parameter e h = rw (e, e)
+    go (line.Field a b c d) e h = never cc
+    go (line.Group a b) e h = never cc
+    go (line.Typ a b c d) e h = rw (e, e)
+    go (line.Scope a b c) e h = rw (e, e)
+    go line.Unbound e h = rw (e, e)
+    go (line.Value a b) e h = rw (e, e)
+    go (line.Word a) e h = rw (e, e)
+    go line.Bad e h = rw (e, e)
+
+-- the row l that stands at a position, and the rows after it
+module _ (s : Str) (at next : ℕ) (l : Line) (here : l ≡ lineAt (rows (drop at s)))
+    (after : rows (drop next s) ≡ restOf (rows (drop at s))) where
+  abbrev rs : Rows
+  rs = rows (drop at s)
+
+  -- an F row
+  module _ (o d e p : ℕ) (is : l ≡ line.Field o d e p) where
+    of-slot : fieldOf rs ≡ (slotOf o e p (rows (drop next s)) then λ sl. got (read.field (textAt rs) d (slot sl)))
+    unfolding fieldOf
+    of-slot = rw (← here, is, ← after)
+
+    pub first-slot :
+        (r : Field) → Gets (slotOf o e p (rows (drop next s))) (SlotRead s r at d) → (fs : List tree.Field)
+        → FieldsHere rs fs → ReadsFirst s r fs
+    first-slot r h [] (fields.none x) =
+        let i : isField (lineAt rs) ≡ true = rw (← here, is) refl in never cc
+    first-slot r h (f ∷ fs) (fields.more {rest = rest} x y) =
+        go (slotOf o e p (rows (drop next s))) h (sym of-slot ∙ x)
+      where
+        go : (g : Reading tree.Slot) → Gets g (SlotRead s r at d)
+            → (g then λ sl. got (read.field (textAt rs) d (slot sl))) ≡ got f rest → ReadsFirst s r (f ∷ fs)
+        go (got sl z) h x =
+            let i : f ≡ read.field (textAt rs) d (slot sl) = cc in
+            let j : z ≡ rest = cc in
+            (rw i (h .0), rw (h .1, j) y)
+        go (no k z) h x = never cc
+
+    pub fewer-slot : (r : Field) → Fewer s next r → Fewer s at r
+    fewer-slot (field.Slot r) h = let g = rest-fewer _ _ after in omega arith
+    fewer-slot (field.Group r) h = let g = rest-fewer _ _ after in omega arith
+    fewer-slot field.Nothing h = tt
+
+  -- a G row
+  module _ (i d : ℕ) (is : l ≡ line.Group i d) where
+    abbrev here-group : Field
+    here-group = field.Group (record { id = i; discriminant = d; at = at; next = next })
+
+    of-group : fieldOf rs ≡ got (read.field (textAt rs) d (group i)) (rows (drop next s))
+    unfolding fieldOf
+    of-group = rw (← here, is, ← here, is, ← after)
+
+    pub first-group : (fs : List tree.Field) → FieldsHere rs fs → ReadsFirst s here-group fs
+    first-group [] (fields.none x) = let i : isField (lineAt rs) ≡ true = rw (← here, is) refl in never cc
+    first-group (f ∷ fs) (fields.more {rest = rest} x y) =
+        let e : got (read.field (textAt rs) d (group i)) (rows (drop next s)) ≡ got f rest = sym of-group ∙ x in
+        let j : f ≡ read.field (textAt rs) d (group i) = cc in
+        let k : rows (drop next s) ≡ rest = cc in
+        (rw j (record { name-is = refl; after = after; discriminant-is = refl; id-is = refl }), rw k y)
+
+    pub fewer-group : Fewer s at here-group
+    fewer-group = row-fewer _ _ l here after (λ e. never cc)
+
+  -- another row
+  pub first-none : OneOf (0 ∷ 1 ∷ 2 ∷ 5 ∷ 6 ∷ 7 ∷ 8 ∷ 9 ∷ 10 ∷ []) (tagOf the-type l) → (fs : List tree.Field)
+      → FieldsHere rs fs → ReadsFirst s field.Nothing fs
+  first-none other [] (fields.none x) = refl
+  first-none other (f ∷ fs) (fields.more {rest = rest} x y) =
+      let e : fieldOf rs ≡ no 2 rs = field-none rs (rw (← here) (not-a-field l other)) in never cc
+
+-- ---- by place
+
+-- the field read at a position, whatever fields stand there
+module _ (s : Str) (at : ℕ) (r : Field)
+    (first : (fs : List tree.Field) → FieldsHere (rows (drop at s)) fs → ReadsFirst s r fs) where
+  place-on :
+      (n : ℕ) → 0 < n → (r ≡ field.Nothing → ⊥) → (next : ℕ) → nextOf r ≡ next → (found : Field)
+      → ((fs : List tree.Field) → FieldsHere (rows (drop next s)) fs → FindsField s found (nth (n - 1) fs))
+      → (fs : List tree.Field) → FieldsHere (rows (drop at s)) fs → FindsField s found (nth n fs)
+  unfolding nth
+  place-on zero h some next is found more fs here = let z : ⊥ = omega arith in absurd z
+  place-on (suc n) h some next is found more [] here = absurd (some (first [] here))
+  place-on (suc n) h some next is found more (f ∷ fs) here =
+      rw (sub-one (suc n)) at (more fs (rw (← is) (first (f ∷ fs) here .1)))
+
+  pub place-slot :
+      (n : ℕ) → 0 < n → (x : Slot) → r ≡ field.Slot x → (found : Field)
+      → ((fs : List tree.Field) → FieldsHere (rows (drop (x .next) s)) fs → FindsField s found (nth (n - 1) fs))
+      → (fs : List tree.Field) → FieldsHere (rows (drop at s)) fs → FindsField s found (nth n fs)
+  place-slot n h x is = place-on n h (λ e. never cc) (x .next) (ap nextOf is)
+
+  pub place-group :
+      (n : ℕ) → 0 < n → (x : Group) → r ≡ field.Group x → (found : Field)
+      → ((fs : List tree.Field) → FieldsHere (rows (drop (x .next) s)) fs → FindsField s found (nth (n - 1) fs))
+      → (fs : List tree.Field) → FieldsHere (rows (drop at s)) fs → FindsField s found (nth n fs)
+  place-group n h x is = place-on n h (λ e. never cc) (x .next) (ap nextOf is)
+
+  pub place-stop : (n : ℕ) → r ≡ field.Nothing → (fs : List tree.Field) → FieldsHere (rows (drop at s)) fs
+      → FindsField s field.Nothing (nth n fs)
+  unfolding nth
+  place-stop n none [] here = refl
+  place-stop n none (f ∷ fs) here = let z : ⊥ = rw none at (first (f ∷ fs) here .0) in absurd z
+
+  pub place-here : (n : ℕ) → n ≤ 0 → (fs : List tree.Field) → FieldsHere (rows (drop at s)) fs → FindsField s r (nth n fs)
+  unfolding nth
+  place-here zero h [] here = first [] here
+  place-here zero h (f ∷ fs) here = first (f ∷ fs) here .0
+  place-here (suc n) h fs here = let z : ⊥ = omega arith in absurd z

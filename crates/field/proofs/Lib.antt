@@ -1,0 +1,4 @@
+pub mod TypeLaws
+pub mod WordsLaws
+pub mod SlotLaws
+pub mod FieldLaws

@@ -1,0 +1,124 @@
+-- Laws of a slot's words: counting W rows from a position on, and the words that are read there. By what the first row says.
+-- Assumes nothing.
+use mathlib.Core.Path.{_≡_, refl, ap}
+use mathlib.Core.Bool.{Bool, true, false, not}
+use mathlib.Core.List.{List, [], _∷_}
+use Prim.Native.Nat.{ℕ, zero, suc, _+_, _-_, _<_, _≤_}
+use native.Mathlib.Omega.{arith}
+use package.types.Run.{OneOf}
+use denote.Enum.Declared.{tagOf}
+use lib.ListN.{length}
+use Rattle.text.specs.Bytes.{Str}
+use Rattle.row.specs.Rows.{restOf}
+use Rattle.row.specs.Line.{lineAt, asWord}
+use Rattle.row.specs.declared.Line.{Line}
+use Rattle.row.specs.declared.Line.the-variants as line
+use Rattle.row.proofs.Line.{the-type}
+use Rattle.tree.specs.Reader.{Rows, Reading, Reader, got, no, _then_, mapR}
+use Rattle.tree.specs.Read.{wordsUpTo, wordsOf}
+use Rattle.tree.proofs.OtherLines.{not-word, never}
+use Rattle.tree.proofs.SlotLaws.{words-more}
+use Rattle.field.specs.Parts.{Gets, mostWords}
+
+-- k words were counted, and at most 255 are
+unfoldable pub counting : ℕ → Reader ℕ
+counting k = mapR (λ ws. k + length ws) (wordsUpTo (255 - k))
+
+pub count-start : (any : Bool) (rs : Rows) → not any ≡ false → counting 0 rs ≡ mapR length (wordsUpTo (mostWords any)) rs
+unfolding counting
+count-start true rs e = go (wordsUpTo 255 rs)
+  where
+    go : (g : Reading (List ℕ)) → (g then λ ws. got (0 + length ws)) ≡ (g then λ ws. got (length ws))
+    go (got ws q) = let e : 0 + length ws ≡ length ws = omega arith in rw e refl
+    go (no k q) = refl
+count-start false rs e = never cc
+
+pub count-none : (any : Bool) (rs : Rows) → not any ≡ true → got 0 rs ≡ mapR length (wordsUpTo (mostWords any)) rs
+unfolding wordsUpTo
+count-none true rs e = never cc
+count-none false rs e = refl
+
+pub count-full : (k : ℕ) (rs : Rows) → 255 ≤ k → counting k rs ≡ got k rs
+unfolding counting wordsUpTo
+count-full k rs h =
+    let e : 255 - k ≡ 0 = omega arith in let f : k + 0 ≡ k = omega arith in rw e (ap (λ (n : ℕ). got n rs) f)
+
+-- the first row's line l, and the rows after it
+module _ (rs rest : Rows) (l : Line) (here : l ≡ lineAt rs) (after : rest ≡ restOf rs) where
+  pub count-on : (k w : ℕ) → k < 255 → l ≡ line.Word w → counting k rs ≡ counting (k + 1) rest
+  unfolding counting
+  count-on k w h is =
+      let e : 255 - k - 1 ≡ 255 - (k + 1) = omega arith in
+      rw (words-more (255 - k) rs (omega arith), ← here, is, ← after, e) (go (wordsUpTo (255 - (k + 1)) rest))
+    where
+      go : (g : Reading (List ℕ))
+          → ((g then λ ws. got (w ∷ ws)) then λ ws. got (k + length ws)) ≡ (g then λ ws. got (k + 1 + length ws))
+      go (got ws q) = let e : k + length (w ∷ ws) ≡ k + 1 + length ws = omega arith in ap (λ (n : ℕ). got n q) e
+      go (no j q) = refl
+
+  pub count-stop : (k : ℕ) → k < 255 → OneOf (0 ∷ 1 ∷ 2 ∷ 3 ∷ 4 ∷ 5 ∷ 6 ∷ 7 ∷ 8 ∷ 10 ∷ []) (tagOf the-type l)
+      → counting k rs ≡ got k rs
+  unfolding counting
+  count-stop k h other =
+      let e : k + 0 ≡ k = omega arith in
+      rw (words-more (255 - k) rs (omega arith), ← here, not-word {A = Reader _} l _ _ other) (ap (λ (n : ℕ). got n rs) e)
+
+-- ---- the words that are read
+
+-- two choices by whether a line is a W row
+two : {A B : Type 0} (R : A → B → Type 0) (l : Line) (y : ℕ → A) (z : A) (y′ : ℕ → B) (z′ : B) → ((w : ℕ) → R (y w) (y′ w))
+    → R z z′ → R (asWord l y z) (asWord l y′ z′)
+two R line.Root y z y′ z′ f g = g
+two R (line.Node i p k x v c o) y z y′ z′ f g = g
+two R line.Parameter y z y′ z′ f g = g
+two R (line.Field o d e p) y z y′ z′ f g = g
+two R (line.Group i d) y z y′ z′ f g = g
+two R (line.Typ k a b c) y z y′ z′ f g = g
+two R (line.Scope i b c) y z y′ z′ f g = g
+two R line.Unbound y z y′ z′ f g = g
+two R (line.Value k b) y z y′ z′ f g = g
+two R (line.Word w) y z y′ z′ f g = f w
+two R line.Bad y z y′ z′ f g = g
+
+-- where a slot has words, they are those up to 255
+words-whole : (has : Bool) (rs : Rows) (ws : List ℕ) (z : Rows) → wordsOf has rs ≡ got ws z
+    → wordsUpTo (mostWords has) rs ≡ got ws z
+unfolding wordsOf wordsUpTo
+words-whole false rs ws z e = e
+words-whole true rs ws z e =
+    two (λ (f g : Reader (List ℕ)). f rs ≡ got ws z → g rs ≡ got ws z) (lineAt rs) _ _ _ _ (λ w e. e) (λ e. never cc) e
+
+pub words-counted : (has : Bool) (rs : Rows) (ws : List ℕ) (z : Rows) (k : ℕ) (q : Rows) → wordsOf has rs ≡ got ws z
+    → got k q ≡ mapR length (wordsUpTo (mostWords has)) rs → (k ≡ length ws) × (q ≡ z)
+words-counted has rs ws z k q e h =
+    let g : got k q ≡ got (length ws) z = rw (words-whole has rs ws z e) at h in (cc, cc)
+
+-- words leave no more rows
+words-fewer : (n : ℕ) (rs : Rows) → Gets (wordsUpTo n rs) (λ ws q. length q ≤ length rs)
+unfolding wordsUpTo restOf
+words-fewer zero rs = omega arith
+words-fewer (suc n) [] =
+    two (λ (f g : Reader (List ℕ)). Gets (f []) (λ ws q. length q ≤ length {A = Str} [])) (lineAt []) _ _ (λ w. got []) (got [])
+    (λ w. go w (wordsUpTo n []) (words-fewer n [])) (omega arith)
+  where
+    go : (w : ℕ) (g : Reading (List ℕ)) → Gets g (λ ws q. length q ≤ length {A = Str} [])
+        → Gets (g then λ ws. got (w ∷ ws)) (λ ws q. length q ≤ length {A = Str} [])
+    go w (got ws q) h = h
+    go w (no k q) h = tt
+words-fewer (suc n) (r ∷ rs) =
+    two (λ (f g : Reader (List ℕ)). Gets (f (r ∷ rs)) (λ ws q. length q ≤ length (r ∷ rs))) (lineAt (r ∷ rs)) _ _ (λ w. got [])
+    (got [])
+    (λ w. go w (wordsUpTo n rs) (words-fewer n rs)) (omega arith)
+  where
+    go : (w : ℕ) (g : Reading (List ℕ)) → Gets g (λ ws q. length q ≤ length rs)
+        → Gets (g then λ ws. got (w ∷ ws)) (λ ws q. length q ≤ length (r ∷ rs))
+    go w (got ws q) h = omega arith
+    go w (no k q) h = tt
+
+pub counted-fewer : (n : ℕ) (rs : Rows) (k : ℕ) (q : Rows) → got k q ≡ mapR length (wordsUpTo n) rs → length q ≤ length rs
+counted-fewer n rs k q h = go (wordsUpTo n rs) (words-fewer n rs) h
+  where
+    go : (g : Reading (List ℕ)) → Gets g (λ ws q. length q ≤ length rs) → got k q ≡ (g then λ ws. got (length ws))
+        → length q ≤ length rs
+    go (got ws z) f e = let i : q ≡ z = cc in rw i f
+    go (no j z) f e = never cc

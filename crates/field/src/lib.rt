@@ -1,0 +1,237 @@
+// A field of the sheet by value, read once: what its F or G row says, its type's row and its V row, where its name, type and
+// words stand, and where the next field begins.
+use row::Line;
+ghost use mathlib.Core.Path.{_≡_};
+ghost use mathlib.Core.List.{List};
+ghost use Prim.Native.Nat.{ℕ, _≤_};
+ghost use lib.ListN.{drop, length};
+ghost use Rattle.text.specs.Bytes.{Str};
+ghost use Rattle.row.specs.Rows.{rows, restOf};
+ghost use Rattle.tree.specs.Tree as tree;
+ghost use Rattle.tree.specs.Reader.{got, mapR};
+ghost use Rattle.tree.specs.Read.{typeOf, wordsUpTo, slotOf};
+ghost use Rattle.tree.specs.Fields.{FieldsHere};
+ghost use Rattle.nodes.specs.Index.{nth};
+ghost use Rattle.field.specs.Slot.{SlotField, SlotHere};
+ghost use Rattle.field.specs.Field.{GroupHere, ReadsFirst, Fewer, FindsField};
+ghost use Rattle.field.specs.Parts.{Gets, TypeIs, mostWords, SlotRead};
+
+// A slot. The numbers of its F row:
+pub struct Slot {
+    pub offset: u64,
+    pub discriminant: u64,
+    pub explicit: u64,
+    pub option: u64,
+    // The type's kind, and the id of its node; of an AnyPointer, whether it is a parameter.
+    pub kind: u64,
+    pub id: u64,
+    // The default's kind and its bits.
+    pub default: u64,
+    pub bits: u64,
+    // Where the F row stands, the type, the words, how many these are, and where the next field begins.
+    pub at: usize,
+    pub typ: usize,
+    pub words: usize,
+    pub count: u64,
+    pub next: usize,
+}
+
+// A group: the numbers of its G row, where that row stands, and where the next field begins.
+pub struct Group {
+    pub id: u64,
+    pub discriminant: u64,
+    pub at: usize,
+    pub next: usize,
+}
+
+// What stands where a field may stand.
+pub enum Field {
+    Slot(Slot),
+    Group(Group),
+    Nothing,
+}
+
+impl Slot {
+    // The field's name: the sheet's own bytes.
+    pub fn name(self, s: &[u8]) -> &[u8]
+        ensures { λ r. ⌜ ((f : SlotField) → SlotHere (now (s .entry)) self f → now r ≡ f .name) ⌝ }
+    {
+        row::text_before(s, self.at, self.typ)
+    }
+}
+
+impl Group {
+    // The field's name: the sheet's own bytes.
+    pub fn name(self, s: &[u8]) -> &[u8]
+        ensures { λ r. ⌜ ((name : Str) (d id : ℕ) → GroupHere (now (s .entry)) self name d id → now r ≡ name) ⌝ }
+    {
+        row::text_before(s, self.at, self.next)
+    }
+}
+
+// What the row of a type says, kind and a, and where the rows after the type begin.
+struct TypeRow {
+    kind: u64,
+    id: u64,
+    past: usize,
+}
+
+// The type at a position: its row is read, and what is nested is passed over.
+fn type_row(s: &[u8], at: usize) -> TypeRow
+    ensures is { λ r. ⌜ Gets (typeOf 16 (rows (drop at (now (s .entry))))) (TypeIs (now (s .entry)) r) ⌝ }
+    ensures fewer { λ r. ⌜ length (rows (drop (r .past) (now (s .entry)))) ≤ length (rows (drop at (now (s .entry)))) ⌝ }
+{
+    let g = row::next(s, at);
+    let line = g.line;
+    let Line::Typ { kind, a, b, c: _ } = line else {
+        return TypeRow {
+            kind: 0,
+            id: 0,
+            past: g.next,
+        };
+    };
+    if kind < 14 {
+        return TypeRow {
+            kind,
+            id: a,
+            past: g.next,
+        };
+    }
+    if kind == 14 {
+        let past = find::past(s, g.next, 1);
+        return TypeRow { kind, id: a, past };
+    }
+    if kind < 18 {
+        let past = find::past(s, g.next, b);
+        return TypeRow { kind, id: a, past };
+    }
+    TypeRow {
+        kind: 18,
+        id: a,
+        past: g.next,
+    }
+}
+
+// How many W rows there are, and where the rows after them begin.
+struct Words {
+    count: u64,
+    next: usize,
+}
+
+// The W rows at a position, up to 255, where there may be any.
+fn words_from(s: &[u8], from: usize, any: bool) -> Words
+    ensures { λ r. ⌜ got (r .count) (rows (drop (r .next) (now (s .entry))))
+        ≡ mapR length (wordsUpTo (mostWords any)) (rows (drop from (now (s .entry)))) ⌝ }
+{
+    let mut next = from;
+    let mut count: u64 = 0;
+    if !any {
+        return Words { count, next };
+    }
+    while count < 255 {
+        let g = row::next(s, next);
+        let line = g.line;
+        let Line::Word { value: _ } = line else {
+            return Words { count, next };
+        };
+        next = g.next;
+        count += 1;
+    }
+    Words { count, next }
+}
+
+// The slot whose F row stands at a position and says these numbers; its type follows.
+fn slot_from(
+    s: &[u8],
+    at: usize,
+    typ: usize,
+    offset: u64,
+    discriminant: u64,
+    explicit: u64,
+    option: u64,
+) -> Field
+    ensures is { λ r. ⌜ (rows (drop typ (now (s .entry))) ≡ restOf (rows (drop at (now (s .entry))))
+        → Gets (slotOf offset explicit option (rows (drop typ (now (s .entry)))))
+        (SlotRead (now (s .entry)) r at discriminant)) ⌝ }
+    ensures fewer { λ r. ⌜ Fewer (now (s .entry)) typ r ⌝ }
+{
+    let t = type_row(s, typ);
+    let g = row::next(s, t.past);
+    let value = g.line;
+    let words = g.next;
+    let Line::Value {
+        kind: default,
+        bits,
+    } = value
+    else {
+        return Field::Nothing;
+    };
+    let any = tree::has_words(explicit, default);
+    let w = words_from(s, words, any);
+    Field::Slot(Slot {
+        offset,
+        discriminant,
+        explicit,
+        option,
+        kind: t.kind,
+        id: t.id,
+        default,
+        bits,
+        at,
+        typ,
+        words,
+        count: w.count,
+        next: w.next,
+    })
+}
+
+// The field at a position.
+pub fn read(s: &[u8], at: usize) -> Field
+    ensures first { λ r. ⌜ ((fs : List tree.Field) → FieldsHere (rows (drop at (now (s .entry)))) fs
+        → ReadsFirst (now (s .entry)) r fs) ⌝ }
+    ensures fewer { λ r. ⌜ Fewer (now (s .entry)) at r ⌝ }
+{
+    let g = row::next(s, at);
+    let line = g.line;
+    let next = g.next;
+    match line {
+        Line::Field {
+            offset,
+            discriminant,
+            explicit,
+            option,
+        } => slot_from(s, at, next, offset, discriminant, explicit, option),
+        Line::Group { id, discriminant } => Field::Group(Group {
+            id,
+            discriminant,
+            at,
+            next,
+        }),
+        _ => Field::Nothing,
+    }
+}
+
+// The field with a number, from 0, of those that stand at a position.
+pub fn at_place(s: &[u8], from: usize, place: u64) -> Field
+    ensures { λ r. ⌜ ((fs : List tree.Field) → FieldsHere (rows (drop from (now (s .entry)))) fs
+        → FindsField (now (s .entry)) r (nth place fs)) ⌝ }
+{
+    let mut at = from;
+    let mut n = place;
+    while 0 < n {
+        match read(s, at) {
+            Field::Slot(slot) => {
+                at = slot.next;
+                n -= 1;
+                continue;
+            }
+            Field::Group(group) => {
+                at = group.next;
+                n -= 1;
+                continue;
+            }
+            Field::Nothing => return Field::Nothing,
+        }
+    }
+    read(s, at)
+}

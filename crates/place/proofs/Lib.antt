@@ -1,3 +1,0 @@
-pub mod NodeLaws
-pub mod PlaceLaws
-pub mod FieldsLaws

@@ -1,0 +1,256 @@
+-- Laws of `members` and `node`: what is read of one node, and what its reading makes of the index. Assumes nothing.
+use mathlib.Core.Path.{_≡_, refl, sym, ap, _∙_}
+use mathlib.Core.Bool.{Bool, true, false}
+use mathlib.Core.List.{List, [], _∷_, _++_}
+use Prim.Native.Nat.{ℕ, _+_, _*_, _≤_, _<_}
+use native.Mathlib.Omega.{arith}
+use lib.ListN.{length, drop, take}
+use types.Run.{OneOf}
+use denote.Enum.Declared.{tagOf}
+use Rattle.text.specs.Bytes.{Str}
+use Rattle.row.proofs.Line.{the-type}
+use Rattle.row.specs.Rows.{rows, restOf, size}
+use Rattle.row.specs.Line.{lineAt, textAt}
+use Rattle.row.specs.declared.Line.{Line}
+use Rattle.tree.specs.Tree.{Field, Node}
+use Rattle.tree.specs.Reader.{Rows, Reading, got, no, Reader, _then_}
+use Rattle.tree.specs.Read.{among, fieldsOf, groupIds, paramsOf, membersOf, nodeOf}
+use Rattle.tree.specs.Fields.{FieldsHere}
+use Rattle.tree.specs.Walked.{passed}
+use Rattle.tree.specs.Index.{On}
+use Rattle.tree.specs.declared.Walk.{Walk}
+use Rattle.tree.specs.declared.Walk.the-variants.{Next, Refused}
+use Rattle.tree.proofs.OtherLines.{never, not-node}
+use Rattle.tree.proofs.TailLaws.{tail-rest, tail-size}
+use Rattle.nodes.specs.Index.{entryAt, withEntry, namesOf, Marked}
+use Rattle.nodes.specs.declared.Entry.{Entry}
+use Rattle.nodes.proofs.NameLaws.{params-names}
+use Rattle.nodes.proofs.PutLaws.{entry-put, length-put, before-put, after-put}
+use Rattle.sheet.specs.Admission.{told, groupsAfter, Room, Flagged, leftAfter, Same, ParamsRead, Placed, nodeWith}
+use Rattle.sheet.specs.Admission.{membersHere, Ready, Begun, refusedRun, seenAfter, NodeRead}
+use Rattle.sheet.specs.declared.ParamsRun.{ParamsRun}
+use Rattle.sheet.specs.declared.Held.{Held}
+use Rattle.sheet.specs.declared.NodeRun.{NodeRun}
+use Rattle.sheet.proofs.FieldsHereLaws as fields
+use Rattle.sheet.proofs.FieldsHereLaws.{Stand, fields-stand}
+use Rattle.sheet.proofs.PlacedLaws.{marked-same}
+use Rattle.row.specs.declared.Line.the-variants as line
+
+-- ---- a node that is refused
+
+pub node-refused :
+    (s : Str) (at : ℕ) (groups flags x : List ℕ) (held : Held) (seen : List ℕ) (k : ℕ) (g : Reading Node)
+    → Ready s at groups flags held → g ≡ no k (rows (drop at s))
+    → NodeRead s held seen x g groups flags x (refusedRun held k at)
+node-refused s at groups flags x held seen k g r e = record {
+  read = rw e;
+  room = omega (arith, r .room);
+  flagged = r .flagged;
+  marks = omega (arith, r .marks);
+  further = omega arith;
+  entries = record { each = λ q a b. refl };
+  before = record { each = λ q a b. refl };
+  entry = λ big. rw e tt;
+}
+
+-- the first row's line l
+module _ (rs : Rows) (l : Line) (here : l ≡ lineAt rs) (ids seen : List ℕ) where
+  pub node-other : OneOf (0 ∷ 2 ∷ 3 ∷ 4 ∷ 5 ∷ 6 ∷ 7 ∷ 8 ∷ 9 ∷ 10 ∷ []) (tagOf the-type l) → nodeOf ids seen rs ≡ no 2 rs
+  unfolding nodeOf
+  node-other o = rw (← here, not-node {A = Reader _} l _ _ o)
+
+  module _ (i p sc st g tc to : ℕ) (is : l ≡ line.Node i p sc st g tc to) (b : Bool) (e : b ≡ among i ids) where
+    pub node-double : b ≡ true → nodeOf ids seen rs ≡ no 3 rs
+    unfolding nodeOf
+    node-double t = rw (← here, is, ← e, t)
+
+-- what is left after a row is less
+pub ready-after :
+    (s : Str) (at e : ℕ) (groups flags : List ℕ) (held : Held) → Ready s at groups flags held
+    → rows (drop e s) ≡ restOf (rows (drop at s)) → Ready s e groups flags held
+ready-after s at e groups flags held r after =
+    let less : size (rows (drop e s)) ≤ size (rows (drop at s)) = rw after (tail-size (tail-rest (rows (drop at s)))) in
+    record {
+      few = r .few;
+      flags-size = r .flags-size;
+      room = omega (arith, r .room);
+      flagged = r .flagged;
+      first = r .first;
+      marks = omega (arith, r .marks);
+    }
+
+-- a node is its N row, with the rows after it, and what belongs to it
+module _ (s : Str) (at e : ℕ) (l : Line) (here : l ≡ lineAt (rows (drop at s)))
+    (after : rows (drop e s) ≡ restOf (rows (drop at s)))
+    (i p sc st g tc to : ℕ) (is : l ≡ line.Node i p sc st g tc to) (held : Held) where
+  -- the entry that has the row's numbers
+  abbrev entry : Entry
+  entry = record {
+    id = i;
+    parent = p;
+    scope = sc;
+    «is_struct» = st;
+    generic = g;
+    «tag_count» = tc;
+    «tag_offset» = to;
+    at = at;
+    params = e;
+    count = 0;
+    marks = held .marks;
+    fields = 0;
+  }
+
+  pub node-begun : Begun s held entry
+  node-begun = record { after = after; marks = refl }
+
+  pub node-whole :
+      (ids seen x y groups flags : List ℕ) (r : NodeRun) (b : Bool) → b ≡ among i ids → b ≡ false
+      → NodeRead s held seen x (membersHere s entry seen) groups flags y r
+      → NodeRead s held seen x (nodeOf ids seen (rows (drop at s))) groups flags y r
+  unfolding nodeOf
+  node-whole ids seen x y groups flags r b e f h = rw same h
+    where
+      same : nodeOf ids seen (rows (drop at s)) ≡ membersHere s entry seen
+      same = rw (← here, is, ← e, f, after)
+
+-- ---- what belongs to an N row
+
+abbrev paired : ℕ → List ℕ → ℕ × List ℕ
+paired i x = (i, x)
+
+told-map :
+    {A B : Type 0} (f : A → B) (s : Str) (w : Walk) (x : A) (g : Reading A) → told s w x ≡ g → told s w (f x) ≡
+    (g then λ a. got (f a))
+told-map f s (Next at) x g e = rw (← e)
+told-map f s (Refused k at) x g e = rw (← e)
+
+-- the bytes that are left after the fields
+fields-left :
+    (s : Str) (w : Walk) (a : List ℕ) (seen : List ℕ) (ts : Rows) → told s w a ≡ groupsAfter seen ts → leftAfter s w ≤ size ts
+fields-left s (Refused k at) a seen ts e = omega arith
+fields-left s (Next at) a seen ts e = go (fieldsOf seen ts) (fields-stand seen ts) e
+  where
+    go : (g : Reading (List Field)) → Stand ts g → got a (rows (drop at s)) ≡ (g then λ fs. got (seen ++ groupIds fs))
+        → size (rows (drop at s)) ≤ size ts
+    go (got fs us) (fields.read x t) e = let z : us ≡ rows (drop at s) = cc in rw (← z) (tail-size t)
+    go (no k us) fields.not e = never cc
+
+-- the entry n of which the N row is read, the P rows p after it, and what is read of the fields
+module _ (s : Str) (held : Held) (seen x y : List ℕ) (n : Entry) (p : ParamsRun)
+    (begun : Begun s held n) (params : ParamsRead s (rows (drop (n .params) s)) (held .marks) x y p) where
+  -- the entry with the count of its P rows and the position of its fields
+  abbrev whole : Entry
+  whole = record {
+    id = n .id;
+    parent = n .parent;
+    scope = n .scope;
+    «is_struct» = n .«is_struct»;
+    generic = n .generic;
+    «tag_count» = n .«tag_count»;
+    «tag_offset» = n .«tag_offset»;
+    at = n .at;
+    params = n .params;
+    count = p .count;
+    marks = n .marks;
+    fields = p .at;
+  }
+
+  abbrev ts : Rows
+  ts = rows (drop (p .at) s)
+
+  -- whatever is read, its parameters are the names of the P rows, and its fields stand after them
+  members-by :
+      (P : Reading Node → Type 0)
+      → ((ps : List Str) → ps ≡ namesOf (rows (drop (n .params) s)) → (g : Reading (List Field)) → fieldsOf seen ts ≡ g
+      → Stand ts g → P (g then λ fs. got (nodeWith n (textAt (rows (drop (n .at) s))) ps fs)))
+      → P (membersHere s n seen)
+  unfolding membersOf
+  members-by P h = go (paramsOf (rows (drop (n .params) s))) (params .walk) (params-names (rows (drop (n .params) s)))
+    where
+      go : (g : Reading (List Str)) → got tt (rows (drop (p .at) s)) ≡ passed g
+          → On g (λ ps. ps ≡ namesOf (rows (drop (n .params) s)))
+          → P (g then λ ps us. fieldsOf seen us then λ fs. got (nodeWith n (textAt (rows (drop (n .at) s))) ps fs))
+      go (got ps us) e d =
+          let z : us ≡ rows (drop (p .at) s) = cc in
+          rw z (h ps d (fieldsOf seen (rows (drop (p .at) s))) refl (fields-stand seen (rows (drop (p .at) s))))
+      go (no k us) e d = never cc
+
+  members-read :
+      (w : Walk) (a : List ℕ) → told s w a ≡ groupsAfter seen (rows (drop (p .at) s))
+      → told s w (n .id, a) ≡ (membersHere s n seen then λ m. got (seenAfter seen m))
+  members-read w a t =
+      members-by (λ g. told s w (n .id, a) ≡ (g then λ m. got (seenAfter seen m)))
+      (λ ps d g e st. told-map (paired (n .id)) s w a (g then λ fs. got (seen ++ groupIds fs)) (t ∙ rw e) ∙ fused ps g)
+    where
+      fused : (ps : List Str) (g : Reading (List Field))
+          → ((g then λ fs. got (seen ++ groupIds fs)) then λ x. got (paired (n .id) x))
+          ≡ ((g then λ fs. got (nodeWith n (textAt (rows (drop (n .at) s))) ps fs)) then λ m. got (seenAfter seen m))
+      fused ps (got fs us) = refl
+      fused ps (no k us) = refl
+
+  -- the entry is put into the index after `held .nodes` others
+  module _ (few : held .nodes < 64) (first : 769 ≤ held .marks) (z : List ℕ)
+      (put : z ≡ withEntry y (1 + 12 * held .nodes) whole) where
+    put-length : length z ≡ length y
+    put-length = rw put (length-put y (1 + 12 * held .nodes) whole)
+
+    after-entry : (to : ℕ) → Same y z 769 to
+    after-entry to = record { each = λ q a b. rw put (after-put y (1 + 12 * held .nodes) whole q (omega arith)) }
+
+    members-entry : 1025 ≤ length z → On (membersHere s n seen) (Placed s z (p .marks) (entryAt z (1 + 12 * held .nodes)))
+    members-entry big =
+        members-by (λ g. On g (Placed s z (p .marks) (entryAt z (1 + 12 * held .nodes)))) (λ ps d g e st. by-fields ps d g st)
+      where
+        there : entryAt z (1 + 12 * held .nodes) ≡ whole
+        there = rw put (entry-put y (1 + 12 * held .nodes) whole (omega (arith, put-length)))
+
+        marked : Marked s z (held .marks) (namesOf (rows (drop (n .params) s)))
+        marked = marked-same s y z 769 (p .marks) (held .marks) (namesOf (rows (drop (n .params) s))) (after-entry (p .marks))
+            put-length first (omega (arith, params .next, params .count)) (params .marked (omega (arith, put-length)))
+
+        placed : (ps : List Str) (fs : List Field) → ps ≡ namesOf (rows (drop (n .params) s)) → FieldsHere ts fs
+            → Placed s z (p .marks) whole (nodeWith n (textAt (rows (drop (n .at) s))) ps fs)
+        placed ps fs d x = record {
+          is = record {
+            id = refl;
+            parent = refl;
+            scope = refl;
+            is-struct = refl;
+            generic = refl;
+            tag-count = refl;
+            tag-offset = refl;
+            theMod = refl;
+            after = begun .after;
+            params = sym d;
+            count = params .count ∙ ap length (sym d);
+            marks = rw (begun .marks, d) marked;
+            fields = x;
+          };
+          first = omega (arith, begun .marks);
+          last = omega (arith, begun .marks, params .next, params .count, ap length d);
+        }
+
+        by-fields : (ps : List Str) → ps ≡ namesOf (rows (drop (n .params) s)) → (g : Reading (List Field)) → Stand ts g
+            → On (g then λ fs. got (nodeWith n (textAt (rows (drop (n .at) s))) ps fs))
+            (Placed s z (p .marks) (entryAt z (1 + 12 * held .nodes)))
+        by-fields ps d (got fs us) (fields.read x t) = rw there (placed ps fs d x)
+        by-fields ps d (no k us) fields.not = tt
+
+    pub members-whole :
+        (w : Walk) (groups flags : List ℕ) (m : ℕ) → told s w (take m groups) ≡ groupsAfter seen (rows (drop (p .at) s))
+        → Room groups m (leftAfter s w) → Flagged flags (take m groups)
+        → NodeRead s held seen x (membersHere s n seen) groups flags z
+        (record { walk = w; id = n .id; groups = m; marks = p .marks })
+    members-whole w groups flags m t r f = record {
+      read = members-read w (take m groups) t;
+      room = r;
+      flagged = f;
+      marks = omega (arith, params .room, fields-left s w (take m groups) seen (rows (drop (p .at) s)) t);
+      further = omega (arith, params .next);
+      entries = record {
+        each = λ q a b.
+            rw put (before-put y (1 + 12 * held .nodes) whole q b) ∙ params .same .each q a (omega arith);
+      };
+      before = record { each = λ q a b. after-entry (held .marks) .each q a b ∙ params .same .each q (omega arith) b };
+      entry = members-entry;
+    }
