@@ -2,13 +2,13 @@
 -- again is refused with 4: where the arguments of its nodes are given, `accumulate` goes round until its 17th node. By induction
 -- on the nodes that are left to it. Assumes nothing.
 use mathlib.Core.Path.{_≡_, refl, sym, ap, _∙_, subst}
-use mathlib.Core.Bool.{Bool, true, false}
+use mathlib.Core.Bool.{Bool, true, false, not}
 use mathlib.Core.List.{List, [], _∷_, _++_}
 use Prim.Native.Nat.{ℕ, zero, suc, _+_, _-_, _<_, _≤_}
 use native.Mathlib.Omega.{arith}
 use native.Mathlib.Numerals.{add-one}
-use borrow.Author.Tests.{eq-eqb, ne-eqb, eqb-true}
-use lib.Dec.{eqb}
+use borrow.Author.Tests.{eq-eqb, ne-eqb, lt-ltb, le-ltb, eqb-true, eqb-false, ltb-true, ltb-false}
+use lib.Dec.{eqb, ltb}
 use native.Mathlib.Decide.{ℕ-discrete}
 use lib.ListN.{length, drop, take, set, getD, drop-of-length-le, length-set}
 use lib.Seq.{drop-cons, getD-take, take-suc-set, length-take-le, getD-set-same, getD-set-other}
@@ -177,20 +177,42 @@ step-differs e = subst go e tt
     go (step.Node n) = Unit {0}
     go (step.Refused j) = ⊥
 
--- the node that a step finds is the index's
-step-found : (n : Entry) (seen : Bool) (f : Found) → step.Node n ≡ cond seen (step.Refused 4) (orFive f) → f ≡ At n
-step-found n true f e = absurd (step-differs e)
-step-found n false Nothing e = absurd (step-differs e)
-step-found n false (At m) e = ap (λ (x : Step). At (entry x)) (sym e)
+-- one step by what its tests and its search show
+module _ (index ids : List ℕ) (id : ℕ) where
+  pub step-full : 16 ≤ length ids → step.Refused 4 ≡ stepOf index ids id
+  step-full h = rw (le-ltb (length ids) 16 h) refl
+
+  module _ (few : length ids < 16) (seen : Bool) (e : seen ≡ among id ids) where
+    pub step-seen : seen ≡ true → step.Refused 4 ≡ stepOf index ids id
+    step-seen z = rw (lt-ltb (length ids) 16 few, ← e, z) refl
+
+    pub step-to : seen ≡ false → (f : Found) → f ≡ lookup index id → orFive f ≡ stepOf index ids id
+    step-to z f g = rw (lt-ltb (length ids) 16 few, ← e, z, g) refl
+
+refused-one : {i j : ℕ} → step.Refused i ≡ step.Refused j → i ≡ j
+refused-one {i} {j} e = ap number e
+  where
+    number : Step → ℕ
+    number (step.Refused k) = k
+    number (step.Node n) = 0
+
+-- what a step that finds a node shows: there were not yet 16, it is none of those before, and it is the index's
+record Stepped (n : Entry) (few seen : Bool) (f : Found) : Type 0 where
+  fewer : few ≡ true
+  unseen : seen ≡ false
+  found : f ≡ At n
+
+step-node : (n : Entry) (few seen : Bool) (f : Found)
+    → step.Node n ≡ cond few (cond seen (step.Refused 4) (orFive f)) (step.Refused 4) → Stepped n few seen f
+step-node n false seen f e = absurd (step-differs e)
+step-node n true true f e = absurd (step-differs e)
+step-node n true false Nothing e = absurd (step-differs e)
+step-node n true false (At m) e =
+    record { fewer = refl; unseen = refl; found = ap (λ (x : Step). At (entry x)) (sym e) }
   where
     entry : Step → Entry
     entry (step.Node x) = x
     entry (step.Refused j) = n
-
--- and it is none of those before
-step-new : (n : Entry) (seen : Bool) (f : Found) → step.Node n ≡ cond seen (step.Refused 4) (orFive f) → seen ≡ false
-step-new n true f e = absurd (step-differs e)
-step-new n false f e = refl
 
 new-id : (id : ℕ) (ids : List ℕ) → among id ids ≡ false → (i : ℕ) → i < length ids → getD ids i 0 ≡ id → ⊥
 unfolding among
@@ -249,37 +271,42 @@ module _ (index : List ℕ) (id : ℕ) (ids params counts : List ℕ) where
       all = λ root ns x scopes. (c .all) s root ns x scopes ∙ law s root ns x scopes;
     }
 
-    pub climb-4 : 16 ≤ k → (s : Str) → ChainOf s index id (chainOf ids params counts k (Number 4))
-    climb-4 h = ended (Number 4) (λ s root ns x scopes.
-        rw (accumulate-none (sheetOf root ns) scopes (16 - k) current (omega arith)) refl)
-
-    -- the current node is refused: it is among those before, or it is not there
-    pub climb-end : k < 16 → (j : ℕ) → step.Refused j ≡ stepOf index (take k ids) current
+    -- the current node is refused: there are 16 already, it is among those before, or it is not there
+    climb-end : (j : ℕ) → step.Refused j ≡ stepOf index (take k ids) current
         → (s : Str) → ChainOf s index id (chainOf ids params counts k (Number j))
-    climb-end h j e = go (among current (take k ids)) refl e
+    climb-end j e = go (ltb (length (take k ids)) 16) (among current (take k ids)) (lookup index current) refl refl refl e
       where
-        this : (i : ℕ) → step.Refused j ≡ step.Refused i → j ≡ i
-        this i e = ap number e
-          where
-            number : Step → ℕ
-            number (step.Refused k) = k
-            number (step.Node n) = 0
+        full : length (take k ids) ≡ k
+        full = length-take-le k ids (omega (arith, c .few, c .ids-size))
 
-        found : (f : Found) → f ≡ lookup index current → step.Refused j ≡ orFive f
+        go : (few seen : Bool) (f : Found) → ltb (length (take k ids)) 16 ≡ few → among current (take k ids) ≡ seen
+            → f ≡ lookup index current → step.Refused j ≡ cond few (cond seen (step.Refused 4) (orFive f)) (step.Refused 4)
             → (s : Str) → ChainOf s index id (chainOf ids params counts k (Number j))
-        found (At n) y e = absurd (step-differs (sym e))
-        found Nothing y e = rw (this 5 e) (ended (Number 5) (λ s root ns x scopes.
+        go false seen f y z w e =
+            let h = ltb-false (length (take k ids)) 16 y in
+            rw (refused-one e) (ended (Number 4) (λ s root ns x scopes.
+            rw (accumulate-none (sheetOf root ns) scopes (16 - k) current (omega (arith, full))) refl))
+        go true true f y z w e = rw (refused-one e) (ended (Number 4) (λ s root ns x scopes.
+            again-4 root s scopes ns (take k ids) (take k params) current (16 - k) ((c .path) s ns x) z))
+        go true false (At n) y z w e = absurd (step-differs (sym e))
+        go true false Nothing y z w e =
+            let h = ltb-true (length (take k ids)) 16 y in
+            rw (refused-one e) (ended (Number 5) (λ s root ns x scopes.
             rw (
-              accumulate-more (sheetOf root ns) scopes (16 - k) current (λ z. omega arith),
-              node-missing s ns index current Nothing y x refl,
+              accumulate-more (sheetOf root ns) scopes (16 - k) current (λ v. omega (arith, full)),
+              node-missing s ns index current Nothing w x refl,
             ) refl))
 
-        go : (t : Bool) → among current (take k ids) ≡ t
-            → step.Refused j ≡ cond t (step.Refused 4) (orFive (lookup index current))
-            → (s : Str) → ChainOf s index id (chainOf ids params counts k (Number j))
-        go true y e = rw (this 4 e) (ended (Number 4) (λ s root ns x scopes.
-            again-4 root s scopes ns (take k ids) (take k params) current (16 - k) ((c .path) s ns x) y))
-        go false y e = found (lookup index current) refl e
+    stepped : (n : Entry) → step.Node n ≡ stepOf index (take k ids) current
+        → Stepped n (ltb (length (take k ids)) 16) (among current (take k ids)) (lookup index current)
+    stepped n e = step-node n (ltb (length (take k ids)) 16) (among current (take k ids)) (lookup index current) e
+
+    climb-few : (n : Entry) → step.Node n ≡ stepOf index (take k ids) current → k < 16
+    climb-few n e = omega (
+      arith,
+      ltb-true (length (take k ids)) 16 (stepped n e .fewer),
+      length-take-le k ids (omega (arith, c .few, c .ids-size)),
+    )
 
     module _ (h : k < 16) (n : Entry) (e : step.Node n ≡ stepOf index (take k ids) current) where
       abbrev ids′ : List ℕ
@@ -295,7 +322,7 @@ module _ (index : List ℕ) (id : ℕ) (ids params counts : List ℕ) where
       known : (s : Str) (ns : List Node) → Indexed s ns index → (Q : Out Node → Type 0)
           → ((m : Node) → nodeOf ns current ≡ ok m → EntryIs s index n m → Q (ok m)) → Q (nodeOf ns current)
       known s ns x = node-there s ns index current (lookup index current) refl x n
-          (step-found n (among current (take k ids)) (lookup index current) e)
+          (stepped n e .found)
 
       ids-more : take (k + 1) ids′ ≡ take k ids ++ (current ∷ [])
       ids-more = rw add-one (take-suc-set ids k current (omega (arith, c .ids-size)))
@@ -353,7 +380,7 @@ module _ (index : List ℕ) (id : ℕ) (ids params counts : List ℕ) where
 
           go : Dec (j ≡ k) → ⊥
           go (yes w) =
-              new-id current (take k ids) (step-new n (among current (take k ids)) (lookup index current) e) i
+              new-id current (take k ids) (stepped n e .unseen) i
               (rw (length-take-le k ids (omega (arith, c .ids-size))) (omega arith))
               (getD-take k ids i 0 (omega arith) ∙ old ∙ rw (w, getD-set-same ids k current 0 (omega (arith, c .ids-size))) refl)
           go (no w) = (c .once) i j x (omega arith) (old ∙ getD-set-other ids k j current 0 w)
@@ -376,7 +403,7 @@ module _ (index : List ℕ) (id : ℕ) (ids params counts : List ℕ) where
               rw (getD-set-other counts k j (n .count) 0 z, getD-set-other params k j (n .params) 0 z)
               ((c .each) s ns x j (omega arith))
 
-      pub climb-top : n .parent ≡ 0 → (s : Str) → ChainOf s index id (chainOf ids′ params′ counts′ (k + 1) None)
+      climb-top : n .parent ≡ 0 → (s : Str) → ChainOf s index id (chainOf ids′ params′ counts′ (k + 1) None)
       climb-top z s = record {
         few = omega arith;
         ids-size = length-set ids k current ∙ c .ids-size;
@@ -387,7 +414,7 @@ module _ (index : List ℕ) (id : ℕ) (ids params counts : List ℕ) where
         all = turn (λ sheet scopes. ok []) (λ sheet scopes a. rw (eq-eqb (n .parent) 0 z) refl) s;
       }
 
-      pub climb-next : (n .parent ≡ 0 → ⊥) → Climbed index id ids′ params′ counts′ (k + 1) (n .parent)
+      climb-next : (n .parent ≡ 0 → ⊥) → Climbed index id ids′ params′ counts′ (k + 1) (n .parent)
       climb-next z = record {
         few = omega arith;
         ids-size = length-set ids k current ∙ c .ids-size;
@@ -404,6 +431,81 @@ module _ (index : List ℕ) (id : ℕ) (ids params counts : List ℕ) where
           link : (s : Str) (ns : List Node) → Indexed s ns index → Link s ns current (n .params) (n .parent)
           link s ns x = known s ns x (λ m. Link s ns current (n .params) (n .parent))
               (λ m u w. record { node = m; here = u; names = w .params; parent = sym (w .parent); more = z })
+
+-- what is known at each turn: while there is more, the way so far; then the chain
+pub record Climbing (index : List ℕ) (id : ℕ) (ids params counts : List ℕ) (k current : ℕ) (r : Refusal) (more : Bool)
+    : Type 0 where
+  pub few : k ≤ 16
+  pub ids-size : length ids ≡ 16
+  pub params-size : length params ≡ 16
+  pub counts-size : length counts ≡ 16
+  pub on : more ≡ true → (r ≡ None) × Climbed index id ids params counts k current
+  pub done : more ≡ false → (s : Str) → ChainOf s index id (chainOf ids params counts k r)
+
+clash : {A : Type 0} → true ≡ false → A
+clash e = let z : _≡_ {A = ℕ} 0 1 = cc in never z
+
+module _ (index : List ℕ) (id : ℕ) (ids params counts : List ℕ) where
+  pub climbing-start : length ids ≡ 16 → length params ≡ 16 → length counts ≡ 16
+      → Climbing index id ids params counts 0 id None true
+  climbing-start h g f = record {
+    few = omega arith;
+    ids-size = h;
+    params-size = g;
+    counts-size = f;
+    on = λ e. (refl, climb-start index id ids params counts h g f);
+    done = λ e. clash e;
+  }
+
+  module _ (k current : ℕ) (r : Refusal) (more : Bool) (c : Climbing index id ids params counts k current r more)
+      (going : more ≡ true) where
+    pub climbing-end : (j : ℕ) → step.Refused j ≡ stepOf index (take k ids) current
+        → Climbing index id ids params counts k current (Number j) false
+    climbing-end j e = record {
+      few = c .few;
+      ids-size = c .ids-size;
+      params-size = c .params-size;
+      counts-size = c .counts-size;
+      on = λ z. clash (sym z);
+      done = λ z. climb-end index id ids params counts k current ((c .on) going .1) j e;
+    }
+
+    module _ (n : Entry) (e : step.Node n ≡ stepOf index (take k ids) current) where
+      pub climbing-few : k < 16
+      climbing-few = climb-few index id ids params counts k current ((c .on) going .1) n e
+
+      pub climbing-next : Climbing index id (set ids k current) (set params k (n .params)) (set counts k (n .count)) (k + 1)
+          (n .parent) r (not (eqb (n .parent) 0))
+      climbing-next = go (eqb (n .parent) 0) refl
+        where
+          go : (t : Bool) → eqb (n .parent) 0 ≡ t → Climbing index id (set ids k current) (set params k (n .params))
+              (set counts k (n .count)) (k + 1) (n .parent) r (not t)
+          go t z = record {
+            few = omega (arith, climbing-few);
+            ids-size = length-set ids k current ∙ c .ids-size;
+            params-size = length-set params k (n .params) ∙ c .params-size;
+            counts-size = length-set counts k (n .count) ∙ c .counts-size;
+            on = λ y. (
+              (c .on) going .0,
+              climb-next index id ids params counts k current ((c .on) going .1) climbing-few n e
+                  (eqb-false (n .parent) 0 (z ∙ none t y)),
+            );
+            done = λ y s. rw ((c .on) going .0) (climb-top index id ids params counts k current ((c .on) going .1) climbing-few
+                n e (eqb-true (n .parent) 0 (z ∙ some t y)) s);
+          }
+            where
+              none : (t : Bool) → not t ≡ true → t ≡ false
+              none true y = clash (sym y)
+              none false y = refl
+
+              some : (t : Bool) → not t ≡ false → t ≡ true
+              some true y = refl
+              some false y = clash y
+
+-- a turn leaves less to do
+pub climbing-less : (t : Bool) (k : ℕ) → k ≤ 16 → cond t (17 - (k + 1)) 0 < 17 - k
+climbing-less true k h = omega arith
+climbing-less false k h = omega arith
 
 -- ---- the chain, for those who walk along it
 

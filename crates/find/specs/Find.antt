@@ -109,13 +109,14 @@ before root s scopes (i ∷ is) (p ∷ ps) o =
     argumentsOf root (namesOf (rows (drop p s))) (scopeOf i scopes) then λ arguments.
     before root s scopes is ps o then λ outer. ok (arguments ∷ outer)
 
--- the next node of a chain that has these ids, or its refusal
+-- the next node of a chain that has these ids, or its refusal; 4 after 16 nodes
 abbrev pub orFive : Found → Step
 orFive (found.At n) = step.Node n
 orFive found.Nothing = step.Refused 5
 
 abbrev pub stepOf : List ℕ → List ℕ → ℕ → Step
-stepOf index ids id = cond (read.among id ids) (step.Refused 4) (orFive (lookup index id))
+stepOf index ids id =
+    cond (ltb (length ids) 16) (cond (read.among id ids) (step.Refused 4) (orFive (lookup index id))) (step.Refused 4)
 
 -- a chain of at most 16 nodes, none of them twice, has the nodes that `accumulate` visits, and its refusal, whatever the scopes
 -- of the brand are; and how many parameters each node has

@@ -163,11 +163,14 @@ fn among(ids: &[u64], id: u64) -> bool
     false
 }
 
-// The node with an id, for a chain that has these ids: 4 where it is one of them, since then the chain has no end; 5 where it is
-// not there.
+// The node with an id, for a chain that has these ids: 4 where they are 16, or where it is one of them, since then the chain has
+// no end; 5 where it is not there.
 fn climb(index: &[u64], ids: &[u64], id: u64) -> Step
     ensures { λ r. ⌜ r ≡ stepOf (now (index .entry)) (now (ids .entry)) id ⌝ }
 {
+    if 16 <= ids.len() {
+        return Step::Refused(4);
+    }
     if among(ids, id) {
         return Step::Refused(4);
     }
@@ -177,7 +180,7 @@ fn climb(index: &[u64], ids: &[u64], id: u64) -> Step
     }
 }
 
-// The chain of parents from a node on: 4 after 16 nodes.
+// The chain of parents from a node on.
 pub fn chain(index: &[u64], id: u64) -> Links
     ensures { λ r. ⌜ ((s : Str) → ChainOf s (now (index .entry)) id r) ⌝ }
 {
@@ -186,32 +189,21 @@ pub fn chain(index: &[u64], id: u64) -> Links
     let mut counts = [0u64; 16];
     let mut count: usize = 0;
     let mut current = id;
-    while count < 16 {
+    let mut refusal = Refusal::None;
+    let mut more = true;
+    while more {
         match climb(index, &ids[..count], current) {
             Step::Refused(number) => {
-                return Links {
-                    ids,
-                    params,
-                    counts,
-                    count,
-                    refusal: Refusal::Number(number),
-                };
+                refusal = Refusal::Number(number);
+                more = false;
             }
             Step::Node(node) => {
                 ids[count] = current;
                 params[count] = node.params;
                 counts[count] = node.count;
                 count += 1;
-                if node.parent == 0 {
-                    return Links {
-                        ids,
-                        params,
-                        counts,
-                        count,
-                        refusal: Refusal::None,
-                    };
-                }
                 current = node.parent;
+                more = current != 0;
             }
         }
     }
@@ -220,7 +212,7 @@ pub fn chain(index: &[u64], id: u64) -> Links
         params,
         counts,
         count,
-        refusal: Refusal::Number(4),
+        refusal,
     }
 }
 

@@ -1,28 +1,18 @@
+-- `requests::locate` meets its contract: the fields of the node's entry, among which the place is sought. Assumes nothing.
 use mathlib.Core.Path.{sym, _∙_}
 use Rattle.requests.proofs.FieldLaws.{located, unlocated}
 use borrow.Author.Needs.{needs}
 use Rattle.requests.proofs.locate.Statement.{statement}
 use Rattle.requests.proofs.locate.Tie as tie
-use Rattle.requests.proofs.locate.Reads as reads
-use Rattle.requests.proofs.locate.Lts as lts
-use Rattle.field.proofs.at_place.Reads as at-place-reads
-use Rattle.nodes.proofs.find.Reads as find-reads
-
-find-requires : tie.Need-find-requires
-find-requires c κs = search needs
-
-enum-known-node : tie.Need-enum-known-node
-enum-known-node c = search needs
-
-at-place-requires : tie.Need-at-place-requires
-at-place-requires c κs = search needs
 
 enum-told : tie.Need-enum-told
 enum-told c = search needs
 
 returns : tie.Need-returns
 returns c =
-    λ nodes x. located _ _ nodes _ _ _ _ x (sym (c .before .before .node .given .1) ∙ (c .before .before .before .before .find .ensures)) (c .at-place .ensures)
+    let at-node = c .before .before in
+    let at-find = at-node .before .before in
+    λ nodes x. located _ _ nodes _ _ _ _ x (sym (at-node .node .given .1) ∙ (at-find .find .ensures)) (c .at-place .ensures)
 
 returns-2 : tie.Need-returns-2
 returns-2 c =
@@ -31,4 +21,4 @@ returns-2 c =
 pub locate-spec : {M : Type 1} → statement M
 locate-spec =
     tie.close
-    (tie.spec find-requires enum-known-node at-place-requires enum-told returns returns-2)
+    (tie.spec (λ c κs. search needs) (λ c. search needs) (λ c κs. search needs) enum-told returns returns-2)
