@@ -69,7 +69,8 @@ admitted-root s = by-length (ltb 65536 (length s))
 
 -- the answer r and the index x of the sheet s
 module _ (s : Str) (r : verdicts.Answer) (x : List ℕ) (told : r ≡ verdict (admitted s)) where
-  of-sheet :
+  -- what holds of every sheet with its index, and of its refusal, holds of what is admitted
+  pub of-sheet :
       (P : Admitted → Type 0) → r ≡ answer.Sheet → IndexOf s (admitted s) x
       → ((nodes : List Node) → Indexed s nodes x → P (sheet (sheetOf (textAt (rows s)) nodes))) → P (admitted s)
   of-sheet P e index h = go (admitted s) (admitted-root s) (rw e at told) index
@@ -80,7 +81,7 @@ module _ (s : Str) (r : verdicts.Answer) (x : List ℕ) (told : r ≡ verdict (a
           rw z at (h (sh .nodes) d)
       go (refused k line) root e d = never cc
 
-  of-refusal : (P : Admitted → Type 0) (k line : ℕ) → r ≡ answer.Refused k line → P (refused k line) → P (admitted s)
+  pub of-refusal : (P : Admitted → Type 0) (k line : ℕ) → r ≡ answer.Refused k line → P (refused k line) → P (admitted s)
   of-refusal P k line e h = go (admitted s) (rw e at told)
     where
       go : (a : Admitted) → answer.Refused k line ≡ verdict a → P a
