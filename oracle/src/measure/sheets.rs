@@ -25,7 +25,10 @@ pub fn whole() -> Vec<Made> {
             sheets.push((format!("{name}-{label}"), Box::new(move || print(&hostile::growing(shape, size)))));
         }
     }
-    sheets.push(("64-nodes".to_string(), Box::new(|| print(&Sheet::of((1..=64).map(|id| node(id, 0, "bed", &[])).collect())))));
+    sheets.push((
+        "64-nodes".to_string(),
+        Box::new(|| print(&Sheet::of((1..=64).map(|id| node(id, 0, "bed", &[])).collect()))),
+    ));
     sheets
 }
 

@@ -133,7 +133,8 @@ fn on_a_small_stack(work: impl FnOnce() + Send + 'static) {
 /// A brand 16 deep over a chain of 16 nodes, bound by the outermost, by the innermost and by every second node.
 #[test]
 fn the_deepest_brands_on_a_small_stack() {
-    let chain: String = (1..=16).map(|id| format!("N {id} {} 0 1 1 0 0 bed\nP Plan\n", if id == 16 { 0 } else { id + 1 })).collect();
+    let chain: String =
+        (1..=16).map(|id| format!("N {id} {} 0 1 1 0 0 bed\nP Plan\n", if id == 16 { 0 } else { id + 1 })).collect();
     let brand = |scopes: &[u64], inner: &str| {
         let plain: String = scopes[1..].iter().map(|id| format!("S {id} 1 1\nT 12 0 0 0\n")).collect();
         format!("T 16 1 {} 0\nS {} 1 1\n{inner}{plain}", scopes.len(), scopes[0])
