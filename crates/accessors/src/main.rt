@@ -9,9 +9,7 @@ fn main() {
         io::write_all(STDERR_FILENO, b"accessors: cannot read standard input\n");
         return;
     };
-    let mut index = [0u64; nodes::INDEX_SIZE];
-    let mut out = [0u8; parts::UNIT_SIZE];
-    if !parts::print_sheet(&sheet[..n], &mut index, &mut out) {
+    if !parts::print_sheet(&sheet[..n]) {
         io::write_all(STDERR_FILENO, b"accessors: cannot write standard output\n");
     }
 }

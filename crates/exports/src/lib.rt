@@ -116,8 +116,8 @@ pub extern "C" fn kitlubas_module_name(at: usize, buf: &mut [u8], name: &[u8]) -
 pub extern "C" fn kitlubas_admit(s: &[u8], line: &mut usize) -> u64
     ensures { λ r. ⌜ Told (admitted (now (s .entry))) r (now (line .exit)) ⌝ }
 {
-    let mut index = [0u64; nodes::INDEX_SIZE];
-    match sheet::admit(s, &mut index) {
+    let mut none = [0u64; 0];
+    match sheet::admit(s, &mut none) {
         Answer::Sheet => {
             *line = 0;
             0

@@ -1,3 +1,4 @@
 pub mod NameLaws
 pub mod Laws
 pub mod PutLaws
+pub mod SizeLaws

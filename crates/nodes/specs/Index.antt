@@ -3,7 +3,7 @@
 use mathlib.Core.Path.{_≡_}
 use mathlib.Core.List.{List, [], _∷_, _++_}
 use mathlib.Core.Option.{Option, none, some}
-use Prim.Native.Nat.{ℕ, zero, suc, _+_, _*_, _<_, _≤_}
+use Prim.Native.Nat.{ℕ, zero, suc, _+_, _*_, _/_, _<_, _≤_, min}
 use lib.Dec.{eqb, ltb}
 use lib.ListN.{length, take, drop, getD}
 use Rattle.text.specs.Bytes.{Str, cond}
@@ -18,12 +18,19 @@ use Rattle.nodes.specs.declared.Found.the-variants.{At, Nothing}
 use Rattle.nodes.specs.declared.Position.{Position}
 use Rattle.nodes.specs.declared.Position.the-variants as position
 
--- the numbers of an entry, and of an index with room for any sheet: its count, 64 entries, 256 marks
+-- how many numbers an entry has
 abbrev pub entrySize : ℕ
 entrySize = 12
 
-abbrev pub indexSize : ℕ
-indexSize = 1025
+-- where the marks begin in the index of a sheet of n bytes: after the count and the entries of its nodes, of which there are at
+-- most 64, each with an N row of 151 bytes or more
+abbrev pub firstMark : ℕ → ℕ
+firstMark n = 1 + entrySize * min 64 (n / 151)
+
+-- the numbers of the index of a sheet of n bytes, of which at most 65,536 are read: a mark stands for 64 P rows, of 4 bytes or
+-- more each
+abbrev pub indexSize : ℕ → ℕ
+indexSize n = firstMark n + min 256 (n / 256)
 
 -- the entry whose numbers stand from a place of the index on
 abbrev pub entryAt : List ℕ → ℕ → Entry

@@ -6,13 +6,10 @@ ghost use Prim.Native.Nat.{ℕ, _+_, _≤_, _<_};
 ghost use lib.ListN.{length, drop, set};
 ghost use Rattle.row.specs.Rows.{rows};
 ghost use Rattle.tree.specs.Tree.{Node};
-ghost use Rattle.nodes.specs.Index.{entryAt, withEntry, lookup, entryWith, rowsAfter, EntryIs, NameAt};
+ghost use Rattle.nodes.specs.Index.{firstMark, entryAt, withEntry, lookup, entryWith, rowsAfter, EntryIs, NameAt};
 
-// How many numbers an index has: its count, 64 entries of 12, and 256 marks.
+// How many numbers are room enough for the index of any sheet: its count, 64 entries of 12, and 256 marks.
 pub const INDEX_SIZE: usize = 1025;
-
-// Where the marks begin.
-pub const FIRST_MARK: usize = 769;
 
 // What the index holds of a node: the numbers of its N row, where that row stands, where its P rows begin, how many they are,
 // where in the index their marks begin, and where its fields begin.
@@ -41,6 +38,16 @@ pub enum Found {
 pub enum Position {
     At(usize),
     Nothing,
+}
+
+// Where the marks begin in the index of a sheet of so many bytes. One of 9,664 bytes or more may have 64 nodes.
+pub fn first_mark(size: usize) -> usize
+    ensures { λ r. ⌜ r ≡ firstMark size ⌝ }
+{
+    if 9664 <= size {
+        return 769;
+    }
+    1 + 12 * (size / 151)
 }
 
 // The entry whose numbers stand from a place of the index on.

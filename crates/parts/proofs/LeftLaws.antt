@@ -1,5 +1,5 @@
--- Laws of what is left to print: where a node's fields begin, one turn at each kind of place, and a piece of several turns.
--- Assumes nothing.
+-- Laws of what is left to print: where a node's fields begin, one turn at each kind of place, a piece of several turns, and the
+-- pieces over a buffer. Assumes nothing.
 use mathlib.Core.Path.{_≡_, refl, sym, ap, _∙_}
 use mathlib.Core.List.{List, [], _∷_, _++_, append-assoc, append-nil}
 use mathlib.Core.Option.{Option, none, some}
@@ -18,6 +18,7 @@ use Rattle.row.proofs.Laws.{rows-length}
 use Rattle.tree.specs.Tree as tree
 use Rattle.tree.specs.Tree.{Node}
 use Rattle.tree.specs.Fields.{FieldsHere}
+use Rattle.tree.specs.Read.{admitted}
 use Rattle.tree.proofs.OtherLines.{never}
 use Rattle.nodes.specs.Index.{nth, entryWith, Indexed, Finds}
 use Rattle.nodes.specs.declared.Entry.{Entry}
@@ -27,14 +28,15 @@ use Rattle.nodes.proofs.Laws.{nth-is}
 use Rattle.field.specs.Field.{FieldIs, ReadsFirst, nextOf}
 use Rattle.field.specs.declared.Field.{Field}
 use Rattle.field.specs.declared.Field.the-variants as field-is
-use Rattle.parts.specs.Program.{eachText, fieldText, nodeText, refusedSheetText}
+use Rattle.parts.specs.Program.{eachText, fieldText, nodeText, refusedSheetText, programText}
 use Rattle.parts.specs.Fit.{unitMost, Fits, Puts, FieldPut}
-use Rattle.parts.specs.Left.{sheetIn, LeftAt, Left, mostLeft, Enters, Goes, Gives, Turns, Filled}
+use Rattle.parts.specs.Left.{sheetIn, LeftAt, Left, mostLeft, Enters, Goes, Gives, Turns, Filled, Reached, Comes}
 use Rattle.parts.specs.declared.Fit.{Fit}
 use Rattle.parts.specs.declared.Fit.the-variants.{Whole, Short}
 use Rattle.parts.specs.declared.Place.{Place}
 use Rattle.parts.specs.declared.Place.the-variants.{Refused, At, End}
 use Rattle.parts.specs.declared.Piece.{Piece}
+use Rattle.parts.specs.declared.Came.the-variants.{To}
 use Rattle.parts.proofs.Place.{the-type}
 use Rattle.parts.proofs.FieldLaws.{field-few}
 use Rattle.parts.proofs.FitLaws.{lent, back, lent-length, back-length, before-kept, on-within, taken-on}
@@ -227,12 +229,6 @@ not-end (Refused k line) h e = never cc
 not-end (At k q) h e = never cc
 not-end End h e = absurd (miss (0 ∷ 1 ∷ []) 2 tt h)
 
--- something is left to do there
-some-left : (s : Str) (place : Place) → (place ≡ End → ⊥) → 0 < mostLeft s place
-some-left s (Refused k line) h = omega arith
-some-left s (At k q) h = omega arith
-some-left s End h = absurd (h refl)
-
 -- n bytes of l are what is printed from `place` on up to `next`
 pub record Filling (s index : List ℕ) (place : Place) (l₀ l : Str) (n : ℕ) (next : Place) : Type 0 where
   pub size : length l ≡ length l₀
@@ -279,7 +275,11 @@ module _ (s index : List ℕ) (place : Place) (l₀ : Str) where
 
     -- the end is reached
     pub filled-end : next ≡ End → Filled s index place l₀ l (record { n = n; next = next })
-    filled-end e = record { gives = so-far .gives; fewer = λ more room text left. rw e (some-left s place more) }
+    filled-end e = record {
+      gives = so-far .gives;
+      fewer = so-far .fewer;
+      some-bytes = λ more room text left. absurd (more e);
+    }
 
     -- the next unit does not fit
     pub filled-short :
@@ -287,24 +287,48 @@ module _ (s index : List ℕ) (place : Place) (l₀ : Str) where
         → Filled s index place l₀ (back l n l′) (record { n = n; next = next })
     filled-short l′ after turn = record {
       gives = rw (before-kept l l′ n (so-far .within)) (so-far .gives);
-      fewer = λ more room text left.
+      fewer = so-far .fewer;
+      some-bytes = λ more room text left.
           let f = so-far .gives .goes text left in
           let short : length (lent l n) < unitMost = turn (f .rest) (f .left) in
-          so-far .fewer (omega (arith, short, room, so-far .size, lent-length l n));
+          omega (arith, short, room, so-far .size, lent-length l n);
     }
 
--- ---- the loop over pieces
+-- ---- the pieces over a buffer
 
--- something is left at a place, over a buffer that holds a unit
-pub record Printing (s index : List ℕ) (l₀ l : Str) (place : Place) : Type 0 where
-  pub size : length l ≡ length l₀
-  pub room : unitMost ≤ length l
-  pub rest : Str
-  pub left : Left s index place rest
+at-end : (place : Place) → ((place ≡ End → ⊥) → ⊥) → place ≡ End
+at-end (Refused k line) h = absurd (h (λ e. never cc))
+at-end (At k q) h = absurd (h (λ e. never cc))
+at-end End h = refl
 
-pub printing-more :
-    (s index : List ℕ) (l₀ l : Str) (place : Place) (l′ : Str) (r : Piece) → Printing s index l₀ l place → length l′ ≡ length l
-    → Filled s index place l l′ r → Printing s index l₀ l′ (r .next)
-printing-more s index l₀ l place l′ r so-far same filled =
-    let g = filled .gives .goes (so-far .rest) (so-far .left) in
-    record { size = same ∙ so-far .size; room = omega (arith, same, so-far .room); rest = g .rest; left = g .left }
+-- what is left at the start of the sheet is all
+pub reached-start : (s index : List ℕ) (place : Place) → Left s index place (programText (admitted s)) → Reached s index place
+reached-start s index place left = record { before = []; rest = _; left = left; whole = refl }
+
+module _ (s index : List ℕ) (place : Place) (l l′ : Str) (r : Piece) (here : Reached s index place)
+    (filled : Filled s index place l l′ r) where
+  -- a piece comes to a place of the same sheet
+  pub reached-next : Reached s index (r .next)
+  reached-next =
+      let g = filled .gives .goes (here .rest) (here .left) in
+      record {
+        before = here .before ++ take (r .n) l′;
+        rest = g .rest;
+        left = g .left;
+        whole =
+            append-assoc (here .before) (take (r .n) l′) (g .rest)
+            ∙ ap (λ (x : Str). here .before ++ x) (g .joined)
+            ∙ here .whole;
+      }
+
+  -- and after an empty one the printing over this buffer is over
+  pub comes-to : (size : ℕ) → length l ≡ size → r .n ≡ 0 → Comes s index size (To (r .next))
+  comes-to size e empty = (
+    reached-next,
+    λ room.
+        at-end (r .next)
+        (λ more.
+        let some = filled .some-bytes more (omega (arith, e, room)) (here .rest) (here .left) in
+        let z : ⊥ = omega (arith, some, empty) in
+        absurd z),
+  )

@@ -1,4 +1,5 @@
--- Where the printing of a sheet stands, what is left to print there, and what a piece leaves. Assumes nothing.
+-- Where the printing of a sheet stands, what is left to print there, what a piece leaves, and what the pieces over a buffer come
+-- to. Assumes nothing.
 use mathlib.Core.Path.{_≡_}
 use mathlib.Core.List.{List, [], _++_}
 use mathlib.Core.Option.{some}
@@ -9,14 +10,17 @@ use Rattle.row.specs.Rows.{rows}
 use Rattle.row.specs.Line.{textAt}
 use Rattle.tree.specs.Tree.{Field, Node, Sheet}
 use Rattle.tree.specs.Fields.{FieldsHere}
+use Rattle.tree.specs.Read.{admitted}
 use Rattle.nodes.specs.Index.{Indexed, nth, sheetOf}
-use Rattle.parts.specs.Program.{eachText, fieldText, nodeText, refusedSheetText}
+use Rattle.parts.specs.Program.{eachText, fieldText, nodeText, refusedSheetText, programText}
 use Rattle.parts.specs.Fit.{unitMost}
 use Rattle.parts.specs.declared.Fit.{Fit}
 use Rattle.parts.specs.declared.Fit.the-variants.{Whole, Short}
 use Rattle.parts.specs.declared.Place.{Place}
 use Rattle.parts.specs.declared.Place.the-variants.{Refused, At, End}
 use Rattle.parts.specs.declared.Piece.{Piece}
+use Rattle.parts.specs.declared.Came.{Came}
+use Rattle.parts.specs.declared.Came.the-variants.{To, Failed}
 
 -- the sheet with the bytes s and these nodes
 abbrev pub sheetIn : Str → List Node → Sheet
@@ -67,9 +71,22 @@ abbrev pub Turns : (s index : List ℕ) → Place → (l l′ : Str) → Fit →
 Turns s index place l l′ (Whole n) next = Gives s index place (take n l′) next
 Turns s index place l l′ Short next = (text : Str) → Left s index place text → length l < unitMost
 
--- the contract of a piece: it is what is left up to the next place; over a buffer that holds a unit, less is left there, unless
--- the place is the end
+-- the contract of a piece: it is what is left up to the next place; with a byte in it, less is left there; and over a buffer
+-- that holds a unit it has a byte, unless the next place is the end
 pub record Filled (s index : List ℕ) (place : Place) (l l′ : Str) (r : Piece) : Type 0 where
   pub gives : Gives s index place (take (r .n) l′) (r .next)
-  pub fewer : (place ≡ End → ⊥) → unitMost ≤ length l → (text : Str) → Left s index place text
-      → mostLeft s (r .next) < mostLeft s place
+  pub fewer : 0 < r .n → mostLeft s (r .next) < mostLeft s place
+  pub some-bytes : (r .next ≡ End → ⊥) → unitMost ≤ length l → (text : Str) → Left s index place text → 0 < r .n
+
+-- a place of the sheet s: what is printed of s is something, and then what is left at the place
+pub record Reached (s index : List ℕ) (place : Place) : Type 0 where
+  pub before : Str
+  pub rest : Str
+  pub left : Left s index place rest
+  pub whole : before ++ rest ≡ programText (admitted s)
+
+-- the contract of the printing over a buffer with so many bytes: it comes to a place of the sheet, and that is the end if the
+-- buffer holds a unit
+abbrev pub Comes : (s index : List ℕ) → ℕ → Came → Type 0
+Comes s index size (To place) = Reached s index place × (unitMost ≤ size → place ≡ End)
+Comes s index size Failed = Unit {0}

@@ -12,8 +12,8 @@ use Rattle.parts.specs.declared.Place.{Place}
 use Rattle.parts.specs.declared.Place.the-variants.{End}
 use Rattle.parts.specs.declared.Piece.{Piece}
 
--- the pieces from a place on, as the loop writes them: each is what `fill` leaves in the buffer at the place after the one
--- before, up to the end
+-- the pieces from a place on, as they are written: each is what `fill` leaves in a buffer, small or large, at the place after
+-- the one before, up to the end; an empty one need not be written
 pub data Printed (s index : List ℕ) : Place → List Str → Type 0 where
   none : Printed s index End []
   more : {place : Place} {l l′ : Str} {r : Piece} {pieces : List Str} → Filled s index place l l′ r

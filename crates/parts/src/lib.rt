@@ -23,9 +23,6 @@ ghost use Rattle.parts.specs.Program.{from, accessorOf, headerText, refu
 ghost use Rattle.parts.specs.Program.{opening as Program·opening};
 ghost use Rattle.parts.specs.Fit.{partMost, fitOf, Within, Fits, Puts, partsAfter, PartPut, PartsPut, FieldPut};
 
-// The bytes that a unit has at most: five parts, each a header of at most 17 + 64 + 1 bytes and a text of at most 65,536.
-pub const UNIT_SIZE: usize = 328090;
-
 // The bytes that a text has at most; a longer one is refused with 22.
 const TEXT_SIZE: usize = 65536;
 
@@ -69,6 +66,13 @@ struct Turn {
 struct Piece {
     n: usize,
     next: Place,
+}
+
+// What the printing over a buffer came to: a place, whose next unit is too long for the buffer if it is not the end; or a write
+// that failed.
+enum Came {
+    To(Place),
+    Failed,
 }
 
 // The accessor that is asked for a part: a getter in the form that is not a function.

@@ -1,12 +1,14 @@
 // Prints a sheet piece by piece. Each piece is as many whole units as the output buffer holds; the unit that does not fit behind
 // them is the first of the next piece. No contract can say what is written: what is proved is that the pieces which `fill` makes
-// from `start` on, one after the other, are all that document 01 says (`claims`). That each is written once, in this order, is
-// what the loop of `print_from` is to be read for.
+// from `start` on, one after the other, are all that document 01 says (`claims`), over whatever buffers. That each is written
+// once, in this order, is what the loop of `print_pieces` is to be read for, and `print_sheet` for this: `print_large` goes on
+// at the place that `print_small` came to. `print_small` asks that all is left where it begins, and `print_large` for a place of
+// the same sheet (`Reached`) where something is left.
+use crate::Came;
 use crate::Fit;
 use crate::Piece;
 use crate::Place;
 use crate::Turn;
-use crate::UNIT_SIZE;
 use crate::taken;
 use crate::write_group;
 use crate::write_slot;
@@ -26,12 +28,18 @@ ghost use Rattle.row.specs.Rows.{rows};
 ghost use Rattle.row.specs.Line.{textAt};
 ghost use Rattle.tree.specs.Tree.{Node};
 ghost use Rattle.tree.specs.Read.{admitted};
-ghost use Rattle.nodes.specs.Index.{Indexed, nth};
+ghost use Rattle.nodes.specs.Index.{indexSize, Indexed, nth};
 ghost use Rattle.parts.specs.Program.{refusedSheetText, programText};
 ghost use Rattle.parts.specs.Fit.{unitMost, Within, Fits, Puts};
-ghost use Rattle.parts.specs.Left.{Left, mostLeft, Enters, Turns, Filled};
+ghost use Rattle.parts.specs.Left.{Left, mostLeft, Enters, Turns, Filled, Reached, Comes};
 ghost use Rattle.parts.specs.Pieces.{PiecesHold};
 ghost use Rattle.parts.specs.declared.Place.the-variants.{At, End};
+
+// The bytes of the buffer that most sheets are printed over.
+const PIECE_SIZE: usize = 32768;
+
+// The bytes that a unit has at most: five parts, each a header of at most 17 + 64 + 1 bytes and a text of at most 65,536.
+const UNIT_SIZE: usize = 328090;
 
 // The first field of the node with a number. There are at most 64 nodes.
 fn enter(index: &[u64], node: usize) -> Place
@@ -72,7 +80,7 @@ fn tag_of(index: &[u64], node: usize) -> u64
 
 // Where the printing of a sheet begins. The sheet is admitted, and its nodes are put into the index.
 fn start(s: &[u8], index: &mut [u64]) -> Place
-    ensures { λ r. ⌜ (1025 ≤ length (now (index .entry))
+    ensures { λ r. ⌜ (indexSize (length (now (s .entry))) ≤ length (now (index .entry))
         → Left (now (s .entry)) (now (index .exit)) r (programText (admitted (now (s .entry))))) ⌝ }
 {
     let verdict = sheet::admit(s, index);
@@ -171,37 +179,60 @@ fn fill(s: &[u8], index: &[u64], place: Place, out: &mut [u8]) -> Piece
     }
 }
 
-// Prints a sheet from its start on, and tells whether all of it was written.
-fn print_from(s: &[u8], index: &[u64], start: Place, out: &mut [u8]) -> bool
-    requires { ⌜ unitMost ≤ length (now out) ⌝ }
-    requires { ⌜ Left (now s) (now index) start (programText (admitted (now s))) ⌝ }
+// Prints a sheet from a place on, up to the end or to a unit that the buffer has no room for.
+fn print_pieces(s: &[u8], index: &[u64], start: Place, out: &mut [u8]) -> Came
+    requires { ⌜ Reached (now s) (now index) start ⌝ }
+    ensures { λ r. ⌜ Comes (now (s .entry)) (now (index .entry)) (length (now (out .entry))) r ⌝ }
 {
     let mut place = start;
     loop {
-        if let Place::End = place {
-            return true;
-        }
         let piece = fill(s, index, place, out);
         let n = piece.n;
-        if !io::write_all(STDOUT_FILENO, &out[..n]) {
-            return false;
-        }
         let next = piece.next;
+        if n == 0 {
+            return Came::To(next);
+        }
+        if !io::write_all(STDOUT_FILENO, &out[..n]) {
+            return Came::Failed;
+        }
         place = next;
     }
 }
 
-// Prints all that is printed of a sheet, and tells whether all of it was written. The index has room for any sheet's nodes and
-// the buffer for any unit; where one is smaller, nothing is printed.
-pub fn print_sheet(s: &[u8], index: &mut [u64], out: &mut [u8]) -> bool {
-    if index.len() < nodes::INDEX_SIZE {
+// The same over the small buffer, from the start of the sheet. Each buffer has its own function, so that the stack holds one of
+// them at a time.
+fn print_small(s: &[u8], index: &[u64], start: Place) -> Came
+    requires { ⌜ Left (now s) (now index) start (programText (admitted (now s))) ⌝ }
+    ensures { λ r. ⌜ Comes (now (s .entry)) (now (index .entry)) 32768 r ⌝ }
+{
+    let mut out = [0u8; PIECE_SIZE];
+    print_pieces(s, index, start, &mut out)
+}
+
+// The same over a buffer that holds any unit, from a place where something is left.
+fn print_large(s: &[u8], index: &[u64], start: Place) -> Came
+    requires { ⌜ Reached (now s) (now index) start ⌝ }
+    requires { ⌜ (start ≡ End → ⊥) ⌝ }
+    ensures { λ r. ⌜ Comes (now (s .entry)) (now (index .entry)) unitMost r ⌝ }
+{
+    let mut out = [0u8; UNIT_SIZE];
+    print_pieces(s, index, start, &mut out)
+}
+
+// Prints all that is printed of a sheet, and tells whether all of it was written.
+pub fn print_sheet(s: &[u8]) -> bool {
+    let mut index = [0u64; nodes::INDEX_SIZE];
+    let place = start(s, &mut index);
+    let Came::To(next) = print_small(s, &index, place) else {
         return false;
+    };
+    if let Place::End = next {
+        return true;
     }
-    if out.len() < UNIT_SIZE {
-        return false;
+    match print_large(s, &index, next) {
+        Came::To(_) => true,
+        Came::Failed => false,
     }
-    let place = start(s, index);
-    print_from(s, index, place, out)
 }
 
 // Makes it a promise of this crate that the pieces, one after the other, are what document 01 says of the sheet.

@@ -5,13 +5,13 @@ use libc::STDERR_FILENO;
 use libc::STDIN_FILENO;
 
 // Prints each sheet, and tells whether all was written.
-fn replay(sheets: &[u8], index: &mut [u64], out: &mut [u8]) -> bool {
+fn replay(sheets: &[u8]) -> bool {
     let mut at = 0;
     while at < sheets.len() {
         let next = programs::next_sheet(sheets, at);
         let start = next.start;
         let end = next.end;
-        if !parts::print_sheet(&sheets[start..end], index, out) {
+        if !parts::print_sheet(&sheets[start..end]) {
             return false;
         }
         at = end;
@@ -22,9 +22,7 @@ fn replay(sheets: &[u8], index: &mut [u64], out: &mut [u8]) -> bool {
 fn main() {
     let mut sheets = [0u8; 65536];
     let n = io::read_full(STDIN_FILENO, &mut sheets);
-    let mut index = [0u64; nodes::INDEX_SIZE];
-    let mut out = [0u8; parts::UNIT_SIZE];
-    if !replay(&sheets[..n], &mut index, &mut out) {
+    if !replay(&sheets[..n]) {
         io::write_all(
             STDERR_FILENO,
             b"replay_accessors: cannot write standard output\n",

@@ -15,20 +15,21 @@ fn print_line(number: u64, line: usize, buf: &mut [u8]) {
     io::write_all(STDOUT_FILENO, &buf[..n]);
 }
 
-fn print_sheet(s: &[u8], index: &mut [u64], buf: &mut [u8]) {
-    match sheet::admit(s, index) {
+fn print_sheet(s: &[u8], buf: &mut [u8]) {
+    let mut none = [0u64; 0];
+    match sheet::admit(s, &mut none) {
         Answer::Sheet => print_line(0, 0, buf),
         Answer::Refused { number, line } => print_line(number, line, buf),
     }
 }
 
-fn replay(sheets: &[u8], index: &mut [u64], buf: &mut [u8]) {
+fn replay(sheets: &[u8], buf: &mut [u8]) {
     let mut at = 0;
     while at < sheets.len() {
         let next = programs::next_sheet(sheets, at);
         let start = next.start;
         let end = next.end;
-        print_sheet(&sheets[start..end], index, buf);
+        print_sheet(&sheets[start..end], buf);
         at = end;
     }
 }
@@ -36,7 +37,6 @@ fn replay(sheets: &[u8], index: &mut [u64], buf: &mut [u8]) {
 fn main() {
     let mut sheets = io::large_buffer();
     let n = io::read_full(STDIN_FILENO, &mut sheets);
-    let mut index = [0u64; nodes::INDEX_SIZE];
     let mut buf = io::buffer();
-    replay(&sheets[..n], &mut index, &mut buf);
+    replay(&sheets[..n], &mut buf);
 }

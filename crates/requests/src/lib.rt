@@ -16,11 +16,15 @@ ghost use Prim.Native.Nat.{ℕ, _≤_};
 ghost use lib.ListN.{length};
 ghost use Rattle.text.specs.Bytes.{Str};
 ghost use Rattle.tree.specs.Read.{admitted};
+ghost use Rattle.nodes.specs.Index.{indexSize};
 ghost use Rattle.field.specs.declared.Field.the-variants as field-is;
 ghost use Rattle.requests.specs.Requests.{leafOf, leafSaid, outcomeOf};
 ghost use Rattle.requests.specs.Told.{LocatedIn, TypeTextWritten, AccessorWritten, RequestWritten};
 ghost use Rattle.requests.specs.Told.{FieldAnswered, PlaceAnswered, RequestAnswered, Answered};
 ghost use Rattle.requests.specs.declared.Accessor.the-variants.{Haser};
+
+// How many numbers are room enough for the index of a sheet of at most 3,072 bytes.
+const SHORT_INDEX: usize = 253;
 
 // An accessor of a field: of a slot its getters, its setter and its hasers; of a group its zeroing.
 pub enum Accessor {
@@ -294,6 +298,47 @@ fn answer_in(s: &[u8], index: &[u64], id: u64, request: Request, t: Text, buf: &
     }
 }
 
+// The answer to a request of the node with an id, over an index that has room for the sheet's nodes: the sheet's own refusal,
+// or the answer in its index.
+fn answer_over(
+    s: &[u8],
+    index: &mut [u64],
+    id: u64,
+    request: Request,
+    t: Text,
+    buf: &mut [u8],
+) -> Answer
+    requires { ⌜ (t .at ≤ length (now buf)) × (indexSize (length (now s)) ≤ length (now index)) ⌝ }
+    ensures { λ r. ⌜ Answered (now (buf .entry)) t (outcomeOf (admitted (now (s .entry))) id request)
+        (now (buf .exit)) r ⌝ }
+{
+    let verdict = sheet::admit(s, index);
+    match verdict {
+        sheet::Answer::Sheet => answer_in(s, index, id, request, t, buf),
+        sheet::Answer::Refused { number, line } => Answer::Refused { number, line },
+    }
+}
+
+// The answer for a sheet of at most 3,072 bytes, over an index of which no more is cleared than such a sheet needs.
+fn answer_short(s: &[u8], id: u64, request: Request, t: Text, buf: &mut [u8]) -> Answer
+    requires { ⌜ (t .at ≤ length (now buf)) × (length (now s) ≤ 3072) ⌝ }
+    ensures { λ r. ⌜ Answered (now (buf .entry)) t (outcomeOf (admitted (now (s .entry))) id request)
+        (now (buf .exit)) r ⌝ }
+{
+    let mut index = [0u64; SHORT_INDEX];
+    answer_over(s, &mut index, id, request, t, buf)
+}
+
+// The answer for any sheet.
+fn answer_long(s: &[u8], id: u64, request: Request, t: Text, buf: &mut [u8]) -> Answer
+    requires { ⌜ t .at ≤ length (now buf) ⌝ }
+    ensures { λ r. ⌜ Answered (now (buf .entry)) t (outcomeOf (admitted (now (s .entry))) id request)
+        (now (buf .exit)) r ⌝ }
+{
+    let mut index = [0u64; nodes::INDEX_SIZE];
+    answer_over(s, &mut index, id, request, t, buf)
+}
+
 // The answer to a request of the node with an id: 21 before the sheet is looked at, the sheet's own refusal, 15, the request's
 // own, 22.
 pub fn answer_request(s: &[u8], id: u64, request: Request, t: Text, buf: &mut [u8]) -> Answer
@@ -306,10 +351,8 @@ pub fn answer_request(s: &[u8], id: u64, request: Request, t: Text, buf: &mut [u
             line: 0,
         };
     }
-    let mut index = [0u64; nodes::INDEX_SIZE];
-    let verdict = sheet::admit(s, &mut index);
-    match verdict {
-        sheet::Answer::Sheet => answer_in(s, &index, id, request, t, buf),
-        sheet::Answer::Refused { number, line } => Answer::Refused { number, line },
+    if s.len() <= 3072 {
+        return answer_short(s, id, request, t, buf);
     }
+    answer_long(s, id, request, t, buf)
 }

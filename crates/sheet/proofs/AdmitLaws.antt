@@ -4,13 +4,12 @@ use mathlib.Core.List.{List, [], _∷_}
 use Prim.Native.Nat.{ℕ, _≤_, _<_}
 use native.Mathlib.Omega.{arith}
 use borrow.Author.Tests.{lt-ltb, le-ltb}
-use lib.ListN.{length, drop, length-drop}
+use lib.ListN.{length, drop}
 use types.Run.{OneOf}
 use denote.Enum.Declared.{tagOf}
 use Rattle.text.specs.Bytes.{Str}
 use Rattle.row.proofs.Line.{the-type}
-use Rattle.row.proofs.Laws.{size-rows}
-use Rattle.row.specs.Rows.{rows, restOf, size, lineNo}
+use Rattle.row.specs.Rows.{rows, restOf, lineNo}
 use Rattle.row.specs.Line.{lineAt, textAt}
 use Rattle.row.specs.declared.Line.{Line}
 use Rattle.tree.specs.Tree.{Node, Sheet}
@@ -21,7 +20,7 @@ use Rattle.tree.specs.Index.{On}
 use Rattle.tree.specs.declared.Walk.{Walk}
 use Rattle.tree.specs.declared.Walk.the-variants.{Next, Refused}
 use Rattle.tree.proofs.OtherLines.{never, not-root}
-use Rattle.nodes.specs.Index.{Indexed}
+use Rattle.nodes.specs.Index.{indexSize, Indexed}
 use Rattle.sheet.specs.Admission.{verdict, IndexOf, NodesRead}
 use Rattle.sheet.specs.declared.Answer.{Answer}
 use Rattle.row.specs.declared.Line.the-variants as line
@@ -29,15 +28,11 @@ use Rattle.sheet.specs.declared.Answer.the-variants as answer
 
 -- an answer of what is admitted, and its index y, if there was room for all its numbers
 abbrev Says : Str → Admitted → Answer → ℕ → List ℕ → Type 0
-Says s a r room y = (r ≡ verdict a) × (1025 ≤ room → IndexOf s a y)
+Says s a r room y = (r ≡ verdict a) × (indexSize (length s) ≤ room → IndexOf s a y)
 
 pub too-long : (s : Str) (room : ℕ) (y : List ℕ) → 65536 < length s → Says s (admitted s) (answer.Refused 1 0) room y
 unfolding admitted
 too-long s room y h = rw (admitted, lt-ltb 65536 (length s) h) (refl, λ big. tt)
-
--- what is left after the first row is not too long either
-pub rest-fits : (s : Str) (e most : ℕ) → length s ≤ most → size (rows (drop e s)) ≤ most
-rest-fits s e most h = omega (arith, size-rows (drop e s), length-drop e s)
 
 -- a sheet that is not too long, and its first row's line
 module _ (s : Str) (short : length s ≤ 65536) (l : Line) (here : l ≡ lineAt (rows s)) (room : ℕ) (y : List ℕ) where
@@ -65,7 +60,7 @@ module _ (s : Str) (short : length s ≤ 65536) (l : Line) (here : l ≡ lineAt 
     whole-sheet q e = rw nodes-read (go (nodesOf 64 [] [] rest) (rw e at (read .walk)) (read .index))
       where
         go : (g : Reading (List Node)) → got tt (rows (drop q s)) ≡ passed g
-            → (1025 ≤ length y → On g (λ ns. Indexed s ns y))
+            → (indexSize (length s) ≤ length y → On g (λ ns. Indexed s ns y))
             → Says s (numbered s (g then λ ns. got (made ns))) answer.Sheet room y
         go (got ns us) h d = (refl, λ big. d (omega arith))
         go (no k us) h d = never cc

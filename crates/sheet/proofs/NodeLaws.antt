@@ -22,18 +22,19 @@ use Rattle.tree.specs.declared.Walk.{Walk}
 use Rattle.tree.specs.declared.Walk.the-variants.{Next, Refused}
 use Rattle.tree.proofs.OtherLines.{never, not-node}
 use Rattle.tree.proofs.TailLaws.{tail-rest, tail-size}
-use Rattle.nodes.specs.Index.{entryAt, withEntry, namesOf, Marked}
+use Rattle.nodes.specs.Index.{entryAt, withEntry, namesOf, firstMark, indexSize, Marked}
 use Rattle.nodes.specs.declared.Entry.{Entry}
 use Rattle.nodes.proofs.NameLaws.{params-names}
 use Rattle.nodes.proofs.PutLaws.{entry-put, length-put, before-put, after-put}
 use Rattle.sheet.specs.Admission.{told, groupsAfter, Room, Flagged, leftAfter, Same, ParamsRead, Placed, nodeWith}
-use Rattle.sheet.specs.Admission.{membersHere, Ready, Begun, refusedRun, seenAfter, NodeRead}
+use Rattle.sheet.specs.Admission.{NodeRoom, membersHere, Ready, Begun, refusedRun, seenAfter, NodeRead}
 use Rattle.sheet.specs.declared.ParamsRun.{ParamsRun}
 use Rattle.sheet.specs.declared.Held.{Held}
 use Rattle.sheet.specs.declared.NodeRun.{NodeRun}
 use Rattle.sheet.proofs.FieldsHereLaws as fields
 use Rattle.sheet.proofs.FieldsHereLaws.{Stand, fields-stand}
 use Rattle.sheet.proofs.PlacedLaws.{marked-same}
+use Rattle.sheet.proofs.RoomLaws.{node-room}
 use Rattle.row.specs.declared.Line.the-variants as line
 
 -- ---- a node that is refused
@@ -47,6 +48,7 @@ node-refused s at groups flags x held seen k g r e = record {
   room = omega (arith, r .room);
   flagged = r .flagged;
   marks = omega (arith, r .marks);
+  nodes = λ q f. never cc;
   further = omega arith;
   entries = record { each = λ q a b. refl };
   before = record { each = λ q a b. refl };
@@ -77,6 +79,7 @@ ready-after s at e groups flags held r after =
       flagged = r .flagged;
       first = r .first;
       marks = omega (arith, r .marks);
+      nodes = omega (arith, r .nodes);
     }
 
 -- a node is its N row, with the rows after it, and what belongs to it
@@ -100,8 +103,11 @@ module _ (s : Str) (at e : ℕ) (l : Line) (here : l ≡ lineAt (rows (drop at s
     fields = 0;
   }
 
-  pub node-begun : Begun s held entry
-  node-begun = record { after = after; marks = refl }
+  pub node-begun : NodeRoom (length s) (held .nodes) (size (rows (drop at s))) → Begun s held entry
+  node-begun room =
+      let less : 151 + size (rows (drop e s)) ≤ size (rows (drop at s)) = rw after
+      (node-room (rows (drop at s)) i p sc st g tc to (sym here ∙ is)) in
+      record { after = after; marks = refl; room = omega arith }
 
   pub node-whole :
       (ids seen x y groups flags : List ℕ) (r : NodeRun) (b : Bool) → b ≡ among i ids → b ≡ false
@@ -189,24 +195,32 @@ module _ (s : Str) (held : Held) (seen x y : List ℕ) (n : Entry) (p : ParamsRu
       fused ps (no k us) = refl
 
   -- the entry is put into the index after `held .nodes` others
-  module _ (few : held .nodes < 64) (first : 769 ≤ held .marks) (z : List ℕ)
+  module _ (few : held .nodes < 64) (first : firstMark (length s) ≤ held .marks) (z : List ℕ)
       (put : z ≡ withEntry y (1 + 12 * held .nodes) whole) where
     put-length : length z ≡ length y
     put-length = rw put (length-put y (1 + 12 * held .nodes) whole)
 
-    after-entry : (to : ℕ) → Same y z 769 to
-    after-entry to = record { each = λ q a b. rw put (after-put y (1 + 12 * held .nodes) whole q (omega arith)) }
+    -- it ends before the first mark
+    before-marks : 1 + 12 * held .nodes + 12 ≤ firstMark (length s)
+    before-marks = omega (arith, begun .room)
 
-    members-entry : 1025 ≤ length z → On (membersHere s n seen) (Placed s z (p .marks) (entryAt z (1 + 12 * held .nodes)))
+    after-entry : (to : ℕ) → Same y z (firstMark (length s)) to
+    after-entry to = record {
+      each = λ q a b. rw put (after-put y (1 + 12 * held .nodes) whole q (omega (arith, before-marks)));
+    }
+
+    members-entry : indexSize (length s) ≤ length z
+        → On (membersHere s n seen) (Placed s z (p .marks) (entryAt z (1 + 12 * held .nodes)))
     members-entry big =
         members-by (λ g. On g (Placed s z (p .marks) (entryAt z (1 + 12 * held .nodes)))) (λ ps d g e st. by-fields ps d g st)
       where
         there : entryAt z (1 + 12 * held .nodes) ≡ whole
-        there = rw put (entry-put y (1 + 12 * held .nodes) whole (omega (arith, put-length)))
+        there = rw put (entry-put y (1 + 12 * held .nodes) whole (omega (arith, put-length, before-marks)))
 
         marked : Marked s z (held .marks) (namesOf (rows (drop (n .params) s)))
-        marked = marked-same s y z 769 (p .marks) (held .marks) (namesOf (rows (drop (n .params) s))) (after-entry (p .marks))
-            put-length first (omega (arith, params .next, params .count)) (params .marked (omega (arith, put-length)))
+        marked = marked-same s y z (firstMark (length s)) (p .marks) (held .marks) (namesOf (rows (drop (n .params) s)))
+            (after-entry (p .marks)) put-length first
+            (omega (arith, params .next, params .count)) (params .marked (omega (arith, put-length)))
 
         placed : (ps : List Str) (fs : List Field) → ps ≡ namesOf (rows (drop (n .params) s)) → FieldsHere ts fs
             → Placed s z (p .marks) whole (nodeWith n (textAt (rows (drop (n .at) s))) ps fs)
@@ -246,6 +260,8 @@ module _ (s : Str) (held : Held) (seen x y : List ℕ) (n : Entry) (p : ParamsRu
       room = r;
       flagged = f;
       marks = omega (arith, params .room, fields-left s w (take m groups) seen (rows (drop (p .at) s)) t);
+      nodes = λ q e.
+          omega (arith, begun .room, params .left, rw e at (fields-left s w (take m groups) seen (rows (drop (p .at) s)) t));
       further = omega (arith, params .next);
       entries = record {
         each = λ q a b.

@@ -14,11 +14,13 @@ use Rattle.tree.specs.Reader.{Rows, Reading, got, no, _then_, mapR, atEnd}
 use Rattle.tree.specs.Read.{groupIds, nodeOf, nodesOf}
 use Rattle.tree.specs.declared.Walk.the-variants.{Next, Refused}
 use Rattle.tree.proofs.OtherLines.{never}
-use Rattle.sheet.specs.Admission.{Flagged, Room, MarkRoom, Ready, seenAfter, NodeRead, NodesRead}
+use Rattle.nodes.specs.Index.{firstMark, indexSize}
+use Rattle.sheet.specs.Admission.{Flagged, Room, MarkRoom, NodeRoom, Ready, seenAfter, NodeRead, NodesRead}
 use Rattle.sheet.specs.declared.Held.{Held}
 use Rattle.sheet.specs.declared.NodeRun.{NodeRun}
 use Rattle.sheet.proofs.FieldsLaws.{pushed}
 use Rattle.sheet.proofs.FlagsLaws.{flagged-none}
+use Rattle.sheet.proofs.RoomLaws.{rest-fits}
 use Rattle.sheet.proofs.PlacedLaws.{Filled, filled-same, filled-more, filled-all}
 
 nodes-more :
@@ -70,26 +72,28 @@ pub record Standing (s : Str) (from : ℕ) (index ids groups flags : List ℕ) (
   pub few : count ≤ 64
   pub room : Room groups n (size (rows (drop at s)))
   pub flagged : Flagged flags (take n groups)
-  pub first : 769 ≤ marks
-  pub mark-room : MarkRoom marks (size (rows (drop at s)))
+  pub first : firstMark (length s) ≤ marks
+  pub mark-room : MarkRoom (length s) marks (size (rows (drop at s)))
+  pub node-room : NodeRoom (length s) count (size (rows (drop at s)))
   pub done : List Node
   pub done-count : length done ≡ count
   pub same : whole s from ≡ after done (nodesOf (64 - count) (take count ids) (take n groups) (rows (drop at s)))
-  pub filled : 1025 ≤ length index → Filled s index marks 1 done
+  pub filled : indexSize (length s) ≤ length index → Filled s index marks 1 done
 
 pub standing-first :
     (s : Str) (from : ℕ) (index ids groups flags : List ℕ) → length ids ≡ 64 → length flags ≡ 2048
     → Room groups 0 (size (rows (drop from s))) → size (rows (drop from s)) ≤ 65536
-    → Standing s from index ids groups flags 0 0 769 from
+    → (marks : ℕ) → marks ≡ firstMark (length s) → Standing s from index ids groups flags 0 0 marks from
 unfolding Filled
-standing-first s from index ids groups flags a b r m = record {
+standing-first s from index ids groups flags a b r m marks e = record {
   ids-size = a;
   flags-size = b;
   few = omega arith;
   room = r;
   flagged = flagged-none flags;
   first = omega arith;
-  mark-room = omega arith;
+  mark-room = omega (arith, rest-fits s from (length s) (omega arith));
+  node-room = omega (arith, rest-fits s from (length s) (omega arith));
   done = [];
   done-count = refl;
   same = after-nil (whole s from);
@@ -123,6 +127,7 @@ module _ (s : Str) (from : ℕ) (index ids groups flags : List ℕ) (n count mar
       flagged = h .flagged;
       first = h .first;
       marks = h .mark-room;
+      nodes = h .node-room;
     }
 
     -- a node is walked over
@@ -169,7 +174,7 @@ module _ (s : Str) (from : ℕ) (index ids groups flags : List ℕ) (n count mar
                 it .groups,
               )
 
-          now-filled : 1025 ≤ length y → Filled s y (r .marks) 1 now-done
+          now-filled : indexSize (length s) ≤ length y → Filled s y (r .marks) 1 now-done
           now-filled big =
               filled-more s y (r .marks) 1 (h .done) (it .node)
               (filled-same s index y 0 (1 + 12 * count) marks (r .marks) 1 (h .done) (read .entries) (omega arith)
@@ -183,7 +188,8 @@ module _ (s : Str) (from : ℕ) (index ids groups flags : List ℕ) (n count mar
               let all : whole s from ≡ got now-done (rows (drop q s)) = turn ∙ last (rows (drop q s)) end in
               record {
                 walk = rw all;
-                index = λ big. rw all (filled-all s y (r .marks) (count + 1) now-done (omega (arith, length-set y 0 (count + 1)))
+                index = λ big. rw all (filled-all s y (r .marks) (count + 1) now-done
+                    (omega (arith, length-set y 0 (count + 1), read .nodes q e))
                     now-count (omega arith) (now-filled (omega (arith, length-set y 0 (count + 1)))));
               }
             where
@@ -206,6 +212,7 @@ module _ (s : Str) (from : ℕ) (index ids groups flags : List ℕ) (n count mar
             flagged = read .flagged;
             first = omega (arith, h .first, read .further);
             mark-room = rw e at (read .marks);
+            node-room = read .nodes q e;
             done = now-done;
             done-count = now-count;
             same = turn ∙ on (rows (drop q s)) (omega (arith, rows-shrink s q o));

@@ -3,7 +3,7 @@
 use mathlib.Core.Path.{_≡_, refl, sym, ap, _∙_}
 use mathlib.Core.Bool.{Bool, true, false}
 use mathlib.Core.List.{List, [], _∷_}
-use Prim.Native.Nat.{ℕ, suc, _+_, _-_, _*_, _/_, _%_, _≤_, _<_}
+use Prim.Native.Nat.{ℕ, suc, _+_, _-_, _*_, _/_, _%_, _^_, _≤_, _<_}
 use native.Mathlib.Decide.{ℕ-discrete}
 use native.Mathlib.Omega.{arith}
 use borrow.Author.Tests.{lt-ltb, eq-eqb, ne-eqb, ltb-true, ltb-false, eqb-true}
@@ -91,7 +91,7 @@ module _ (s : Str) (rs : Rows) (marks : ℕ) (x y : List ℕ) (at count place : 
     (l : Line) (here : l ≡ lineAt (rows (drop at s))) where
   -- the row is no P row
   pub passing-done :
-      OneOf (0 ∷ 1 ∷ 3 ∷ 4 ∷ 5 ∷ 6 ∷ 7 ∷ 8 ∷ 9 ∷ 10 ∷ []) (tagOf the-type l) → MarkRoom marks (size rs)
+      OneOf (0 ∷ 1 ∷ 3 ∷ 4 ∷ 5 ∷ 6 ∷ 7 ∷ 8 ∷ 9 ∷ 10 ∷ []) (tagOf the-type l) → MarkRoom (length s) marks (size rs)
       → ParamsRead s rs marks x y (record { at = at; count = count; marks = place })
   passing-done o room =
       let none = names-none (rows (drop at s)) (rw (← here) (not-parameter l true false o)) in
@@ -116,10 +116,10 @@ module _ (s : Str) (rs : Rows) (marks : ℕ) (x y : List ℕ) (at count place : 
     fits : 4 + size (rows (drop e s)) ≤ size (rows (drop at s))
     fits = rw after (parameter-room (rows (drop at s)) (sym here ∙ is))
 
-    pub passing-room : MarkRoom marks (size rs) → place < 1025
+    pub passing-room : MarkRoom (length s) marks (size rs) → place < 2 ^ 64 - 1
     passing-room room = omega (arith, p .left, p .next, fits)
 
-    pub passing-few : MarkRoom marks (size rs) → count < 262400
+    pub passing-few : MarkRoom (length s) marks (size rs) → count < 262400
     passing-few room = omega (arith, p .left, fits)
 
     more : namesOf (rows (drop at s)) ≡ textAt (rows (drop at s)) ∷ namesOf (rows (drop e s))

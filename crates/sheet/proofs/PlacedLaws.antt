@@ -8,7 +8,7 @@ use lib.ListN.{length, getD, set, length-set}
 use lib.Seq.{getD-set-same, getD-set-other}
 use Rattle.text.specs.Bytes.{Str}
 use Rattle.tree.specs.Tree.{Node}
-use Rattle.nodes.specs.Index.{entryAt, Marked, Entries, Indexed}
+use Rattle.nodes.specs.Index.{entryAt, firstMark, Marked, Entries, Indexed}
 use Rattle.nodes.specs.declared.Entry.{Entry}
 use Rattle.sheet.specs.Admission.{Same, Placed}
 
@@ -50,8 +50,8 @@ entry-same x y from to p e a b =
 
 -- one entry stays, with its marks
 placed-same :
-    (s : Str) (x y : List ℕ) (end end′ : ℕ) (e : Entry) (n : Node) → Same x y 769 end → length y ≡ length x → end ≤ end′
-    → Placed s x end e n → Placed s y end′ e n
+    (s : Str) (x y : List ℕ) (end end′ : ℕ) (e : Entry) (n : Node) → Same x y (firstMark (length s)) end
+    → length y ≡ length x → end ≤ end′ → Placed s x end e n → Placed s y end′ e n
 placed-same s x y end end′ e n m l h p = record {
   is = record {
     id = p .is .id;
@@ -65,7 +65,7 @@ placed-same s x y end end′ e n m l h p = record {
     after = p .is .after;
     params = p .is .params;
     count = p .is .count;
-    marks = marked-same s x y 769 end (e .marks) (n .params) m l (p .first) (p .last) (p .is .marks);
+    marks = marked-same s x y (firstMark (length s)) end (e .marks) (n .params) m l (p .first) (p .last) (p .is .marks);
     fields = p .is .fields;
   };
   first = p .first;
@@ -75,7 +75,7 @@ placed-same s x y end end′ e n m l h p = record {
 -- all entries stay
 pub filled-same :
     (s : Str) (x y : List ℕ) (from to end end′ p : ℕ) (ns : List Node) → Same x y from to → from ≤ p → p + 12 * length ns ≤ to
-    → Same x y 769 end → length y ≡ length x → end ≤ end′ → Filled s x end p ns → Filled s y end′ p ns
+    → Same x y (firstMark (length s)) end → length y ≡ length x → end ≤ end′ → Filled s x end p ns → Filled s y end′ p ns
 unfolding Filled
 filled-same s x y from to end end′ p [] e a b m l h f = tt
 filled-same s x y from to end end′ p (n ∷ ns) e a b m l h f = (
@@ -102,9 +102,9 @@ filled-entries s x end p (n ∷ ns) h f =
 
 -- with their count, they are the index
 pub filled-all :
-    (s : Str) (x : List ℕ) (end count : ℕ) (ns : List Node) → 1025 ≤ length x → length ns ≡ count → count ≤ 64
+    (s : Str) (x : List ℕ) (end count : ℕ) (ns : List Node) → 1 + 12 * count ≤ length x → length ns ≡ count → count ≤ 64
     → Filled s x end 1 ns → Indexed s ns (set x 0 count)
-filled-all s x end count ns big l h f =
+filled-all s x end count ns room l h f =
     let n = length-set x 0 count in
     let other : (from to : ℕ) → 0 < from → Same x (set x 0 count) from to = λ from to a. record {
       each = λ q b c. getD-set-other x 0 q count 0 (λ z. omega arith);
@@ -114,5 +114,5 @@ filled-all s x end count ns big l h f =
       few = omega arith;
       entries = filled-entries s (set x 0 count) end 1 ns (omega arith)
           (filled-same s x (set x 0 count) 1 (1 + 12 * length ns) end end 1 ns (other 1 (1 + 12 * length ns) (omega arith))
-          (omega arith) (omega arith) (other 769 end (omega arith)) n (omega arith) f);
+          (omega arith) (omega arith) (other (firstMark (length s)) end (omega arith)) n (omega arith) f);
     }

@@ -15,7 +15,7 @@ use Rattle.tree.specs.Walked.{passed, walked}
 use Rattle.tree.specs.Index.{On}
 use Rattle.tree.specs.declared.Walk.{Walk}
 use Rattle.tree.specs.declared.Walk.the-variants.{Next, Refused}
-use Rattle.nodes.specs.Index.{entryAt, namesOf, indexSize, Marked, EntryIs, Indexed}
+use Rattle.nodes.specs.Index.{entryAt, namesOf, firstMark, indexSize, Marked, EntryIs, Indexed}
 use Rattle.nodes.specs.declared.Entry.{Entry}
 use Rattle.sheet.specs.declared.Answer.{Answer}
 use Rattle.sheet.specs.declared.Answer.the-variants as answer
@@ -74,13 +74,14 @@ Turned s rs seen count groups flags (turn.End w) =
 
 -- ---- the index
 
--- the place of the first mark
-abbrev pub firstMark : ℕ
-firstMark = 769
+-- in the index of a sheet of n bytes the next mark has this place, and there is room for one more in each 256 of the bytes that
+-- are left
+abbrev pub MarkRoom : ℕ → ℕ → ℕ → Type 0
+MarkRoom n place left = 256 * place + left ≤ 256 * indexSize n + 255
 
--- the next mark has this place, and there is room for one more in each 256 of the bytes that are left
-abbrev pub MarkRoom : ℕ → ℕ → Type 0
-MarkRoom place left = 256 * place + left ≤ 256 * firstMark + 65536
+-- so many N rows, of 151 bytes or more each, and what is left are no more than the n bytes of a sheet
+abbrev pub NodeRoom : ℕ → ℕ → ℕ → Type 0
+NodeRoom n count left = 151 * count + left ≤ n
 
 -- whether the P row with a number, from 0, has a mark: each 64th of a node but the first
 abbrev pub hasMark : ℕ → Bool
@@ -104,14 +105,14 @@ pub record ParamsRead (s : Str) (rs : Rows) (marks : ℕ) (x y : List ℕ) (r : 
   pub count : r .count ≡ length (namesOf rs)
   pub next : r .marks ≡ marks + (r .count - 1) / 64
   pub left : size (rows (drop (r .at) s)) ≤ size rs
-  pub room : MarkRoom (r .marks) (size (rows (drop (r .at) s)))
+  pub room : MarkRoom (length s) (r .marks) (size (rows (drop (r .at) s)))
   pub same : Same x y 0 marks
-  pub marked : indexSize ≤ length y → Marked s y marks (namesOf rs)
+  pub marked : indexSize (length s) ≤ length y → Marked s y marks (namesOf rs)
 
 -- an entry is that of a node, with its marks among those before a place
 pub record Placed (s : Str) (index : List ℕ) (end : ℕ) (e : Entry) (n : Node) : Type 0 where
   pub is : EntryIs s index e n
-  pub first : firstMark ≤ e .marks
+  pub first : firstMark (length s) ≤ e .marks
   pub last : e .marks + (length (n .params) - 1) / 64 ≤ end
 
 -- ---- nodes
@@ -135,19 +136,21 @@ nodeWith e theMod ps fs = record {
 abbrev pub membersHere : Str → Entry → List ℕ → Reading Node
 membersHere s e seen = membersOf seen (nodeWith e (textAt (rows (drop (e .at) s)))) (rows (drop (e .params) s))
 
--- where a node is read, with the sheet from a position on left: not the 65th, with room for its ids and marks
+-- where a node is read, with the sheet from a position on left: not the 65th, with room for its ids, its marks and its entry
 pub record Ready (s : Str) (at : ℕ) (groups flags : List ℕ) (held : Held) : Type 0 where
   pub few : held .nodes < 64
   pub flags-size : length flags ≡ 2048
   pub room : Room groups (held .groups) (size (rows (drop at s)))
   pub flagged : Flagged flags (take (held .groups) groups)
-  pub first : firstMark ≤ held .marks
-  pub marks : MarkRoom (held .marks) (size (rows (drop at s)))
+  pub first : firstMark (length s) ≤ held .marks
+  pub marks : MarkRoom (length s) (held .marks) (size (rows (drop at s)))
+  pub nodes : NodeRoom (length s) (held .nodes) (size (rows (drop at s)))
 
--- an entry of which an N row is read: its P rows begin after that row, and its marks at the next place
+-- an entry of which an N row is read: its P rows begin after that row, and its marks at the next place; there is room for it
 pub record Begun (s : Str) (held : Held) (e : Entry) : Type 0 where
   pub after : rows (drop (e .params) s) ≡ restOf (rows (drop (e .at) s))
   pub marks : e .marks ≡ held .marks
+  pub room : NodeRoom (length s) (held .nodes + 1) (size (rows (drop (e .params) s)))
 
 -- a node that is refused adds nothing
 abbrev pub refusedRun : Held → ℕ → ℕ → NodeRun
@@ -164,13 +167,14 @@ pub record NodeRead
   pub read : told s (r .walk) (r .id, take (r .groups) groups) ≡ (g then λ n. got (seenAfter seen n))
   pub room : Room groups (r .groups) (leftAfter s (r .walk))
   pub flagged : Flagged flags (take (r .groups) groups)
-  pub marks : MarkRoom (r .marks) (leftAfter s (r .walk))
+  pub marks : MarkRoom (length s) (r .marks) (leftAfter s (r .walk))
+  pub nodes : (q : ℕ) → r .walk ≡ Next q → NodeRoom (length s) (held .nodes + 1) (size (rows (drop q s)))
   pub further : held .marks ≤ r .marks
   pub entries : Same x y 0 (1 + 12 * held .nodes)
-  pub before : Same x y firstMark (held .marks)
-  pub entry : indexSize ≤ length y → On g (Placed s y (r .marks) (entryAt y (1 + 12 * held .nodes)))
+  pub before : Same x y (firstMark (length s)) (held .marks)
+  pub entry : indexSize (length s) ≤ length y → On g (Placed s y (r .marks) (entryAt y (1 + 12 * held .nodes)))
 
 -- what a walk over nodes says of their reading: where it came to, and the index that it leaves
 pub record NodesRead (s : Str) (w : Walk) (y : List ℕ) (g : Reading (List Node)) : Type 0 where
   pub walk : walked s w ≡ passed g
-  pub index : indexSize ≤ length y → On g (λ ns. Indexed s ns y)
+  pub index : indexSize (length s) ≤ length y → On g (λ ns. Indexed s ns y)

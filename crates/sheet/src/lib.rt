@@ -4,7 +4,7 @@ use row::Line;
 use tree::Walk;
 ghost use mathlib.Core.Path.{_≡_};
 ghost use mathlib.Core.List.{[]};
-ghost use Prim.Native.Nat.{_%_, _≤_, _<_};
+ghost use Prim.Native.Nat.{_-_, _%_, _^_, _≤_, _<_};
 ghost use lib.ListN.{length, drop, take, set};
 ghost use Rattle.row.specs.Rows.{rows, size};
 ghost use Rattle.tree.specs.Read.{among, nodeOf, nodesOf, admitted};
@@ -107,7 +107,7 @@ fn flag(flags: &mut [u8], id: u64)
 // Puts the mark of the P row with a number, from 0, that stands at a position: each 64th row of a node but the first has one.
 // It answers with the place of the next mark.
 fn mark(index: &mut [u64], place: usize, number: u64, at: usize) -> usize
-    requires { ⌜ place < indexSize ⌝ }
+    requires { ⌜ place < 2 ^ 64 - 1 ⌝ }
     ensures { λ r. ⌜ (now (index .exit) ≡ withMark (now (index .entry)) place number at) × (r ≡ nextMark place number) ⌝ }
 {
     if number == 0 {
@@ -122,7 +122,7 @@ fn mark(index: &mut [u64], place: usize, number: u64, at: usize) -> usize
 
 // The P rows that stand there. Their marks are put from a place of the index on.
 fn params(s: &[u8], index: &mut [u64], from: usize, marks: usize) -> ParamsRun
-    requires { ⌜ MarkRoom marks (size (rows (drop from (now s)))) ⌝ }
+    requires { ⌜ MarkRoom (length (now s)) marks (size (rows (drop from (now s)))) ⌝ }
     ensures { λ r. ⌜ ParamsRead (now (s .entry)) (rows (drop from (now (s .entry)))) marks (now (index .entry))
         (now (index .exit)) r ⌝ }
 {
@@ -320,7 +320,7 @@ fn nodes(s: &[u8], index: &mut [u64], from: usize, groups: &mut [u64]) -> Walk
     let mut flags = [0u8; 2048];
     let mut count: usize = 0;
     let mut n: usize = 0;
-    let mut marks = nodes::FIRST_MARK;
+    let mut marks = nodes::first_mark(s.len());
     let mut at = from;
     while count < 64 {
         let held = Held {
@@ -379,11 +379,11 @@ fn all_nodes(s: &[u8], index: &mut [u64], from: usize) -> Walk
     long_nodes(s, index, from)
 }
 
-// Whether a sheet is admitted: one R row, then the nodes. Their index is put into `index`; 1,025 numbers are room enough for
-// any sheet.
+// Whether a sheet is admitted: one R row, then the nodes. Their index is put into `index`, if there is room for that of a sheet
+// of this length; `nodes::INDEX_SIZE` numbers are room enough for any sheet.
 pub fn admit(s: &[u8], index: &mut [u64]) -> Answer
     ensures answer { λ r. ⌜ r ≡ verdict (admitted (now (s .entry))) ⌝ }
-    ensures index { λ r. ⌜ (1025 ≤ length (now (index .entry))
+    ensures index { λ r. ⌜ (indexSize (length (now (s .entry))) ≤ length (now (index .entry))
         → IndexOf (now (s .entry)) (admitted (now (s .entry))) (now (index .exit))) ⌝ }
 {
     if 65536 < s.len() {

@@ -25,8 +25,6 @@ main-spec =
     (λ c. search needs)
     array-share-prefix-sheet
     slice-aggregate-print-sheet
-    (λ c. search needs)
-    (λ c. search needs)
     (λ c κs. search needs)
     (λ c. search needs)
     (λ c κs. search needs)

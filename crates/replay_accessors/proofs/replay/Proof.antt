@@ -1,5 +1,4 @@
 -- `replay_accessors::replay` is safe and ends: each turn goes past a sheet. Assumes nothing.
-use mathlib.Core.Path.{_≡_}
 use borrow.Author.Needs.{needs}
 use Prim.Native.Nat.{_-_}
 use native.Mathlib.Omega.{arith}
@@ -8,10 +7,10 @@ use Rattle.replay_accessors.proofs.replay.Statement.{statement}
 use Rattle.replay_accessors.proofs.replay.Tie as tie
 
 abbrev Inv-loop : tie.InvT-loop
-Inv-loop sheets index₀ out₀ at₀ index out at = (length index ≡ length index₀) × (length out ≡ length out₀)
+Inv-loop sheets at₀ at = Unit {0}
 
 abbrev μ-loop : tie.MeasureT-loop
-μ-loop sheets index₀ out₀ at₀ index out at = length sheets - at
+μ-loop sheets at₀ at = length sheets - at
 
 pub replay-spec : {M : Type 1} → statement M
 replay-spec =
@@ -26,10 +25,6 @@ replay-spec =
     (λ c. search needs)
     (λ c κs. search needs)
     (λ c. search needs)
-    (λ c. search needs)
-    (λ c. search needs)
     (λ c. omega arith)
-    (λ c. search needs)
-    (λ c. search needs)
     (λ c. search needs)
     (λ c. search needs))

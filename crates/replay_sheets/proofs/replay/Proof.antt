@@ -1,4 +1,4 @@
--- `replay_sheets::replay` is safe and ends. The loop's invariant: the index and the buffer keep their lengths. Assumes nothing.
+-- `replay_sheets::replay` is safe and ends. The loop's invariant: the buffer keeps its length. Assumes nothing.
 use borrow.Author.Needs.{needs}
 use mathlib.Core.Path.{_≡_, refl}
 use Prim.Native.Nat.{_-_}
@@ -8,10 +8,10 @@ use Rattle.replay_sheets.proofs.replay.Statement.{statement}
 use Rattle.replay_sheets.proofs.replay.Tie as tie
 
 abbrev Inv-loop : tie.InvT-loop
-Inv-loop sheets index₀ buf₀ at₀ index buf at = (length index ≡ length index₀) × (length buf ≡ length buf₀)
+Inv-loop sheets buf₀ at₀ buf at = length buf ≡ length buf₀
 
 abbrev μ-loop : tie.MeasureT-loop
-μ-loop sheets index₀ buf₀ at₀ index buf at = length sheets - at
+μ-loop sheets buf₀ at₀ buf at = length sheets - at
 
 pub replay-spec : {M : Type 1} → statement M
 replay-spec =
@@ -19,7 +19,7 @@ replay-spec =
     (tie.spec
     Inv-loop
     μ-loop
-    (λ c. (refl, refl))
+    (λ c. refl)
     (λ c κs. search needs)
     (λ c. search needs)
     (λ c. search needs)
@@ -27,6 +27,5 @@ replay-spec =
     (λ c κs. search needs)
     (λ c. omega arith)
     (λ c. omega arith)
-    (λ c. search needs)
     (λ c. search needs)
     (λ c. tt))

@@ -1,5 +1,5 @@
 -- `sheet::all_nodes` meets its contract: what is left of a sheet is no longer than the sheet. Assumes nothing.
-use Rattle.sheet.proofs.AdmitLaws.{rest-fits}
+use Rattle.sheet.proofs.RoomLaws.{rest-fits}
 use borrow.Author.Needs.{needs}
 use Rattle.sheet.proofs.all_nodes.Statement.{statement}
 use Rattle.sheet.proofs.all_nodes.Tie as tie

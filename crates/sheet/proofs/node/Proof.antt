@@ -29,7 +29,8 @@ members-requires c κs =
     let at-next = at-l .before .before in
     let start = at-next .before .before .before .before .before .before in (
       ready-after _ _ _ _ _ _ (start .pre .1) (at-next .next .ensures .1),
-      node-begun _ _ _ _ (at-next .next .ensures .0) (at-next .next .ensures .1) _ _ _ _ _ _ _ (at-l .l .given .1) _,
+      node-begun _ _ _ _ (at-next .next .ensures .0) (at-next .next .ensures .1) _ _ _ _ _ _ _ (at-l .l .given .1) _
+          (start .pre .1 .nodes),
     )
 
 returns-3 : tie.Need-returns-3

@@ -19,8 +19,8 @@ abbrev μ-loop : tie.MeasureT-loop
 
 loop-holds : tie.Need-loop-holds Inv-loop μ-loop
 loop-holds c =
-    let start = c .before .before .before in
-    (refl, refl, standing-first _ _ _ _ _ _ refl refl (start .pre .0) (start .pre .1))
+    let start = c .before .before .before .before in
+    (refl, refl, standing-first _ _ _ _ _ _ refl refl (start .pre .0) (start .pre .1) _ (c .first-mark .ensures))
 
 slice-aggregate-node : tie.Need-slice-aggregate-node Inv-loop μ-loop
 slice-aggregate-node c =
@@ -83,6 +83,7 @@ nodes-spec =
     (tie.spec
     Inv-loop
     μ-loop
+    (λ c κs. search needs)
     loop-holds
     slice-aggregate-node
     slice-aggregate-node-2
