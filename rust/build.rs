@@ -23,4 +23,6 @@ fn main() {
     let name = name.unwrap_or_else(|| panic!("an archive is called libNAME.a, not {file}"));
     println!("cargo:rustc-link-search=native={}", folder.display());
     println!("cargo:rustc-link-lib=static={name}");
+    // The tests link a program in C with it.
+    println!("cargo:rustc-env=KITLUBAS_ARCHIVE={}", archive.display());
 }

@@ -3,11 +3,11 @@
 
 use crate::nodes::{self, Field, Node, Slot};
 use crate::rows;
-use kitlubas::{padded, text, Form, Leaf, Lifetime, Request, Side};
+use kitlubas::{padded, Form, Leaf, Lifetime, NodeId, Place, Request, Side};
 
 struct Sheet<'s> {
     name: &'s str,
-    bytes: Vec<u8>,
+    admitted: kitlubas::Sheet<'s>,
     nodes: Vec<Node>,
 }
 
@@ -35,8 +35,9 @@ pub fn file(sheets: &[(String, String)]) -> String {
     let mut file = String::new();
     let mut families = String::new();
     for (name, short) in sheets {
-        let sheet = Sheet { name, bytes: padded(short).into_bytes(), nodes: nodes::read(short) };
-        file += &sheet.module();
+        let bytes = padded(short).into_bytes();
+        let admitted = kitlubas::Sheet::admit(&bytes).unwrap_or_else(|refusal| panic!("{name}: {refusal}"));
+        file += &Sheet { name, admitted, nodes: nodes::read(short) }.module();
         families += &format!("{name}::FAMILY, ");
     }
     file + &format!("pub const FAMILIES: &[crate::slots::Family] = &[{families}];\n")
@@ -45,8 +46,8 @@ pub fn file(sheets: &[(String, String)]) -> String {
 impl Sheet<'_> {
     /// The text of a request. A sheet of this program is one that everything can be asked of.
     fn ask(&self, node: &Node, place: usize, request: Request) -> String {
-        text(&self.bytes, node.id, place as u64, request)
-            .unwrap_or_else(|refusal| panic!("{}, node {}, field {place}, {request:?}: {refusal}", self.name, node.id))
+        let text = self.admitted.text(NodeId(node.id), Place(place as u64), request);
+        text.unwrap_or_else(|refusal| panic!("{}, node {}, field {place}, {request:?}: {refusal}", self.name, node.id))
     }
 
     fn texts(&self, node: &Node, place: usize, slot: &Slot) -> Texts {

@@ -1,19 +1,17 @@
-//! The functions of Kitlubas' static library, as crates/exports has them. Every `unsafe` of this package is here.
-//! A slice passes as its pointer and its length; `at` is a fill count, and the answer is the new one.
+//! The functions of Kitlubas' static library, by the declarations that the crate in rust/ has too. Every `unsafe` of this
+//! package is here. A slice passes as its pointer and its length; `at` is a fill count, and the answer is the new one.
+
+// The crate in rust/ calls the others.
+#[path = "../../rust/src/boundary/declarations.rs"]
+#[allow(dead_code)]
+mod declarations;
+
+// The archive is linked for the declarations.
+#[link(name = "exports", kind = "static")]
+extern "C" {}
 
 pub mod leaves {
-    #[link(name = "exports", kind = "static")]
-    extern "C" {
-        fn kitlubas_number(at: usize, buf: *mut u8, len: usize, n: u64) -> usize;
-        fn kitlubas_signed(at: usize, buf: *mut u8, len: usize, width: u32, n: u64) -> usize;
-        fn kitlubas_line(at: usize, buf: *mut u8, len: usize, indent: usize, line: *const u8, line_len: usize)
-            -> usize;
-        fn kitlubas_blank_line(at: usize, buf: *mut u8, len: usize) -> usize;
-        fn kitlubas_no_lines(at: usize, buf: *mut u8, len: usize) -> usize;
-        fn kitlubas_snake(at: usize, buf: *mut u8, len: usize, name: *const u8, name_len: usize) -> usize;
-        fn kitlubas_default_name(at: usize, buf: *mut u8, len: usize, name: *const u8, name_len: usize) -> usize;
-        fn kitlubas_module_name(at: usize, buf: *mut u8, len: usize, name: *const u8, name_len: usize) -> usize;
-    }
+    use super::declarations::*;
 
     pub fn number(at: usize, buf: &mut [u8], n: u64) -> usize {
         unsafe { kitlubas_number(at, buf.as_mut_ptr(), buf.len(), n) }
@@ -49,13 +47,8 @@ pub mod leaves {
 }
 
 pub mod admit {
+    use super::declarations::kitlubas_admit;
     use crate::sheet::read::Refusal;
-
-    #[link(name = "exports", kind = "static")]
-    extern "C" {
-        /// 0 for an admitted sheet, else the refusal's number; `line` becomes its line.
-        fn kitlubas_admit(sheet: *const u8, len: usize, line: *mut usize) -> u64;
-    }
 
     pub fn admit(sheet: &[u8]) -> Result<(), Refusal> {
         let mut line = usize::MAX;
@@ -67,25 +60,9 @@ pub mod admit {
 }
 
 pub mod answer {
+    use super::declarations::kitlubas_answer;
     use crate::answer::Request;
     use crate::sheet::read::Refusal;
-
-    #[link(name = "exports", kind = "static")]
-    extern "C" {
-        /// 0 where the text was written and `fill` moved past it, else the refusal's number; `line` becomes its line.
-        fn kitlubas_answer(
-            sheet: *const u8,
-            sheet_len: usize,
-            node: u64,
-            place: u64,
-            request: u64,
-            leaf: u64,
-            fill: *mut usize,
-            line: *mut usize,
-            buf: *mut u8,
-            len: usize,
-        ) -> u64;
-    }
 
     /// The number of a request at the boundary; the leaf goes beside it.
     fn number(request: Request) -> u64 {

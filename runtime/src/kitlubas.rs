@@ -1,17 +1,50 @@
-// The static library's functions for records, wrapped. A slice passes as pointer then length.
+// The static library's functions for records, wrapped. crates/record_exports/kitlubas_record.h says what each answers; the tests
+// of rust/ hold these declarations against it.
 mod raw {
     extern "C" {
-        pub fn kitlubas_get_bool(section: *const u8, len: usize, offset: u32, value: *mut u64) -> bool;
-        pub fn kitlubas_get_bool_mask(section: *const u8, len: usize, offset: u32, mask: bool, value: *mut u64) -> bool;
-        pub fn kitlubas_set_bool(section: *mut u8, len: usize, offset: u32, value: bool) -> bool;
-        pub fn kitlubas_set_bool_mask(section: *mut u8, len: usize, offset: u32, value: bool, mask: bool) -> bool;
-        pub fn kitlubas_get_data(section: *const u8, len: usize, width: u32, offset: u32, value: *mut u64) -> bool;
-        pub fn kitlubas_get_data_mask(section: *const u8, len: usize, width: u32, offset: u32, mask: u64, value: *mut u64) -> bool;
-        pub fn kitlubas_set_data(section: *mut u8, len: usize, width: u32, offset: u32, value: u64) -> bool;
-        pub fn kitlubas_set_data_mask(section: *mut u8, len: usize, width: u32, offset: u32, value: u64, mask: u64) -> bool;
-        pub fn kitlubas_tag_is(section: *const u8, len: usize, offset: u32, member: u16) -> u8;
-        pub fn kitlubas_is_pointer_null(pointers: *const u8, len: usize, offset: u32) -> u8;
-        pub fn kitlubas_clear(pointers: *mut u8, len: usize, offset: u32) -> bool;
+        pub fn kitlubas_get_bool(section: *const u8, section_len: usize, offset: u32, value: *mut u64) -> bool;
+        pub fn kitlubas_get_bool_mask(
+            section: *const u8,
+            section_len: usize,
+            offset: u32,
+            mask: bool,
+            value: *mut u64,
+        ) -> bool;
+        pub fn kitlubas_set_bool(section: *mut u8, section_len: usize, offset: u32, value: bool) -> bool;
+        pub fn kitlubas_set_bool_mask(
+            section: *mut u8,
+            section_len: usize,
+            offset: u32,
+            value: bool,
+            mask: bool,
+        ) -> bool;
+        pub fn kitlubas_get_data(
+            section: *const u8,
+            section_len: usize,
+            width: u32,
+            offset: u32,
+            value: *mut u64,
+        ) -> bool;
+        pub fn kitlubas_get_data_mask(
+            section: *const u8,
+            section_len: usize,
+            width: u32,
+            offset: u32,
+            mask: u64,
+            value: *mut u64,
+        ) -> bool;
+        pub fn kitlubas_set_data(section: *mut u8, section_len: usize, width: u32, offset: u32, value: u64) -> bool;
+        pub fn kitlubas_set_data_mask(
+            section: *mut u8,
+            section_len: usize,
+            width: u32,
+            offset: u32,
+            value: u64,
+            mask: u64,
+        ) -> bool;
+        pub fn kitlubas_tag_is(section: *const u8, section_len: usize, offset: u32, member: u16) -> u8;
+        pub fn kitlubas_is_pointer_null(pointers: *const u8, pointers_len: usize, offset: u32) -> u8;
+        pub fn kitlubas_clear(pointers: *mut u8, pointers_len: usize, offset: u32) -> bool;
     }
 }
 

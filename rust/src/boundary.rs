@@ -1,62 +1,205 @@
-//! The functions of the static library, as crates/exports has them, and the calls of them. Every `unsafe` of this crate
-//! is here.
+//! The calls of the static library. Every `unsafe` of this crate is here.
 //!
 //! What makes a call sound:
 //!
-//! - A slice passes as its address and its length. The library reads these bytes only, and writes only bytes of `buf`;
-//!   a Rust slice is valid for just that. Of a slice of length 0 it touches nothing, so that any address will do.
-//! - `fill` and `line` are addresses of a `usize` each. The library reads and writes them as one.
-//! - Nothing that is written to (`buf`, `fill`, `line`) overlaps anything else that is passed: each comes from an
-//!   exclusive borrow.
+//! - A slice passes as its address and its length. The library reads these elements only, and writes only those of the
+//!   slices that are lent exclusively; a Rust slice is valid for just that. Of a slice of length 0 it touches nothing, so
+//!   that any address will do.
+//! - Every other address is that of a variable here, of the type that the library reads and writes there.
+//! - Nothing that is written to overlaps anything else that is passed: each comes from an exclusive borrow.
 //! - The library keeps no address after it answers and has no state of its own, so that calls on several threads do not
 //!   meet. It calls nothing but `memcpy` and `memset`, and does not unwind.
 //!
-//! It is proved for every value of every argument, so that nothing is left for a caller to check.
+//! It is proved for every value of every argument, so that nothing is left for a caller to check: an index that belongs
+//! to other bytes gives other answers, and still touches only what is lent.
 #![allow(unsafe_code)]
 
-extern "C" {
-    /// 0 for a sheet that is admitted, else the refusal's number; `line` becomes its line, or 0.
-    fn kitlubas_admit(sheet: *const u8, sheet_len: usize, line: *mut usize) -> u64;
+// Each package that has these declarations calls some of the functions.
+#[allow(dead_code)]
+mod declarations;
 
-    /// 0 where the text was written and `fill` moved past it, else the refusal's number; `line` becomes its line, or 0.
-    fn kitlubas_answer(
-        sheet: *const u8,
-        sheet_len: usize,
-        node: u64,
-        place: u64,
-        request: u64,
-        leaf: u64,
-        fill: *mut usize,
-        line: *mut usize,
-        buf: *mut u8,
-        buf_len: usize,
-    ) -> u64;
+use crate::{NodeId, Place, Refusal, Request};
+use std::ops::Range;
+
+/// The most bytes that a name has in snake case.
+const SNAKE_SIZE: usize = 127;
+
+/// What the library tells of a node.
+pub struct NodeRow {
+    pub id: NodeId,
+    /// Where its module stands in the sheet.
+    pub module: Range<usize>,
+    /// Where its first field stands.
+    pub fields: usize,
 }
 
-/// The number and the line that the sheet is told by.
-pub fn admit(sheet: &[u8]) -> (u64, usize) {
+/// What the library tells of a field.
+pub struct FieldRow {
+    /// The number of its kind.
+    pub kind: u64,
+    /// Where its name stands in the sheet.
+    pub name: Range<usize>,
+    /// Where the field after it stands.
+    pub next: usize,
+}
+
+/// Why there is no text, and the length that it has where it is only too long.
+pub struct NoText {
+    pub refusal: Refusal,
+    pub length: usize,
+}
+
+/// Whether the bytes are a sheet.
+pub fn admit(sheet: &[u8]) -> Result<(), Refusal> {
     let mut line = 0;
     // Sound: the address and the length are the slice's, and `line` is a local variable.
-    let number = unsafe { kitlubas_admit(sheet.as_ptr(), sheet.len(), &mut line) };
-    (number, line)
+    let number = unsafe { declarations::kitlubas_admit(sheet.as_ptr(), sheet.len(), &mut line) };
+    Refusal::told(number, line)
 }
 
-/// The number and the line that the answer is told by; `fill` is the fill count before and after.
+/// How many numbers the index of a sheet of so many bytes needs.
+pub fn index_size(sheet_len: usize) -> usize {
+    // Sound: only a number is passed.
+    unsafe { declarations::kitlubas_index_size(sheet_len) }
+}
+
+/// Whether the bytes are a sheet; if so, and if the index is long enough, it becomes that of the sheet's nodes.
+pub fn index(sheet: &[u8], index: &mut [u64]) -> Result<(), Refusal> {
+    let (index_at, index_len) = (index.as_mut_ptr(), index.len());
+    let mut line = 0;
+    // Sound: addresses and lengths are those of the slices, `index` is borrowed exclusively, and `line` is a local
+    // variable.
+    let number = unsafe { declarations::kitlubas_index(sheet.as_ptr(), sheet.len(), index_at, index_len, &mut line) };
+    Refusal::told(number, line)
+}
+
+/// The fill count after the text of a request, over any bytes.
 pub fn answer(
     sheet: &[u8],
-    node: u64,
-    place: u64,
-    request: u64,
-    leaf: u64,
-    fill: &mut usize,
+    node: NodeId,
+    place: Place,
+    request: Request,
     buf: &mut [u8],
-) -> (u64, usize) {
+    fill: usize,
+) -> Result<usize, Refusal> {
     let (buf_at, buf_len) = (buf.as_mut_ptr(), buf.len());
-    let mut line = 0;
-    // Sound: addresses and lengths are those of the slices, `fill` and `buf` are borrowed exclusively, and `line` is a
-    // local variable.
+    let (mut after, mut line) = (fill, 0);
+    // Sound: addresses and lengths are those of the slices, `buf` is borrowed exclusively, and `after` and `line` are
+    // local variables.
     let number = unsafe {
-        kitlubas_answer(sheet.as_ptr(), sheet.len(), node, place, request, leaf, fill, &mut line, buf_at, buf_len)
+        declarations::kitlubas_answer(
+            sheet.as_ptr(),
+            sheet.len(),
+            node.0,
+            place.0,
+            request.number(),
+            request.leaf(),
+            &mut after,
+            &mut line,
+            buf_at,
+            buf_len,
+        )
     };
-    (number, line)
+    Refusal::told(number, line).map(|()| after)
+}
+
+/// The fill count after the text of a request, over the index of the sheet's nodes.
+pub fn answer_in(
+    (sheet, index): (&[u8], &[u64]),
+    node: NodeId,
+    place: Place,
+    request: Request,
+    buf: &mut [u8],
+    fill: usize,
+) -> Result<usize, Refusal> {
+    let (buf_at, buf_len) = (buf.as_mut_ptr(), buf.len());
+    let (mut after, mut line) = (fill, 0);
+    // Sound: addresses and lengths are those of the slices, `buf` is borrowed exclusively, and `after` and `line` are
+    // local variables.
+    let number = unsafe {
+        declarations::kitlubas_answer_in(
+            sheet.as_ptr(),
+            sheet.len(),
+            index.as_ptr(),
+            index.len(),
+            node.0,
+            place.0,
+            request.number(),
+            request.leaf(),
+            &mut after,
+            &mut line,
+            buf_at,
+            buf_len,
+        )
+    };
+    Refusal::told(number, line).map(|()| after)
+}
+
+/// The length of the text of a request for the field at a position of the node with a number; the text then begins
+/// `buf`. Where there is no text, the bytes of `buf` may have changed.
+pub fn text_at(
+    (sheet, index): (&[u8], &[u64]),
+    node: usize,
+    at: usize,
+    request: Request,
+    buf: &mut [u8],
+) -> Result<usize, NoText> {
+    let (buf_at, buf_len) = (buf.as_mut_ptr(), buf.len());
+    let mut length = 0;
+    // Sound: addresses and lengths are those of the slices, `buf` is borrowed exclusively, and `length` is a local
+    // variable.
+    let number = unsafe {
+        declarations::kitlubas_text_at(
+            sheet.as_ptr(),
+            sheet.len(),
+            index.as_ptr(),
+            index.len(),
+            node,
+            at,
+            request.number(),
+            request.leaf(),
+            &mut length,
+            buf_at,
+            buf_len,
+        )
+    };
+    Refusal::told(number, 0).map(|()| length).map_err(|refusal| NoText { refusal, length })
+}
+
+/// The node with a number, from 0.
+pub fn node((sheet, index): (&[u8], &[u64]), number: usize) -> Option<NodeRow> {
+    let (mut id, mut module, mut module_len, mut fields) = (0, 0, 0, 0);
+    // Sound: addresses and lengths are those of the slices, and the others are four local variables.
+    let refusal = unsafe {
+        declarations::kitlubas_node(
+            sheet.as_ptr(),
+            sheet.len(),
+            index.as_ptr(),
+            index.len(),
+            number,
+            &mut id,
+            &mut module,
+            &mut module_len,
+            &mut fields,
+        )
+    };
+    (refusal == 0).then(|| NodeRow { id: NodeId(id), module: module..module + module_len, fields })
+}
+
+/// The field that stands at a position.
+pub fn field(sheet: &[u8], at: usize) -> Option<FieldRow> {
+    let (mut kind, mut name, mut name_len, mut next) = (0, 0, 0, 0);
+    // Sound: the address and the length are the slice's, and the others are four local variables.
+    let refusal = unsafe {
+        declarations::kitlubas_field(sheet.as_ptr(), sheet.len(), at, &mut kind, &mut name, &mut name_len, &mut next)
+    };
+    (refusal == 0).then(|| FieldRow { kind, name: name..name + name_len, next })
+}
+
+/// A name of a sheet in snake case.
+pub fn snake(name: &str) -> String {
+    let mut buf = [0; SNAKE_SIZE];
+    // Sound: addresses and lengths are those of the name and of a local variable.
+    let fill = unsafe { declarations::kitlubas_snake(0, buf.as_mut_ptr(), SNAKE_SIZE, name.as_ptr(), name.len()) };
+    String::from_utf8_lossy(&buf[..fill]).into_owned()
 }

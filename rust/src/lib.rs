@@ -1,33 +1,35 @@
 //! Slot accessors from schema sheets: the part of capnpc that writes getters, setters, hasers and group zeroing.
 //!
-//! A sheet describes the nodes and fields of a schema, one line each. [`admit`] says whether bytes are a sheet, and
-//! [`answer`] writes the text of one accessor into a buffer. Both take anything: whole, torn or empty sheets, any node,
-//! any place, any buffer and any fill count. What can't be answered is a [`Refusal`] with a number and a sentence, and
-//! a refusal changes no byte of the buffer. Nothing panics and nothing has to be checked first.
+//! A sheet describes the nodes and fields of a schema, one line each. [`Sheet::admit`] says whether bytes are a sheet;
+//! from a sheet come its [`Node`]s, from a node its [`Field`]s, and from a field the text of each [`Request`].
+//! [`Sheet::answer`] writes a text into a buffer of the caller's instead, and [`answer`] does so in one call, from bytes.
+//! All of them take anything: whole, torn or empty sheets, any node, any place, any buffer and any fill count. What can't
+//! be answered is a [`Refusal`] with a number and a sentence, and a refusal changes no byte of the buffer. Nothing panics
+//! and nothing has to be checked first.
 //!
 //! The work is done by a static library in which every function is proved to meet its contract; this crate only calls
 //! it. The text is capnpc's, byte for byte. Calls have no state, may run on any number of threads, and get along with a
 //! stack of 64 KB.
 //!
-//! # Example
+//! # Examples
 //!
 //! A bed with one flag, `isFree`, whose default is true. [`padded`] puts the numbers of a short sheet into the 21
 //! columns that a sheet has.
 //!
 //! ```
-//! use kitlubas::{admit, padded, text, Form, Request, Side};
+//! use kitlubas::{padded, Form, NodeId, Place, Request, Sheet, Side};
 //!
-//! let sheet = padded(
+//! let bytes = padded(
 //!     "R ::capnp\n\
 //!      N 7 0 0 1 0 0 0 bed\n\
 //!      F 3 65535 1 0 isFree\n\
 //!      T 1 0 0 0\n\
 //!      V 1 1\n",
 //! );
-//! admit(sheet.as_bytes())?;
+//! let sheet = Sheet::admit(bytes.as_bytes())?;
 //!
 //! // Node 7, and of its fields the first.
-//! let setter = text(sheet.as_bytes(), 7, 0, Request::Setter)?;
+//! let setter = sheet.text(NodeId(7), Place(0), Request::Setter)?;
 //! assert_eq!(
 //!     setter,
 //!     "#[inline]\n\
@@ -37,13 +39,66 @@
 //! );
 //!
 //! let getter = Request::Getter { side: Side::Reader, form: Form::Plain };
-//! let getter = text(sheet.as_bytes(), 7, 0, getter)?;
+//! let getter = sheet.text(NodeId(7), Place(0), getter)?;
 //! assert_eq!(getter, "bool\nself.reader.get_bool_field_mask(3, true)\n");
-//!
-//! // There is no second field.
-//! let refusal = text(sheet.as_bytes(), 7, 1, Request::Setter).unwrap_err();
-//! assert_eq!(refusal.number, 15);
 //! # Ok::<(), kitlubas::Refusal>(())
+//! ```
+//!
+//! All the slots of a sheet, with their types:
+//!
+//! ```
+//! use kitlubas::{padded, Kind, Leaf, Lifetime, Refusal, Request, Sheet};
+//!
+//! fn slots(bytes: &[u8]) -> Result<Vec<String>, Refusal> {
+//!     let sheet = Sheet::admit(bytes)?;
+//!     let mut slots = Vec::new();
+//!     for node in sheet.nodes() {
+//!         for field in node.fields().filter(|field| field.kind() != Kind::Group) {
+//!             let typ = field.text(Request::TypeText(Leaf::Reader(Lifetime::A)))?;
+//!             slots.push(format!("{}.{}: {typ}", node.module(), field.name()));
+//!         }
+//!     }
+//!     Ok(slots)
+//! }
+//!
+//! let bytes = padded(
+//!     "R ::capnp\n\
+//!      N 7 0 0 1 0 0 0 bed\n\
+//!      F 3 65535 1 0 isFree\nT 1 0 0 0\nV 1 1\n\
+//!      F 0 65535 0 0 wards\nT 14 0 0 0\nT 12 0 0 0\nV 14 0\n",
+//! );
+//! assert_eq!(slots(bytes.as_bytes())?, ["bed.isFree: bool", "bed.wards: ::capnp::text_list::Reader<'a>"]);
+//! # Ok::<(), kitlubas::Refusal>(())
+//! ```
+//!
+//! The builder's accessors of a node, written into a file. A getter's text begins with its result type; what stands
+//! around the two is the caller's.
+//!
+//! ```
+//! use kitlubas::{padded, Form, Kind, Node, Refusal, Request, Sheet, Side};
+//!
+//! fn accessors(node: Node<'_, '_>) -> Result<Vec<u8>, Refusal> {
+//!     let side = Side::Builder;
+//!     let mut file = Vec::new();
+//!     for field in node.fields().filter(|field| field.kind() != Kind::Group) {
+//!         let getter = field.text(Request::Getter { side, form: Form::Function })?;
+//!         let (result, code) = getter.split_once('\n').expect("a getter has two lines or more");
+//!         let name = field.styled_name();
+//!         file.extend(format!("#[inline]\npub fn get_{name}(self) {result} {{\n{code}}}\n").bytes());
+//!         field.write_text(Request::Setter, &mut file)?;
+//!         field.write_text(Request::Haser { side }, &mut file)?;
+//!     }
+//!     Ok(file)
+//! }
+//!
+//! let bytes = padded("R ::capnp\nN 7 0 0 1 0 0 0 bed\nF 3 65535 1 0 isFree\nT 1 0 0 0\nV 1 1\n");
+//! let sheet = Sheet::admit(bytes.as_bytes())?;
+//! let node = sheet.nodes().next().ok_or("a sheet has a node")?;
+//! let path = std::env::temp_dir().join("bed_accessors.rs");
+//! std::fs::write(&path, accessors(node)?)?;
+//! assert!(std::fs::read_to_string(&path)?.contains("pub fn get_is_free(self) -> bool {"));
+//! # std::fs::remove_file(&path)?;
+//! # Ok::<(), Box<dyn std::error::Error>>(())
 //! ```
 //!
 //! # Building
@@ -53,66 +108,43 @@
 
 #![deny(missing_docs, unsafe_code, unsafe_op_in_unsafe_fn)]
 
+mod address;
 mod boundary;
+mod field;
+mod kind;
+mod padded;
 mod refusal;
 mod request;
 mod sheet;
 
+pub use address::{NodeId, Place};
+pub use field::{Field, Fields};
+pub use kind::Kind;
+pub use padded::padded;
 pub use refusal::Refusal;
 pub use request::{Form, Leaf, Lifetime, Request, Side};
-pub use sheet::padded;
-
-/// How much room [`text`] tries first; most accessors have less than a tenth of it.
-const FIRST_ROOM: usize = 4096;
+pub use sheet::{Node, Nodes, Sheet};
 
 /// Whether these bytes are a sheet: else the refusal of its first bad line, or refusal 1 for one that is too long.
+/// [`Sheet::admit`] is the same for a caller who goes on to ask for texts.
 pub fn admit(sheet: &[u8]) -> Result<(), Refusal> {
-    let (number, line) = boundary::admit(sheet);
-    Refusal::of(number, line).map_or(Ok(()), Err)
+    boundary::admit(sheet)
 }
 
-/// Writes the text that a request on a field of the sheet is answered by into `buf` from `fill` on, and gives the new
-/// fill count, which is just past the text. Every other byte of `buf` stays as it was, and after a refusal all stay.
-///
-/// The node goes by its id. The field goes by its place, from 0, among the slots and groups of its node.
-///
-/// ```
-/// use kitlubas::{answer, padded, Request, Side};
-///
-/// let sheet = padded("R ::capnp\nN 7 0 0 1 0 0 0 bed\nF 0 65535 0 0 ward\nT 12 0 0 0\nV 12 0\n");
-/// let haser = |side| Request::Haser { side };
-/// let mut buf = [0; 200];
-/// let first = answer(sheet.as_bytes(), 7, 0, haser(Side::Reader), &mut buf, 0)?;
-/// let second = answer(sheet.as_bytes(), 7, 0, haser(Side::Builder), &mut buf, first)?;
-/// assert!(buf[..first].ends_with(b"{\n    !self.reader.get_pointer_field(0).is_null()\n}\n"));
-/// assert!(buf[first..second].ends_with(b"{\n    !self.builder.is_pointer_field_null(0)\n}\n"));
-/// # Ok::<(), kitlubas::Refusal>(())
-/// ```
+/// Writes the text of one request into `buf`, as [`Sheet::answer`] does, straight from bytes and without memory of its
+/// own: they are admitted again by each call. A fill count above the buffer's length is refused first, then the sheet.
 pub fn answer(
     sheet: &[u8],
-    node: u64,
-    place: u64,
+    node: NodeId,
+    place: Place,
     request: Request,
     buf: &mut [u8],
     fill: usize,
 ) -> Result<usize, Refusal> {
-    let mut after = fill;
-    let (number, line) = boundary::answer(sheet, node, place, request.number(), request.leaf(), &mut after, buf);
-    Refusal::of(number, line).map_or(Ok(after), Err)
+    boundary::answer(sheet, node, place, request, buf, fill)
 }
 
-/// The text that a request is answered by, however long it is: [`answer`] with as much room as it takes, so that
-/// refusals 21 and 22 can't come.
-pub fn text(sheet: &[u8], node: u64, place: u64, request: Request) -> Result<String, Refusal> {
-    let mut buf = vec![0; FIRST_ROOM];
-    loop {
-        match answer(sheet, node, place, request, &mut buf, 0) {
-            Ok(fill) => {
-                // Every byte is ASCII, so that nothing is lost.
-                return Ok(String::from_utf8_lossy(&buf[..fill]).into_owned());
-            }
-            Err(refusal) if refusal.number == Refusal::NO_ROOM => buf.resize(2 * buf.len(), 0),
-            Err(refusal) => return Err(refusal),
-        }
-    }
+/// The text of one request, however long it is: [`Sheet::text`], straight from bytes.
+pub fn text(sheet: &[u8], node: NodeId, place: Place, request: Request) -> Result<String, Refusal> {
+    Sheet::admit(sheet)?.text(node, place, request)
 }

@@ -14,6 +14,7 @@ use std::fmt;
 /// );
 /// ```
 #[derive(Clone, Copy, Debug, PartialEq, Eq, Hash)]
+#[non_exhaustive]
 pub struct Refusal {
     /// The refusal's number: 1 to 15 are from the input, 21 and 22 from the state of the buffer.
     pub number: u64,
@@ -25,13 +26,14 @@ impl Refusal {
     /// The number of the refusal that says that the text is longer than the free part of the buffer.
     pub const NO_ROOM: u64 = 22;
 
+    /// The refusal of a request for a node or a field that the sheet does not have.
+    pub(crate) const NOT_THERE: Refusal = Refusal { number: 15, line: None };
+
     /// What the library tells by a number and a line: no refusal where the number is 0, and no line where that is 0.
-    pub(crate) fn of(number: u64, line: usize) -> Option<Refusal> {
-        let line = if line == 0 { None } else { Some(line) };
-        if number == 0 {
-            None
-        } else {
-            Some(Refusal { number, line })
+    pub(crate) fn told(number: u64, line: usize) -> Result<(), Refusal> {
+        match number {
+            0 => Ok(()),
+            _ => Err(Refusal { number, line: (line != 0).then_some(line) }),
         }
     }
 

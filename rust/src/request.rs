@@ -4,6 +4,7 @@
 /// What is asked of a field. Of a slot everything but a zeroing can be asked, of a group a zeroing only; what can't be
 /// asked is refused by 15.
 #[derive(Clone, Copy, Debug, PartialEq, Eq, Hash)]
+#[non_exhaustive]
 pub enum Request {
     /// The text of the slot's type at a leaf, without a newline at its end.
     TypeText(Leaf),
@@ -45,6 +46,7 @@ pub enum Form {
 
 /// What a type's text names of the type: capnpc's `Leaf`.
 #[derive(Clone, Copy, Debug, PartialEq, Eq, Hash)]
+#[non_exhaustive]
 pub enum Leaf {
     /// `Reader` with a lifetime.
     Reader(Lifetime),

@@ -11,11 +11,10 @@ use Rattle.codegen.specs.Setter.{setterRequest}
 use Rattle.meaning.specs.Meaning.{runSetter, runHaser}
 use Rattle.meaning.proofs.HaserLaws as meaning
 use Rattle.meaning.proofs.SetLaws as setting
-use Rattle.requests.specs.Requests.{accessorText, gives, given}
+use Rattle.requests.specs.Requests.{accessorText, ofField, gives, outcome}
 use Rattle.requests.specs.declared.Accessor.{Accessor}
-use Rattle.requests.specs.declared.Request.the-variants as request
 use Rattle.requests.specs.declared.Accessor.the-variants.{Getter, Setter, Haser}
-use Rattle.agreement.specs.Slots.{Gives, SlotAt, tagAt}
+use Rattle.agreement.specs.Slots.{Generated, SlotAt, tagAt}
 use Rattle.agreement.specs.Claims.{SetGetHolds, VoidSetHolds, HaserHolds, NoHaserHolds, AnsweredSetGetHolds}
 use Rattle.agreement.proofs.AnsweredLaws.{answered-holds}
 use Rattle.agreement.proofs.HaserLaws.{openingOf, whole-opening, haser-given, no-haser}
@@ -25,28 +24,28 @@ use Rattle.agreement.proofs.SetterLaws.{void-given}
 use Rattle.agreement.proofs.SheetLaws.{bounds}
 
 -- a text that is given is no refusal
-pub given-ok : (o : Out Str) (w : Str) → given o ≡ gives w → o ≡ ok w
+pub given-ok : (o : Out Str) (w : Str) → outcome o ≡ gives w → o ≡ ok w
 given-ok (ok v) w e = let z : v ≡ w = cc in ap ok z
 given-ok (refused k) w e = cc
 
 module _ {s : Str} {id place : ℕ} (a : SlotAt s id place) where
   -- the text of an accessor of a slot's field
-  accessor-given : (accessor : Accessor) (w : Str) → Gives s id place accessor w
+  accessor-given : (accessor : Accessor) (w : Str) → Generated s id place accessor w
       → accessorText (a .tree) (a .node, a .field) accessor ≡ ok w
   accessor-given accessor w e =
       given-ok (accessorText (a .tree) (a .node, a .field) accessor) w (rw (a .is-admitted, a .is-found) at e)
 
-  setter-text : (w : Str) → Gives s id place Setter w
+  setter-text : (w : Str) → Generated s id place Setter w
       → setterRequest (a .tree) (a .node .tagOffset) (a .field .name) (a .field .discriminant) (a .slot) ≡ ok w
   unfolding accessorText
   setter-text w e = rw (a .is-slot) at (accessor-given Setter w e)
 
-  pub getter-text : (isReader isFn : Bool) (g : Str) → Gives s id place (Getter isReader isFn) g
+  pub getter-text : (isReader isFn : Bool) (g : Str) → Generated s id place (Getter isReader isFn) g
       → getterRequest (a .tree) (a .field .name) (a .slot) isReader isFn ≡ ok g
   unfolding accessorText
   getter-text isReader isFn g e = rw (a .is-slot) at (accessor-given (Getter isReader isFn) g e)
 
-  haser-text : (isReader : Bool) (h : Str) → Gives s id place (Haser isReader) h
+  haser-text : (isReader : Bool) (h : Str) → Generated s id place (Haser isReader) h
       → haserRequest (a .node .tagOffset) (a .field .name) (a .field .discriminant) (a .slot) isReader ≡ h
   unfolding accessorText
   haser-text isReader h e = ok-is (rw (a .is-slot) at (accessor-given (Haser isReader) h e))
@@ -93,8 +92,8 @@ pub answered-set-get-holds : AnsweredSetGetHolds
 answered-set-get-holds s id place a k isReader isFn l t l′ t′ m u m′ u′ v r set got bits value long tag-long clear =
     set-get-holds s id place a k _ isReader isFn _ v r (record {
       has-bits = bits;
-      setter = answered-holds s id (request.Field place Setter) l t l′ t′ set;
-      getter = answered-holds s id (request.Field place (Getter isReader isFn)) m u m′ u′ got;
+      setter = answered-holds s id (ofField place Setter) l t l′ t′ set;
+      getter = answered-holds s id (ofField place (Getter isReader isFn)) m u m′ u′ got;
       value = value;
       long = long;
       tag-long = tag-long;

@@ -20,7 +20,7 @@ use Rattle.codegen.specs.Getter as codegen
 use Rattle.codegen.specs.Getter.{isOptionField, moduleLeaf, optional, resultType, asFunction, fragmentOf, getterFragment}
 use Rattle.codegen.specs.Getter.{getterCode, defaultDeclaration, declared, getterRequest}
 use Rattle.codegen.specs.Default.{value, getterMask}
-use Rattle.record.specs.Lines.{getLine, getterText}
+use Rattle.record.specs.Lines.{getLine, getterLines}
 use Rattle.record.specs.Masks.{getMask, getMaskText}
 use Rattle.record.specs.Record.{mapO}
 use Rattle.record.specs.Types as types
@@ -163,14 +163,14 @@ pub record GivenGetter (s : Slot) (k : Kind) (explicit isReader : Bool) (g : Str
   pub typ : Str
   pub one-line : Whole typ
   pub same-kind : kind (s .ty) ≡ s .default .kind
-  pub text : g ≡ getterText typ (getLine isReader k (s .offset) (mapO (getMaskText k) (getMask k (s .default .bits) explicit)))
+  pub text : g ≡ getterLines typ (getLine isReader k (s .offset) (mapO (getMaskText k) (getMask k (s .default .bits) explicit)))
 
 -- the code is one line and there is no declaration
 line-text : (root name : Str) (s : Slot) (isReader : Bool) (typ : Str) (option : Bool) (fragment : Str) → option ≡ false
     → hasWords (s .explicit) (kind (s .ty)) ≡ false
     → typ ++ unit 10 ++ stringify (getterCode s isReader option fragment) ++ declared (defaultDeclaration root name s)
-    ≡ getterText typ fragment
-unfolding getterText
+    ≡ getterLines typ fragment
+unfolding getterLines
 line-text root name s isReader typ option fragment o w = rw (o, w) (append-nil (typ ++ unit 10 ++ stringify (Line fragment)))
 
 module _ (sheet : Sheet) (clean : Clean sheet) (name : Str) (isReader isFn : Bool) (k : Kind) where
@@ -217,7 +217,7 @@ module _ (sheet : Sheet) (clean : Clean sheet) (name : Str) (isReader isFn : Boo
             sym (st .text)
             ∙ line-text (sheet .root) name s isReader (asFunction isFn (st .result)) (st .option) (st .fragment) absent
             (no-words (s .explicit) (kind (s .ty)) k h)
-            ∙ ap (λ (l : Str). getterText (asFunction isFn (st .result)) l)
+            ∙ ap (λ (l : Str). getterLines (asFunction isFn (st .result)) l)
             (sym fragment ∙ t .line ∙ ap (λ (m : Option Str). getLine isReader k (s .offset) m)
             (getter-mask (s .default .bits) explicit (s .default .kind) k (rw same-kind at h)));
       }

@@ -14,11 +14,11 @@ use Rattle.codegen.specs.Setter.{setterRequest}
 use Rattle.record.specs.Masks.{getMask, setMask}
 use Rattle.record.specs.Record.{Record, Holds}
 use Rattle.record.specs.Types.{int, uint, float32, float64, Kind, bool, num, enum, slotBits, kindOf}
-use Rattle.meaning.specs.Claims.{Fits, TagFits, TagHolds, TagClear}
+use Rattle.meaning.specs.Claims.{MaskFits, TagFits, TagHolds, TagClear}
 use Rattle.meaning.specs.Meaning.{runSetter, runGetter}
 use Rattle.meaning.proofs.MaskLaws.{expected-holds}
 use Rattle.meaning.proofs.SetLaws.{set-get-holds}
-use Rattle.agreement.specs.Slots.{SlotAt, tagOf, isExplicit, kindAt, tagAt, placeAt}
+use Rattle.agreement.specs.Slots.{SlotAt, tagOf, isExplicit, slotKind, tagAt, placeAt}
 use Rattle.agreement.specs.Claims.{SetGet}
 use Rattle.agreement.proofs.GetterLaws.{getter-given}
 use Rattle.agreement.proofs.KindLaws.{most-bits}
@@ -30,14 +30,14 @@ pub default-fits : (d n : ℕ) (k : Kind) → kindOf n ≡ some k → d ≤ most
 default-fits d n k h b = omega (arith, most-bits n k h)
 
 -- so both masks have it
-fits-unless : (k : Kind) (d : ℕ) (t : Bool) → d < 2 ^ slotBits k → Fits k (cond t none (some d))
+fits-unless : (k : Kind) (d : ℕ) (t : Bool) → d < 2 ^ slotBits k → MaskFits k (cond t none (some d))
 fits-unless k d true h = tt
 fits-unless k d false h = h
 
-pub get-fits : (k : Kind) (d : ℕ) (explicit : Bool) → d < 2 ^ slotBits k → Fits k (getMask k d explicit)
+pub get-fits : (k : Kind) (d : ℕ) (explicit : Bool) → d < 2 ^ slotBits k → MaskFits k (getMask k d explicit)
 get-fits k d explicit h = fits-unless k d (eqb d 0) h
 
-set-fits : (k : Kind) (d : ℕ) (explicit : Bool) → d < 2 ^ slotBits k → Fits k (setMask k d explicit)
+set-fits : (k : Kind) (d : ℕ) (explicit : Bool) → d < 2 ^ slotBits k → MaskFits k (setMask k d explicit)
 set-fits bool d explicit h = fits-unless bool d (eqb d 0) h
 set-fits (num (int w)) d explicit h = fits-unless (num (int w)) d (eqb d 0) h
 set-fits (num (uint w)) d explicit h = fits-unless (num (uint w)) d (eqb d 0) h
@@ -55,7 +55,7 @@ tag-fits to d h = go (eqb d 65535)
     go false = h
 
 module _ {s : Str} {id place : ℕ} (a : SlotAt s id place) (k : Kind) (w g : Str) (isReader isFn : Bool) (v : ℕ) (r : Record) where
-  pub set-get : kindOf (kindAt a) ≡ some k
+  pub set-get : kindOf (slotKind a) ≡ some k
       → setterRequest (a .tree) (a .node .tagOffset) (a .field .name) (a .field .discriminant) (a .slot) ≡ ok w
       → getterRequest (a .tree) (a .field .name) (a .slot) isReader isFn ≡ ok g
       → v < 2 ^ slotBits k → Holds (placeAt a k) r → TagHolds (tagAt a) r → TagClear (tagAt a) (placeAt a k)

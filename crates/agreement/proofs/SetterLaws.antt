@@ -19,7 +19,7 @@ use Rattle.codegen_types.specs.Out.{Out, ok, _then_}
 use Rattle.codegen_types.specs.TypeString.{typeString, getQualifiedModule}
 use Rattle.codegen.specs.Function.{function}
 use Rattle.codegen.specs.Default.{value, unless, floatZero, primDefault}
-use Rattle.codegen.specs.Setter.{Parts, setterOnly, only, partsOf, enumMask, enumSetter, setterOf, generateSetter}
+use Rattle.codegen.specs.Setter.{Parts, setterOnly, oneLine, setterParts, enumMask, enumSetter, setterFunctions, generateSetter}
 use Rattle.codegen.specs.Setter.{setterRequest}
 use Rattle.calls.specs.Calls.{setTag}
 use Rattle.record.specs.Lines.{Tag, setLine, tagThen, functionText, setterText, voidSetterText}
@@ -41,18 +41,18 @@ use Rattle.agreement.proofs.WholeLaws.{Whole, _⊹_, fixed, whole-camel
 record Sets (k : Kind) (o d : ℕ) (explicit : Bool) (p : Parts) : Type 0 where
   typ : Str
   one-line : Whole typ
-  parts : setterOnly (ascii "value") (only (setLine k o (mapO (setMaskText k) (setMask k d explicit)))) typ ≡ p
+  parts : setterOnly (ascii "value") (oneLine (setLine k o (mapO (setMaskText k) (setMask k d explicit)))) typ ≡ p
 
 module _ (sheet : Sheet) (o e q b : ℕ) (ws : List ℕ) (explicit : Bool) where
   -- a Bool or a number whose default is of its type
   abbrev plainSlot : ℕ → Slot
   plainSlot n = record { offset = o; explicit = e; option = q; ty = plain n; default = value n b; words = ws }
 
-  prim-sets : (n : ℕ) (k : Kind) → kindOf n ≡ some k → (p : Parts) → partsOf sheet (plainSlot n) (plain n) ≡ ok p
+  prim-sets : (n : ℕ) (k : Kind) → kindOf n ≡ some k → (p : Parts) → setterParts sheet (plainSlot n) (plain n) ≡ ok p
       → Sets k o b explicit p
   unfolding primDefault typeString setMaskText
   prim-sets =
-      by-kind (λ n k. (p : Parts) → partsOf sheet (plainSlot n) (plain n) ≡ ok p → Sets k o b explicit p)
+      by-kind (λ n k. (p : Parts) → setterParts sheet (plainSlot n) (plain n) ≡ ok p → Sets k o b explicit p)
       (at bool "bool" refl (masked (setMaskText bool) b (ascii "true") (eqb b 0) (true-text b)))
       (at (num (int One)) "i8" refl (number (num (int One)))) (at (num (int Two)) "i16" refl (number (num (int Two))))
       (at (num (int Four)) "i32" refl (number (num (int Four)))) (at (num (int Eight)) "i64" refl (number (num (int Eight))))
@@ -62,12 +62,12 @@ module _ (sheet : Sheet) (o e q b : ℕ) (ws : List ℕ) (explicit : Bool) where
       (λ p e. refused-ok e)
     where
       at : (k : Kind) (t : String) → whole (ascii t) ≡ true → {m : Option Str} → m ≡ mapO (setMaskText k) (setMask k b explicit)
-          → (p : Parts) → ok (setterOnly (ascii "value") (only (setLine k o m)) (ascii t)) ≡ ok p → Sets k o b explicit p
+          → (p : Parts) → ok (setterOnly (ascii "value") (oneLine (setLine k o m)) (ascii t)) ≡ ok p → Sets k o b explicit p
       at k t w e p f =
           record {
             typ = ascii t;
             one-line = fixed t w;
-            parts = ap (λ (m : Option Str). setterOnly (ascii "value") (only (setLine k o m)) (ascii t)) (sym e) ∙ ok-is f;
+            parts = ap (λ (m : Option Str). setterOnly (ascii "value") (oneLine (setLine k o m)) (ascii t)) (sym e) ∙ ok-is f;
           }
 
       number : (k : Kind) → unless (eqb b 0) (setMaskText k b) ≡ mapO (setMaskText k) (cond (eqb b 0) none (some b))
@@ -100,7 +100,7 @@ module _ (sheet : Sheet) (clean : Clean sheet) (o e q n b : ℕ) (ws : List ℕ)
   enum-sets t theMod w d f =
       record { typ = theMod; one-line = w; parts = ok-is (rw (enum-mask (slotOf t) flag d) at f) }
 
-  sets : (t : Ty) → kindOf (kind t) ≡ some k → kind t ≡ n → partsOf sheet (slotOf t) t ≡ ok p → Sets k o b (eqb e 1) p
+  sets : (t : Ty) → kindOf (kind t) ≡ some k → kind t ≡ n → setterParts sheet (slotOf t) t ≡ ok p → Sets k o b (eqb e 1) p
   unfolding kindOf
   sets (plain m) h d f = prim-sets sheet o e q b ws (eqb e 1) m k h p (rw (← d) at f)
   sets (enum id ss) h d f =
@@ -117,7 +117,7 @@ module _ (sheet : Sheet) (clean : Clean sheet) (o e q n b : ℕ) (ws : List ℕ)
   sets (parameter id j) h d f = no-kind k h
 
 -- a type of kind 0 is Void
-void-parts : (sheet : Sheet) (s : Slot) (t : Ty) (p : Parts) → kind t ≡ 0 → partsOf sheet s t ≡ ok p
+void-parts : (sheet : Sheet) (s : Slot) (t : Ty) (p : Parts) → kind t ≡ 0 → setterParts sheet s t ≡ ok p
     → setterOnly (ascii "_value") noMore (ascii "()") ≡ p
 void-parts sheet s (plain n) p h e = ok-is (rw h at e)
 void-parts sheet s (list t) p h e = let z : ⊥ = omega arith in absurd z
@@ -153,7 +153,7 @@ whole-opening n p t =
 
 -- its lines
 function-lines : (root : Str) (to d : ℕ) (name param typ : Str) (interior : FormattedTexts)
-    → stringify (setterOf root to name d (setterOnly param interior typ))
+    → stringify (setterFunctions root to name d (setterOnly param interior typ))
     ≡ functionText (openingOf name param typ) (tagThen (tagOf to d) interior)
 unfolding functionText
 function-lines root to d name param typ interior = go (eqb d 65535)
@@ -167,12 +167,13 @@ function-lines root to d name param typ interior = go (eqb d 65535)
 module _ (sheet : Sheet) (to : ℕ) (name : Str) (d : ℕ) (s : Slot) (w : Str) where
   -- where there is a text, the match over the slot's type gave its parts
   parts-given : setterRequest sheet to name d s ≡ ok w
-      → (p : Parts) × (partsOf sheet s (s .ty) ≡ ok p) × (stringify (setterOf (sheet .root) to (camelToSnakeCase name) d p) ≡ w)
+      → (p : Parts) × (setterParts sheet s (s .ty) ≡ ok p) × (stringify (setterFunctions (sheet .root) to
+      (camelToSnakeCase name) d p) ≡ w)
   unfolding setterRequest generateSetter
   parts-given e =
-      let lines : Parts → Out FormattedText = λ p. ok (setterOf (sheet .root) to (camelToSnakeCase name) d p) in
-      let all = then-ok (partsOf sheet s (s .ty) then lines) (λ ft. ok (stringify ft)) w e in
-      let p = then-ok (partsOf sheet s (s .ty)) lines (all .value) (all .first) in
+      let lines : Parts → Out FormattedText = λ p. ok (setterFunctions (sheet .root) to (camelToSnakeCase name) d p) in
+      let all = then-ok (setterParts sheet s (s .ty) then lines) (λ ft. ok (stringify ft)) w e in
+      let p = then-ok (setterParts sheet s (s .ty)) lines (all .value) (all .first) in
       (p .value, p .first, ap (λ (ft : FormattedText). stringify ft) (ok-is (p .rest)) ∙ ok-is (all .rest))
 
   -- the text of a setter that is given
@@ -190,8 +191,8 @@ module _ (sheet : Sheet) (to : ℕ) (name : Str) (d : ℕ) (s : Slot) (w : Str) 
         one-line = whole-opening (whole-camel name named) (fixed "value" refl) (x .one-line);
         text =
             sym text
-            ∙ ap (λ (p : Parts). stringify (setterOf (sheet .root) to snake d p)) (sym (x .parts))
-            ∙ function-lines (sheet .root) to d snake (ascii "value") (x .typ) (only line);
+            ∙ ap (λ (p : Parts). stringify (setterFunctions (sheet .root) to snake d p)) (sym (x .parts))
+            ∙ function-lines (sheet .root) to d snake (ascii "value") (x .typ) (oneLine line);
       }
 
   -- and of a Void slot's
@@ -204,6 +205,6 @@ module _ (sheet : Sheet) (to : ℕ) (name : Str) (d : ℕ) (s : Slot) (w : Str) 
         one-line = whole-opening (whole-camel name named) (fixed "_value" refl) (fixed "()" refl);
         text =
             sym text
-            ∙ ap (λ (p : Parts). stringify (setterOf (sheet .root) to snake d p)) (sym (void-parts sheet s (s .ty) p h is))
+            ∙ ap (λ (p : Parts). stringify (setterFunctions (sheet .root) to snake d p)) (sym (void-parts sheet s (s .ty) p h is))
             ∙ function-lines (sheet .root) to d snake (ascii "_value") (ascii "()") noMore;
       }

@@ -21,7 +21,7 @@ use Rattle.nodes.specs.Index.{byId, nth}
 use Rattle.codegen_types.specs.Out.{ok, _then_}
 use Rattle.codegen_types.specs.TypeString.{nodeOf, getQualifiedModule}
 use Rattle.agreement.proofs.WholeLaws.{Whole, whole-graphic, whole-name}
-use Rattle.requests.specs.Requests.{there, fieldOf}
+use Rattle.requests.specs.Requests.{there, fieldAt}
 use Rattle.agreement.specs.Slots.{SlotAt}
 use Rattle.agreement.proofs.OutLaws.{ok-is, refused-ok, then-ok}
 
@@ -68,9 +68,9 @@ there-ok : {A : Type 0} (o : Option A) (a : A) → there o ≡ ok a → o ≡ so
 there-ok none a e = refused-ok e
 there-ok (some b) a e = ap some (ok-is e)
 
-found-fits : (nodes : List Node) (id place : ℕ) (n : Node) (f : Field) → fieldOf nodes id place ≡ ok (n, f)
+found-fits : (nodes : List Node) (id place : ℕ) (n : Node) (f : Field) → fieldAt nodes id place ≡ ok (n, f)
     → every nodeFits nodes ≡ true → fieldFits f ≡ true
-unfolding fieldOf
+unfolding fieldAt
 found-fits nodes id place n f e h =
     let a = then-ok (there (byId id nodes)) (λ n. there (nth place (n .fields)) then λ f. ok (n, f)) (n, f) e in
     let m = a .value in

@@ -9,17 +9,16 @@ use Rattle.text.specs.Bytes.{Str, unit}
 use Rattle.text.specs.declared.Text.{Text}
 use Rattle.tree.specs.Read.{admitted}
 use Rattle.codegen_types.specs.TypeString.{isPointer}
-use Rattle.record.specs.Record.{Record, Has, Holds, Same}
+use Rattle.record.specs.Record.{Record, Covers, Holds, Same}
 use Rattle.record.specs.Types.{Kind, slotBits, kindOf}
 use Rattle.meaning.specs.Claims.{TagHolds, TagHas, TagClear, TagIs, hasAnswer}
 use Rattle.meaning.specs.Meaning.{runSetter, runGetter, runHaser}
-use Rattle.requests.specs.Requests.{gives, outcomeOf}
+use Rattle.requests.specs.Requests.{ofField, gives, outcomeOf}
 use Rattle.requests.specs.Told.{Answered}
 use Rattle.requests.specs.declared.Request.{Request}
-use Rattle.requests.specs.declared.Request.the-variants as request
 use Rattle.requests.specs.declared.Accessor.the-variants.{Getter, Setter, Haser}
 use Rattle.requests.specs.declared.Answer.the-variants.{Done}
-use Rattle.agreement.specs.Slots.{Gives, between, SlotAt, kindAt, tagAt, placeAt, expectedAt}
+use Rattle.agreement.specs.Slots.{Generated, bytesBetween, SlotAt, slotKind, tagAt, placeAt, expectedAt}
 
 -- ---- set and get
 
@@ -28,9 +27,9 @@ use Rattle.agreement.specs.Slots.{Gives, between, SlotAt, kindAt, tagAt,
 -- in the record.
 pub record Case {s : Str} {id place : ℕ} (a : SlotAt s id place) (k : Kind) (w : Str) (isReader isFn : Bool) (g : Str) (v : ℕ)
     (r : Record) : Type 0 where
-  pub has-bits : kindOf (kindAt a) ≡ some k
-  pub setter : Gives s id place Setter w
-  pub getter : Gives s id place (Getter isReader isFn) g
+  pub has-bits : kindOf (slotKind a) ≡ some k
+  pub setter : Generated s id place Setter w
+  pub getter : Generated s id place (Getter isReader isFn) g
   pub value : v < 2 ^ slotBits k
   pub long : Holds (placeAt a k) r
   pub tag-long : TagHolds (tagAt a) r
@@ -42,7 +41,7 @@ pub record SetGet {s : Str} {id place : ℕ} (a : SlotAt s id place) (k : Kind) 
   pub left : Record
   pub runs : runSetter w v r ≡ some left
   pub answers : runGetter g left ≡ some (expectedAt a k v)
-  pub same : Same (λ b. Has (placeAt a k) b ⊎ TagHas (tagAt a) b) r left
+  pub same : Same (λ b. Covers (placeAt a k) b ⊎ TagHas (tagAt a) b) r left
   pub tagged : TagIs (tagAt a) left
 
 -- for the bytes of every sheet, every slot in it, every value and every record
@@ -64,7 +63,7 @@ pub record VoidSet {s : Str} {id place : ℕ} (a : SlotAt s id place) (w : Str) 
 abbrev pub VoidSetHolds : Type 0
 VoidSetHolds =
     (s : Str) (id place : ℕ) (a : SlotAt s id place) (w : Str) (v : ℕ) (r : Record)
-    → kindAt a ≡ 0 → Gives s id place Setter w → TagHolds (tagAt a) r
+    → slotKind a ≡ 0 → Generated s id place Setter w → TagHolds (tagAt a) r
     → VoidSet a w v r
 
 -- ---- hasers
@@ -73,14 +72,14 @@ VoidSetHolds =
 abbrev pub HaserHolds : Type 0
 HaserHolds =
     (s : Str) (id place : ℕ) (a : SlotAt s id place) (isReader : Bool) (h : Str) (r : Record)
-    → isPointer (a .slot .ty) ≡ true → Gives s id place (Haser isReader) h
+    → isPointer (a .slot .ty) ≡ true → Generated s id place (Haser isReader) h
     → runHaser h r ≡ hasAnswer (tagAt a) (record { 0 = a .slot .offset }) r
 
 -- of any other slot: one newline
 abbrev pub NoHaserHolds : Type 0
 NoHaserHolds =
     (s : Str) (id place : ℕ) (a : SlotAt s id place) (isReader : Bool) (h : Str)
-    → isPointer (a .slot .ty) ≡ false → Gives s id place (Haser isReader) h
+    → isPointer (a .slot .ty) ≡ false → Generated s id place (Haser isReader) h
     → h ≡ unit 10
 
 -- ---- answered bytes
@@ -90,15 +89,15 @@ abbrev pub AnsweredHolds : Type 0
 AnsweredHolds =
     (s : Str) (id : ℕ) (asked : Request) (l : Str) (t : Text) (l′ : Str) (t′ : Text)
     → Answered l t (outcomeOf (admitted s) id asked) l′ (Done t′)
-    → outcomeOf (admitted s) id asked ≡ gives (between (t .at) (t′ .at) l′)
+    → outcomeOf (admitted s) id asked ≡ gives (bytesBetween (t .at) (t′ .at) l′)
 
 -- set and get of the bytes that two runs of the entry left, whatever buffers they were given; the other claims follow likewise
 abbrev pub AnsweredSetGetHolds : Type 0
 AnsweredSetGetHolds =
     (s : Str) (id place : ℕ) (a : SlotAt s id place) (k : Kind) (isReader isFn : Bool)
     (l : Str) (t : Text) (l′ : Str) (t′ : Text) (m : Str) (u : Text) (m′ : Str) (u′ : Text) (v : ℕ) (r : Record)
-    → Answered l t (outcomeOf (admitted s) id (request.Field place Setter)) l′ (Done t′)
-    → Answered m u (outcomeOf (admitted s) id (request.Field place (Getter isReader isFn))) m′ (Done u′)
-    → kindOf (kindAt a) ≡ some k → v < 2 ^ slotBits k
+    → Answered l t (outcomeOf (admitted s) id (ofField place Setter)) l′ (Done t′)
+    → Answered m u (outcomeOf (admitted s) id (ofField place (Getter isReader isFn))) m′ (Done u′)
+    → kindOf (slotKind a) ≡ some k → v < 2 ^ slotBits k
     → Holds (placeAt a k) r → TagHolds (tagAt a) r → TagClear (tagAt a) (placeAt a k)
-    → SetGet a k (between (t .at) (t′ .at) l′) (between (u .at) (u′ .at) m′) v r
+    → SetGet a k (bytesBetween (t .at) (t′ .at) l′) (bytesBetween (u .at) (u′ .at) m′) v r

@@ -16,8 +16,8 @@ slotWith t offset explicit bits = record {
   words = [];
 }
 
-abbrev pub field : String → ℕ → Arm → Field
-field name discriminant arm = record { name = ascii name; discriminant = discriminant; arm = arm }
+abbrev pub namedField : String → ℕ → Arm → Field
+namedField name discriminant arm = record { name = ascii name; discriminant = discriminant; arm = arm }
 
 -- a struct by its id, its module, its tag's count and offset, and its fields
 abbrev pub node : ℕ → String → ℕ → ℕ → List Field → Node

@@ -14,17 +14,16 @@ use Rattle.record.specs.Lines.{Tag}
 use Rattle.record.specs.Offsets.{Place}
 use Rattle.record.specs.Types.{Kind, placeOf}
 use Rattle.meaning.specs.Claims.{expected}
-use Rattle.requests.specs.Requests.{fieldOf, gives, outcomeOf}
+use Rattle.requests.specs.Requests.{fieldAt, ofField, gives, outcomeOf}
 use Rattle.requests.specs.declared.Accessor.{Accessor}
-use Rattle.requests.specs.declared.Request.the-variants as request
 
 -- generated: the request for an accessor gets a text, given room
-abbrev pub Gives : Str → ℕ → ℕ → Accessor → Str → Type 0
-Gives s id place accessor w = outcomeOf (admitted s) id (request.Field place accessor) ≡ gives w
+abbrev pub Generated : Str → ℕ → ℕ → Accessor → Str → Type 0
+Generated s id place accessor w = outcomeOf (admitted s) id (ofField place accessor) ≡ gives w
 
 -- the bytes of a buffer from one fill count up to another
-abbrev pub between : ℕ → ℕ → Str → Str
-between from upto l = take (upto - from) (drop from l)
+abbrev pub bytesBetween : ℕ → ℕ → Str → Str
+bytesBetween from upto l = take (upto - from) (drop from l)
 
 -- a tag: none where the discriminant is 65535, else the 16 bits at the node's tag offset
 abbrev pub tagOf : ℕ → ℕ → Option Tag
@@ -41,13 +40,13 @@ pub record SlotAt (s : Str) (id place : ℕ) : Type 0 where
   pub field : Field
   pub slot : Slot
   pub is-admitted : admitted s ≡ sheet tree
-  pub is-found : fieldOf (tree .nodes) id place ≡ ok (node, field)
+  pub is-found : fieldAt (tree .nodes) id place ≡ ok (node, field)
   pub is-slot : field .arm ≡ arm.slot slot
 
 module _ {s : Str} {id place : ℕ} (a : SlotAt s id place) where
   -- the number of its kind
-  abbrev pub kindAt : ℕ
-  kindAt = arm.kind (a .slot .ty)
+  abbrev pub slotKind : ℕ
+  slotKind = arm.kind (a .slot .ty)
 
   -- its tag, if it has one
   abbrev pub tagAt : Option Tag

@@ -25,8 +25,8 @@ use Rattle.tree.specs.Tree.{Ty, plain, enum, struct, end, slot, group, Field, S
 use Rattle.tree.specs.Reader.{times}
 use Rattle.tree.specs.Read as read
 use Rattle.tree.specs.Read.{admitted}
-use Rattle.tree.specs.Read.{bindingOf, scopeOf, typeFrom, typeOf, valueOf, wordsUpTo, wordsOf, slotOf}
-use Rattle.tree.specs.Read.{among, overlap, fieldsUpTo, fieldsOf, groupIds, paramsOf, membersOf, nodesOf, sheetOf}
+use Rattle.tree.specs.Read.{readBinding, readScope, typeFrom, readType, valueOf, readWordsUpTo, readWords, readSlot}
+use Rattle.tree.specs.Read.{among, overlap, fieldsUpTo, readFields, groupIds, readParams, readMembers, readNodes, readSheet}
 use Rattle.tree.specs.Print.{scopeCount, typeRows, wordRows, fieldRows, paramRows, nodeRows, sheetRows, printed}
 use Rattle.codegen_types.specs.TypeString as types
 use Rattle.codegen_types.specs.TypeString.{typeString, scopesOf, nodeOf, argumentsOf, accumulate, outermostFirst}
@@ -42,17 +42,16 @@ use Rattle.record.specs.Record.{found, stored, getBits, putBits}
 use Rattle.meaning.specs.Examples.{some16}
 use Rattle.meaning.specs.Reading.{bindO, typeName, truth, getMaskOf, setMaskOf, dataArg}
 use Rattle.meaning.specs.Meaning.{writes, gets, getsIn, runOp, runLine, runLines, runSetter, runGetter}
-use Rattle.requests.specs.Requests.{leafOf, fieldOf, typeText, accessorText, Outcome, gives, refuses, outcomeOf}
+use Rattle.requests.specs.Requests.{leafOf, fieldAt, typeText, accessorText, ofField, Outcome, gives, refuses, outcomeOf}
 use Rattle.requests.specs.declared.Accessor.{Accessor}
-use Rattle.requests.specs.declared.Request.the-variants as request
-use Rattle.requests.specs.declared.Accessor.the-variants.{Getter, Setter, Haser, Zeroing}
-use Rattle.agreement.specs.Sheets.{slotWith, field, node}
+use Rattle.requests.specs.declared.Accessor.the-variants.{TypeText, Getter, Setter, Haser, Zeroing}
+use Rattle.agreement.specs.Sheets.{slotWith, namedField, node}
 
 -- ---- the sheet
 
 -- a slot that is no member of a union
 abbrev only : String → Ty → ℕ → ℕ → ℕ → Field
-only name t offset explicit bits = field name 65535 (slot (slotWith t offset explicit bits))
+only name t offset explicit bits = namedField name 65535 (slot (slotWith t offset explicit bits))
 
 -- the fields of a group: a Uint16 and an Enum at 4
 abbrev pair : List Field
@@ -73,15 +72,15 @@ tree = record {
       ∷ only "planned" (enum 2 end) 1 1 0
       ∷ only "nothing" (plain 0) 0 0 0
       ∷ only "ward" (struct 3 end) 2 0 0
-      ∷ field "plain" 65535 (group 4)
-      ∷ field "tagged" 65535 (group 5)
-      ∷ field "outer" 65535 (group 6)
+      ∷ namedField "plain" 65535 (group 4)
+      ∷ namedField "tagged" 65535 (group 5)
+      ∷ namedField "outer" 65535 (group 6)
       ∷ [])
       ∷ node 2 "status" 0 0 []
       ∷ node 3 "ward" 0 0 []
       ∷ node 4 "bed::plain" 0 0 pair
       ∷ node 5 "bed::tagged" 2 4 pair
-      ∷ node 6 "bed::outer" 0 0 (pair ++ (field "inner" 65535 (group 8) ∷ []))
+      ∷ node 6 "bed::outer" 0 0 (pair ++ (namedField "inner" 65535 (group 8) ∷ []))
       ∷ node 8 "bed::outer::inner" 0 0 pair
       ∷ [];
 }
@@ -99,7 +98,7 @@ text (refuses k line) = ascii "refused " ++ decimal k
 
 -- the text of an accessor of the bed's field at a place
 abbrev asked : ℕ → Accessor → Str
-asked place accessor = text (outcomeOf (admitted bytes) 7 (request.Field place accessor))
+asked place accessor = text (outcomeOf (admitted bytes) 7 (ofField place accessor))
 
 -- a getter of a reader that is no function
 abbrev getter : Accessor
@@ -117,17 +116,17 @@ reads place v = number (bindO (runSetter (asked place Setter) v some16) (runGett
 -- ---- the table
 
 -- a text and what it must be: as it stands, or as lines
-pub record Row : Type 0 where
+pub record Case : Type 0 where
   pub computed : Str
   pub expected : Str
 
-abbrev row : Str → String → Row
+abbrev row : Str → String → Case
 row s e = record { computed = s; expected = ascii e }
 
-abbrev rowOf : Str → List String → Row
+abbrev rowOf : Str → List String → Case
 rowOf s ls = record { computed = s; expected = ended (map ascii ls) }
 
-pub table : List Row
+pub table : List Case
 table =
     -- `camel_to_snake_case`, the name of wardName's default, `module_name`
     row (camelToSnakeCase (ascii "bedId")) "bed_id"
@@ -200,18 +199,18 @@ table =
     ∷ rowOf (asked 11 Zeroing)
     ("self.builder.set_data_field::<u16>(4, 0u16);" ∷ "self.builder.set_data_field::<u16>(4, 0u16);" ∷ [])
     -- GetType of a struct with module bed and no parameters
-    ∷ row (text (outcomeOf (admitted bytes) 7 (request.TypeText 1 9))) "bed::get_type::"
+    ∷ row (text (outcomeOf (admitted bytes) 7 (ofField 1 (TypeText 9)))) "bed::get_type::"
     ∷ []
 
 -- every row's text is what it must be
-pub starred : map (λ (r : Row). r .computed) table ≡ map (λ (r : Row). r .expected) table
-unfolding table same keywords.among isKeyword isAscii taken snakeFrom camelToSnakeCase defaultName moduleName joined printed
-    sheetRows nodeRows paramRows fieldRows wordRows typeRows scopeCount rowText columns padded decimal admitted sheetOf
-    nodesOf read.nodeOf membersOf paramsOf groupIds fieldsOf fieldsUpTo read.fieldOf overlap among slotOf wordsOf
-    wordsUpTo valueOf typeOf typeFrom scopeOf bindingOf times restOf onto rows textAt textOf textStart lineAt lineOf
+pub starred : map (λ (r : Case). r .computed) table ≡ map (λ (r : Case). r .expected) table
+unfolding table same keywords.isOneOf isKeyword isAscii taken snakeFrom camelToSnakeCase defaultName moduleName joined printed
+    sheetRows nodeRows paramRows fieldRows wordRows typeRows scopeCount rowText columns padded decimal admitted readSheet
+    readNodes read.readNode readMembers readParams groupIds readFields fieldsUpTo read.readField overlap among readSlot readWords
+    readWordsUpTo valueOf readType typeFrom readScope readBinding times restOf onto rows textAt textOf textStart lineAt lineOf
     reader rootLine nodeLine parameterLine fieldLine groupLine typeLine scopeLine unboundLine valueLine wordLine mostA
     mostB mostC mostCount mostBits columnOf unpadded digits trimmed isGraphicText isName all isGraphic isWord endsIn
-    leafOf fieldOf byId nth typeText accessorText typeString scopesOf nodeOf types.scopeOf argumentsOf accumulate
+    leafOf fieldAt byId nth typeText accessorText typeString scopesOf nodeOf types.scopeOf argumentsOf accumulate
     outermostFirst angled doBranding toLines flatMap join stringify ended signed getDataField setDataField
     primDefault getterMask getterText getterRequest generateHaser haserRequest generateSetter setterRequest zeroLine
     contains zeroFields zeroFieldsOfGroup zeroingRequest found stored getBits putBits typeName truth getMaskOf setMaskOf

@@ -9,7 +9,7 @@ use Rattle.codegen.specs.Zeroing.{zeroingRequest}
 use Rattle.meaning.specs.Meaning.{runGetter}
 use Rattle.requests.specs.Requests.{accessorText}
 use Rattle.requests.specs.declared.Accessor.the-variants.{Zeroing}
-use Rattle.agreement.specs.Slots.{Gives, tagAt}
+use Rattle.agreement.specs.Slots.{Generated, tagAt}
 use Rattle.agreement.proofs.ClaimLaws.{given-ok, getter-text, haser-holds}
 use Rattle.agreement.proofs.GetterLaws.{getter-given}
 use Rattle.agreement.proofs.SetGetLaws.{default-fits}
@@ -19,7 +19,7 @@ use Rattle.agreement_zeroing.proofs.LeftLaws.{run-of, left, runs, lengt
 use Rattle.agreement_zeroing.proofs.LeftLaws.{has-not}
 
 -- the text that is given is that of `zero_fields_of_group`
-zeroing-text : {s : Str} {id place : ℕ} (a : GroupAt s id place) (w : Str) → Gives s id place Zeroing w
+zeroing-text : {s : Str} {id place : ℕ} (a : GroupAt s id place) (w : Str) → Generated s id place Zeroing w
     → zeroingRequest (a .tree) (a .group) ≡ ok w
 unfolding accessorText
 zeroing-text a w e =

@@ -18,7 +18,7 @@ use Rattle.calls.specs.Calls.{zeroTag}
 use Rattle.codegen.specs.Given.{Given}
 use Rattle.codegen.specs.Zeroing.{Zeroing, zeroLine, contains, push, noPush, zeroSlot, zeroField, zeroFields, zeroNode}
 use Rattle.codegen.specs.Zeroing.{zeroFieldsOfGroup}
-use Rattle.record.specs.Lines.{Zero, ofTag, zeroText, zeroTexts}
+use Rattle.record.specs.Lines.{Zero, ofTag, zeroingLine, zeroTexts}
 use Rattle.meaning.specs.Claims.{In}
 use Rattle.agreement_zeroing.proofs.LineLaws.{zero-of, contains-in}
 
@@ -32,7 +32,7 @@ pub record Covers (Due : Str → Type 0) (seen : List Str) (code : FormattedText
 
 texts-append : (a b : List Zero) → zeroTexts (a ++ b) ≡ zeroTexts a ++ zeroTexts b
 texts-append [] b = refl
-texts-append (z ∷ a) b = ap (λ (ls : List Str). zeroText z ∷ ls) (texts-append a b)
+texts-append (z ∷ a) b = ap (λ (ls : List Str). zeroingLine z ∷ ls) (texts-append a b)
 
 in-first : (l : Str) (a b : List Str) → In l a → In l (a ++ b)
 in-first l [] b i = absurd i
@@ -72,7 +72,7 @@ module _ (Due More : Str → Type 0) (seen : List Str) where
       go l (inr y) = second l (d .due l y)
 
   -- a line
-  covers-line : (z : Zero) (line : Str) (b : FormattedTexts) → zeroText z ≡ line → ((l : Str) → Due l → l ≡ line)
+  covers-line : (z : Zero) (line : Str) (b : FormattedTexts) → zeroingLine z ≡ line → ((l : Str) → Due l → l ≡ line)
       → Covers More (line ∷ seen) b → Covers (Both Due More) seen (Line line & b)
   unfolding toLines flatMap
   covers-line z line b e only d = record {

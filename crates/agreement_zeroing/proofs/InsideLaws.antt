@@ -16,7 +16,7 @@ use Rattle.codegen_types.specs.TypeString.{nodeOf}
 use Rattle.codegen.specs.Zeroing.{zeroLine}
 use Rattle.nodes.specs.Index.{byId, nth}
 use Rattle.meaning.specs.Claims.{In}
-use Rattle.requests.specs.Requests.{there, fieldOf}
+use Rattle.requests.specs.Requests.{there, fieldAt}
 use Rattle.agreement.specs.Slots.{SlotAt}
 use Rattle.agreement_zeroing.specs.Zeroing.{Inside, here, deeper}
 use Rattle.agreement_zeroing.proofs.GroupLaws.{Due, of-slot, of-group}
@@ -39,9 +39,9 @@ nth-in [] place f e = let z : _≡_ {A = ℕ} 0 1 = cc in omega arith
 nth-in (g ∷ fs) zero f e = inl cc
 nth-in (g ∷ fs) (suc place) f e = inr (nth-in fs place f e)
 
-found-in : (nodes : List Node) (id place : ℕ) (n : Node) (f : Field) → fieldOf nodes id place ≡ ok (n, f)
+found-in : (nodes : List Node) (id place : ℕ) (n : Node) (f : Field) → fieldAt nodes id place ≡ ok (n, f)
     → (nodeOf nodes id ≡ ok n) × In f (n .fields)
-unfolding fieldOf
+unfolding fieldAt
 found-in nodes id place n f e = by-node (byId id nodes) refl e
   where
     by-field : (m : Node) → byId id nodes ≡ some m → (o : Option Field) → nth place (m .fields) ≡ o
@@ -63,7 +63,7 @@ found-in nodes id place n f e = by-node (byId id nodes) refl e
 -- ---- what is due of the group
 
 module _ (s : Str) (tree : Sheet) (is : admitted s ≡ sheet tree) where
-  found : (t : Sheet) (id place : ℕ) (n : Node) (f : Field) → admitted s ≡ sheet t → fieldOf (t .nodes) id place ≡ ok (n, f)
+  found : (t : Sheet) (id place : ℕ) (n : Node) (f : Field) → admitted s ≡ sheet t → fieldAt (t .nodes) id place ≡ ok (n, f)
       → (nodeOf (tree .nodes) id ≡ ok n) × In f (n .fields)
   found t id place n f e h = let z : t ≡ tree = cc in found-in (tree .nodes) id place n f (rw z at h)
 

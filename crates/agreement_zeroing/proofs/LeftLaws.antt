@@ -20,7 +20,7 @@ use Rattle.calls.specs.Calls.{clearPointer}
 use Rattle.codegen.specs.Given.{Given}
 use Rattle.codegen.specs.Zeroing as codegen
 use Rattle.codegen.specs.Zeroing.{Zeroing, zeroFieldsOfGroup, zeroingRequest}
-use Rattle.record.specs.Lines.{Tag, getLine, getterText, zeroLine, zeroTexts}
+use Rattle.record.specs.Lines.{Tag, getLine, getterLines, zeroCall, zeroTexts}
 use Rattle.record.specs.Masks.{getMask, getMaskText, maskBits}
 use Rattle.record.specs.Record.{Record, mapO, null}
 use Rattle.record.specs.Types.{Kind, slotBits, kindOf}
@@ -64,7 +64,7 @@ default-bits k d explicit = go (eqb d 0) refl
     go false e = refl
 
 module _ {s : Str} {g : ℕ} {w : Str} {r : Record} (c : Run s g w r) where
-  zeroed : meaning.Zeroed (c .covers .zeros) (Branch (c .code)) r
+  zeroed : meaning.TextZeroed (c .covers .zeros) (Branch (c .code)) r
   unfolding toLines
   zeroed =
       zeroing-holds (c .covers .zeros) (Branch (c .code)) r (c .covers .lines)
@@ -104,14 +104,14 @@ module _ {s : Str} {g : ℕ} {w : Str} {r : Record} (c : Run s g w r) where
     pub default-read : (k : Kind) → kindOf (kind (a .slot .ty)) ≡ some k → a .slot .default .bits < 2 ^ slotBits k
         → (explicit : Bool) (typ : Str) → whole typ ≡ true → (isReader : Bool)
         → runGetter
-        (getterText typ
+        (getterLines typ
         (getLine isReader k (a .slot .offset) (mapO (getMaskText k) (getMask k (a .slot .default .bits) explicit))))
         left
         ≡ some (a .slot .default .bits)
     unfolding left
     default-read k e fits explicit typ one isReader =
         let d : ℕ = a .slot .default .bits in
-        zeroed .defaults k (a .slot .offset) (among (zeroLine k (a .slot .offset)) (slot-line (a .slot) k e))
+        zeroed .defaults k (a .slot .offset) (among (zeroCall k (a .slot .offset)) (slot-line (a .slot) k e))
         (getMask k d explicit) (get-fits k d explicit fits) typ one isReader
         ∙ ap some (default-bits k d explicit)
 

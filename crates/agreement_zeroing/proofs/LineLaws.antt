@@ -18,7 +18,7 @@ use Rattle.calls.specs.Calls.{zeroBool, zeroData, clearPointer}
 use Rattle.codegen_types.specs.Primitive.{primitiveText}
 use Rattle.codegen.specs.Zeroing as codegen
 use Rattle.codegen.specs.Zeroing.{contains}
-use Rattle.record.specs.Lines.{Zero, ofSlot, ofPointer, zeroLine, zeroText}
+use Rattle.record.specs.Lines.{Zero, ofSlot, ofPointer, zeroCall, zeroingLine}
 use Rattle.record.specs.Record.{mapO}
 use Rattle.record.specs.Types.{Kind, kindOf}
 use Rattle.meaning.specs.Claims.{In}
@@ -63,20 +63,20 @@ line-clear : (n o : ℕ) → 12 ≤ n → (n ≡ 15 → ⊥) → lineAt n o ≡ 
 line-clear n o h ne =
     rw (ne-eqb n 0 (λ e. omega arith), ne-eqb n 1 (λ e. omega arith), lt-leb n 11 (omega arith), ne-eqb n 15 ne)
 
-line-high : (n o : ℕ) → 16 ≤ n → lineAt n o ≡ mapO zeroText (zeroAt n o (kindOf n))
+line-high : (n o : ℕ) → 16 ≤ n → lineAt n o ≡ mapO zeroingLine (zeroAt n o (kindOf n))
 line-high n o h = line-clear n o (omega arith) (λ e. omega arith) ∙ sym (rw (no-kind n h, ne-eqb n 0 (λ e. omega arith)))
 
-line-zero : (n o : ℕ) → lineAt n o ≡ mapO zeroText (zeroAt n o (kindOf n))
+line-zero : (n o : ℕ) → lineAt n o ≡ mapO zeroingLine (zeroAt n o (kindOf n))
 unfolding kindOf
-line-zero n o = each (λ n. lineAt n o ≡ mapO zeroText (zeroAt n o (kindOf n))) all n (omega arith)
+line-zero n o = each (λ n. lineAt n o ≡ mapO zeroingLine (zeroAt n o (kindOf n))) all n (omega arith)
   where
-    all : Each (λ n. lineAt n o ≡ mapO zeroText (zeroAt n o (kindOf n))) 0
+    all : Each (λ n. lineAt n o ≡ mapO zeroingLine (zeroAt n o (kindOf n))) 0
     all =
         refl ⊹ refl ⊹ refl ⊹ refl ⊹ refl ⊹ refl ⊹ refl ⊹ refl ⊹ refl ⊹ refl ⊹ refl ⊹ refl ⊹ refl ⊹ refl ⊹ refl ⊹ refl
         ⊹ rest (λ n h. line-high n o h)
 
 -- a slot with bits
-pub slot-line : (s : Slot) (k : Kind) → kindOf (kind (s .ty)) ≡ some k → codegen.zeroLine s ≡ some (zeroLine k (s .offset))
+pub slot-line : (s : Slot) (k : Kind) → kindOf (kind (s .ty)) ≡ some k → codegen.zeroLine s ≡ some (zeroCall k (s .offset))
 unfolding codegen.zeroLine
 slot-line s k e = line-zero (kind (s .ty)) (s .offset) ∙ rw e
 
@@ -92,11 +92,11 @@ pointer-line s e =
     other false e f = let z : _≡_ {A = ℕ} 0 1 = cc in omega arith
 
 -- the line of any slot is a zero's
-pub zero-of : (s : Slot) (l : Str) → codegen.zeroLine s ≡ some l → (z : Zero) × (zeroText z ≡ l)
+pub zero-of : (s : Slot) (l : Str) → codegen.zeroLine s ≡ some l → (z : Zero) × (zeroingLine z ≡ l)
 unfolding codegen.zeroLine
 zero-of s l e = go (zeroAt (kind (s .ty)) (s .offset) (kindOf (kind (s .ty)))) (sym (line-zero (kind (s .ty)) (s .offset)) ∙ e)
   where
-    go : (z : Option Zero) → mapO zeroText z ≡ some l → (z : Zero) × (zeroText z ≡ l)
+    go : (z : Option Zero) → mapO zeroingLine z ≡ some l → (z : Zero) × (zeroingLine z ≡ l)
     go none e = let z : _≡_ {A = ℕ} 0 1 = cc in absurd (omega arith)
     go (some z) e = (z, cc)
 

@@ -6,7 +6,7 @@ use mathlib.Core.Option.{some}
 use mathlib.Core.List.{List, [], _∷_}
 use Prim.Native.Nat.{ℕ}
 use Rattle.text.specs.Lines.{FormattedText, toLines, stringify}
-use Rattle.record.specs.Lines.{Zero, ofSlot, ofTag, ofPointer, zeroText, zeroTexts}
+use Rattle.record.specs.Lines.{Zero, ofSlot, ofTag, ofPointer, zeroingLine, zeroTexts}
 use Rattle.record.specs.Record.{Record}
 use Rattle.meaning.specs.Claims.{In, HoldsZero, ZeroHas, ZeroClears}
 use Rattle.meaning.specs.Meaning.{Op}
@@ -15,7 +15,7 @@ use Rattle.agreement_zeroing.specs.Zeroing.{OfRead, EachLine, EachWrite,
 
 wholes-zeros : (zs : List Zero) → Wholes (zeroTexts zs)
 wholes-zeros [] = Wholes.nil
-wholes-zeros (z ∷ zs) = Wholes.add (zeroText z) (says-zero z .one) (wholes-zeros zs)
+wholes-zeros (z ∷ zs) = Wholes.add (zeroingLine z) (says-zero z .one) (wholes-zeros zs)
 
 module _ (P : Op → Type 0) where
   -- what holds of each line's write holds of each zero's
@@ -30,7 +30,7 @@ module _ (P : Op → Type 0) where
       → (z : Zero) → In z zs → P (zeroOp z)
   each-write [] ft e h z i = absurd i
   each-write (y ∷ zs) ft e h z i =
-      each-zero (y ∷ zs) (rw (lines-stringify ft (zeroText y) (zeroTexts zs) e (wholes-zeros (y ∷ zs))) at h) z i
+      each-zero (y ∷ zs) (rw (lines-stringify ft (zeroingLine y) (zeroTexts zs) e (wholes-zeros (y ∷ zs))) at h) z i
 
 module _ (zs : List Zero) (ft : FormattedText) (is : toLines ft 0 ≡ zeroTexts zs) where
   pub holds-zeros : (r : Record) → LongEnough (stringify ft) r → (z : Zero) → In z zs → HoldsZero z r

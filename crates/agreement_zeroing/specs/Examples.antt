@@ -23,9 +23,9 @@ use Rattle.row.specs.Print.{columns, rowText}
 use Rattle.tree.specs.Reader.{times}
 use Rattle.tree.specs.Read.{sheet, admitted}
 use Rattle.tree.specs.Read as read
-use Rattle.tree.specs.Read.{bindingOf, scopeOf, typeFrom, typeOf, valueOf, wordsUpTo, wordsOf}
-use Rattle.tree.specs.Read.{among, overlap, fieldOf, fieldsUpTo, fieldsOf, groupIds, paramsOf, membersOf, nodeOf}
-use Rattle.tree.specs.Read.{nodesOf, sheetOf}
+use Rattle.tree.specs.Read.{readBinding, readScope, typeFrom, readType, valueOf, readWordsUpTo, readWords}
+use Rattle.tree.specs.Read.{among, overlap, readField, fieldsUpTo, readFields, groupIds, readParams, readMembers, readNode}
+use Rattle.tree.specs.Read.{readNodes, readSheet}
 use Rattle.tree.specs.Print.{scopeCount, typeRows, wordRows, fieldRows, paramRows, nodeRows, sheetRows, printed}
 use Rattle.codegen_types.specs.TypeString as types
 use Rattle.codegen_types.specs.TypeString.{typeString}
@@ -36,10 +36,9 @@ use Rattle.codegen.specs.Haser.{generateHaser, haserRequest}
 use Rattle.codegen.specs.Zeroing.{zeroLine, contains, zeroFields, zeroFieldsOfGroup, zeroingRequest}
 use Rattle.nodes.specs.Index.{byId, nth}
 use Rattle.requests.specs.Requests as requests
-use Rattle.requests.specs.Requests.{accessorText, Outcome, gives, refuses, outcomeOf}
+use Rattle.requests.specs.Requests.{accessorText, ofField, Outcome, gives, refuses, outcomeOf}
 use Rattle.requests.specs.declared.Accessor.the-variants.{Getter, Haser, Zeroing}
-use Rattle.requests.specs.declared.Request.the-variants as request
-use Rattle.agreement.specs.Slots.{Gives, SlotAt, kindAt}
+use Rattle.agreement.specs.Slots.{Generated, SlotAt, slotKind}
 use Rattle.record.specs.Record.{Record, found, stored, getBits, putBits, nullFlag, clearFlag}
 use Rattle.record.specs.Types as kinds
 use Rattle.record.specs.Types.{kindOf}
@@ -110,8 +109,10 @@ wardBytes = printed ward
 
 ward-read : admitted wardBytes ≡ sheet ward
 unfolding wardBytes joined printed sheetRows nodeRows paramRows fieldRows wordRows typeRows scopeCount rowText columns padded
-    decimal admitted sheetOf nodesOf nodeOf membersOf paramsOf groupIds fieldsOf fieldsUpTo fieldOf overlap among read.slotOf
-    wordsOf wordsUpTo valueOf typeOf typeFrom scopeOf bindingOf times restOf onto rows textAt textOf textStart lineAt lineOf
+    decimal admitted readSheet readNodes readNode readMembers readParams groupIds readFields fieldsUpTo readField overlap among
+    read.readSlot
+    readWords readWordsUpTo valueOf readType typeFrom readScope readBinding times restOf onto rows textAt textOf textStart
+    lineAt lineOf
     reader rootLine nodeLine parameterLine fieldLine groupLine typeLine scopeLine unboundLine valueLine wordLine
     mostA mostB mostC mostCount mostBits columnOf unpadded digits trimmed isGraphicText isName all isGraphic isWord endsIn
 ward-read = refl
@@ -119,7 +120,7 @@ ward-read = refl
 -- ---- the conditions are met
 
 bed : GroupAt wardBytes 1 0
-unfolding requests.fieldOf byId nth
+unfolding requests.fieldAt byId nth
 bed = record {
   tree = ward;
   node = wardNode;
@@ -131,7 +132,7 @@ bed = record {
 }
 
 state-inside : Inside wardBytes 2 3
-unfolding requests.fieldOf byId nth
+unfolding requests.fieldAt byId nth
 state-inside = deeper 2 (record {
   tree = ward;
   node = bedNode;
@@ -151,8 +152,8 @@ zeroText =
     ++ ascii "self.builder.set_data_field::<u16>(2, 0u16);\n"
     ++ ascii "self.builder.set_bool_field(35, false);\n"
 
-generated : Gives wardBytes 1 0 Zeroing zeroText
-unfolding requests.fieldOf byId nth accessorText zeroingRequest zeroFieldsOfGroup zeroFields zeroLine contains types.nodeOf
+generated : Generated wardBytes 1 0 Zeroing zeroText
+unfolding requests.fieldAt byId nth accessorText zeroingRequest zeroFieldsOfGroup zeroFields zeroLine contains types.nodeOf
     same stringify join toLines flatMap
     decimal setBoolField setDataField clearPointer
 generated = rw ward-read refl
@@ -167,7 +168,7 @@ long-enough = (omega arith, (omega arith, (omega arith, (omega arith, (omega ari
 
 -- a slot with bits in the group inside, and its getter
 statusSlot : SlotAt wardBytes 3 0
-unfolding requests.fieldOf byId nth
+unfolding requests.fieldAt byId nth
 statusSlot = record {
   tree = ward;
   node = stateNode;
@@ -178,7 +179,7 @@ statusSlot = record {
   is-slot = refl;
 }
 
-status-kind : kindOf (kindAt statusSlot) ≡ some kinds.enum
+status-kind : kindOf (slotKind statusSlot) ≡ some kinds.enum
 unfolding statusSlot kindOf
 status-kind = refl
 
@@ -187,8 +188,8 @@ statusText =
     ascii "::core::result::Result<ward::Status,::capnp::NotInSchema>\n"
     ++ ascii "::core::convert::TryFrom::try_from(self.reader.get_data_field_mask::<u16>(2, 2))\n"
 
-status-given : Gives wardBytes 3 0 (Getter true false) statusText
-unfolding requests.fieldOf byId nth accessorText getterRequest getterText typeString types.nodeOf getterMask getDataField decimal
+status-given : Generated wardBytes 3 0 (Getter true false) statusText
+unfolding requests.fieldAt byId nth accessorText getterRequest getterText typeString types.nodeOf getterMask getDataField decimal
     stringify join toLines flatMap
 status-given = rw ward-read refl
 
@@ -211,21 +212,21 @@ says r (gives t) = runHaser t r
 says r (refuses k line) = none
 
 abbrev get : Record → ℕ → ℕ → Bool → Bool → Option ℕ
-get r id place isReader isFn = reads r (outcomeOf (sheet ward) id (request.Field place (Getter isReader isFn)))
+get r id place isReader isFn = reads r (outcomeOf (sheet ward) id (ofField place (Getter isReader isFn)))
 
 -- rank in two forms, status and isFree: not their defaults before, their defaults after
 defaults-read :
     (get before 2 0 true false ≡ some 65528) × (get before 3 0 true false ≡ some 65533) × (get before 3 1 false false ≡ some 0)
     × (get after 2 0 true false ≡ some 7) × (get after 2 0 false true ≡ some 7) × (get after 3 0 true false ≡ some 2)
     × (get after 3 1 false false ≡ some 1)
-unfolding requests.fieldOf byId nth accessorText getterRequest getterText typeString types.nodeOf getterMask getBoolField
+unfolding requests.fieldAt byId nth accessorText getterRequest getterText typeString types.nodeOf getterMask getBoolField
     getDataField decimal stringify join toLines flatMap same found getBits typeName truth getMaskOf gets getsIn runGetter
 defaults-read = (refl, refl, refl, refl, refl, refl, refl)
 
 -- note is there before, and absent after
 note-absent :
-    (says before (outcomeOf (sheet ward) 2 (request.Field 1 (Haser true))) ≡ some true)
-    × (says after (outcomeOf (sheet ward) 2 (request.Field 1 (Haser true))) ≡ some false)
-unfolding requests.fieldOf byId nth accessorText haserRequest generateHaser camelToSnakeCase taken isAscii snakeFrom notNull
+    (says before (outcomeOf (sheet ward) 2 (ofField 1 (Haser true))) ≡ some true)
+    × (says after (outcomeOf (sheet ward) 2 (ofField 1 (Haser true))) ≡ some false)
+unfolding requests.fieldAt byId nth accessorText haserRequest generateHaser camelToSnakeCase taken isAscii snakeFrom notNull
     tagTest decimal stringify join toLines flatMap found getBits nullFlag typeName tests testsOf runTests runHaser
 note-absent = (refl, refl)

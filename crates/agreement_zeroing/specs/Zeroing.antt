@@ -13,12 +13,12 @@ use Rattle.tree.specs.Read.{sheet, admitted}
 use Rattle.codegen_types.specs.Out.{ok}
 use Rattle.codegen_types.specs.TypeString.{isPointer}
 use Rattle.record.specs.Lines.{Tag}
-use Rattle.record.specs.Record.{Record, get, null, Has, Holds, HoldsPointer}
+use Rattle.record.specs.Record.{Record, get, null, Covers, Holds, HoldsPointer}
 use Rattle.record.specs.Types.{Kind, kindOf, tagPlace}
 use Rattle.meaning.specs.Meaning.{Op, setOp, clearOp, writes, lines, trim, runGetter, runHaser, runZeroing}
-use Rattle.requests.specs.Requests.{fieldOf}
+use Rattle.requests.specs.Requests.{fieldAt}
 use Rattle.requests.specs.declared.Accessor.the-variants.{Getter, Haser, Zeroing}
-use Rattle.agreement.specs.Slots.{Gives, SlotAt, kindAt, tagAt}
+use Rattle.agreement.specs.Slots.{Generated, SlotAt, slotKind, tagAt}
 
 -- ---- the slots of a group
 
@@ -29,7 +29,7 @@ pub record GroupAt (s : Str) (id place : ℕ) : Type 0 where
   pub field : Field
   pub group : ℕ
   pub is-admitted : admitted s ≡ sheet tree
-  pub is-found : fieldOf (tree .nodes) id place ≡ ok (node, field)
+  pub is-found : fieldAt (tree .nodes) id place ≡ ok (node, field)
   pub is-group : field .arm ≡ arm.group group
 
 -- the id of the group's own node, or of the node that a G line of a node inside names
@@ -63,7 +63,7 @@ LongEnough w r = EachWrite (HoldsOp r) w
 
 -- a write does not touch this bit of the data section, this pointer
 abbrev pub SparesBit : ℕ → Op → Type 0
-SparesBit b (setOp p a m) = Has p b → ⊥
+SparesBit b (setOp p a m) = Covers p b → ⊥
 SparesBit b (clearOp i) = Unit {0}
 
 abbrev pub SparesPointer : ℕ → Op → Type 0
@@ -83,13 +83,13 @@ pub record Zeroed (s : Str) (g : ℕ) (w : Str) (r : Record) : Type 0 where
   pub left : Record
   pub runs : runZeroing w r ≡ some left
   pub defaults : {id : ℕ} → Inside s g id → (place : ℕ) (a : SlotAt s id place)
-      → (k : Kind) → kindOf (kindAt a) ≡ some k
-      → (isReader isFn : Bool) (t : Str) → Gives s id place (Getter isReader isFn) t
+      → (k : Kind) → kindOf (slotKind a) ≡ some k
+      → (isReader isFn : Bool) (t : Str) → Generated s id place (Getter isReader isFn) t
       → runGetter t left ≡ some (a .slot .default .bits)
   pub absent : {id : ℕ} → Inside s g id → (place : ℕ) (a : SlotAt s id place) → isPointer (a .slot .ty) ≡ true
       → null (record { 0 = a .slot .offset }) left ≡ some true
   pub hasers : {id : ℕ} → Inside s g id → (place : ℕ) (a : SlotAt s id place) → isPointer (a .slot .ty) ≡ true
-      → (isReader : Bool) (h : Str) → Gives s id place (Haser isReader) h
+      → (isReader : Bool) (h : Str) → Generated s id place (Haser isReader) h
       → TagReads (tagAt a) left → runHaser h left ≡ some false
   pub lengths : (length (left .bits) ≡ length (r .bits)) × (length (left .pointers) ≡ length (r .pointers))
   pub bits-same : (b : ℕ) → EachWrite (SparesBit b) w → getD (left .bits) b false ≡ getD (r .bits) b false
@@ -98,5 +98,5 @@ pub record Zeroed (s : Str) (g : ℕ) (w : Str) (r : Record) : Type 0 where
 -- for every sheet, every group of it whose zeroing is generated, and every record that is long enough for the text
 abbrev pub ZeroingHolds : Type 0
 ZeroingHolds =
-    (s : Str) (id place : ℕ) (a : GroupAt s id place) (w : Str) → Gives s id place Zeroing w
+    (s : Str) (id place : ℕ) (a : GroupAt s id place) (w : Str) → Generated s id place Zeroing w
     → (r : Record) → LongEnough w r → Zeroed s (a .group) w r

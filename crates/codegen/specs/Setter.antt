@@ -57,8 +57,8 @@ setterAndInitter interior readerType result params initter builderType initn = r
   initn = initn;
 }
 
-abbrev pub only : Str → FormattedTexts
-only l = Line l & none
+abbrev pub oneLine : Str → FormattedTexts
+oneLine l = Line l & none
 
 -- the calls on a pointer field
 abbrev pub pointerField : ℕ → Str
@@ -83,23 +83,23 @@ abbrev pub primParts : Sheet → Slot → Out Parts
 primParts sheet s =
     cond (eqb (kind (s .ty)) 1)
     (primDefault (s .default) then λ mask.
-    ok (setterOnly (ascii "value") (only (setBoolField (s .offset) (ascii "value") mask)) (ascii "bool")))
+    ok (setterOnly (ascii "value") (oneLine (setBoolField (s .offset) (ascii "value") mask)) (ascii "bool")))
     (typeString (s .ty) sheet (Reader A) then λ typ.
     primDefault (s .default) then λ mask.
-    ok (setterOnly (ascii "value") (only (setDataField typ (s .offset) (ascii "value") mask)) typ))
+    ok (setterOnly (ascii "value") (oneLine (setDataField typ (s .offset) (ascii "value") mask)) typ))
 
 abbrev pub textParts : Str → ℕ → Parts
 textParts root offset =
     setterAndInitter
-    (only (setPointer root offset ++ ascii ".unwrap()")) (setterInput root (root ++ ascii "::text::Owned")) false
-    (ascii "size: u32") (only (pointerField offset ++ ascii ".init_text(size)")) (root ++ ascii "::text::Builder<'a>")
+    (oneLine (setPointer root offset ++ ascii ".unwrap()")) (setterInput root (root ++ ascii "::text::Owned")) false
+    (ascii "size: u32") (oneLine (pointerField offset ++ ascii ".init_text(size)")) (root ++ ascii "::text::Builder<'a>")
     option.none
 
 abbrev pub dataParts : Str → ℕ → Parts
 dataParts root offset =
     setterAndInitter
-    (only (reborrowed offset ++ ascii ".set_data(value);")) (root ++ ascii "::data::Reader<'_>") false
-    (ascii "size: u32") (only (pointerField offset ++ ascii ".init_data(size)")) (root ++ ascii "::data::Builder<'a>")
+    (oneLine (reborrowed offset ++ ascii ".set_data(value);")) (root ++ ascii "::data::Reader<'_>") false
+    (ascii "size: u32") (oneLine (pointerField offset ++ ascii ".init_data(size)")) (root ++ ascii "::data::Builder<'a>")
     option.none
 
 -- the element has several SetterInput impls: Void to Text, and Enum
@@ -117,8 +117,8 @@ listParts sheet element t offset =
     listReaderType sheet element t then λ readerType.
     typeString t sheet (Builder A) then λ builderType.
     ok (setterAndInitter
-    (only (setPointer (sheet .root) offset)) readerType true
-    (ascii "size: u32") (only (initPointer (sheet .root) offset (ascii "size"))) builderType
+    (oneLine (setPointer (sheet .root) offset)) readerType true
+    (ascii "size: u32") (oneLine (initPointer (sheet .root) offset (ascii "size"))) builderType
     option.none)
 
 -- an enum: masked where the default is explicit, which must then be an Enum
@@ -129,7 +129,7 @@ enumMask s =
 
 abbrev pub enumSetter : ℕ → Option Str → Str → Parts
 enumSetter offset mask theMod =
-    setterOnly (ascii "value") (only (setDataField (ascii "u16") offset (ascii "value as u16") mask)) theMod
+    setterOnly (ascii "value") (oneLine (setDataField (ascii "u16") offset (ascii "value as u16") mask)) theMod
 
 abbrev pub enumParts : Sheet → ℕ → Slot → Out Parts
 enumParts sheet id s =
@@ -142,14 +142,14 @@ structParts sheet t offset =
     typeString t sheet (Reader Anonymous) then λ readerType.
     typeString t sheet (Builder A) then λ builderType.
     ok (setterAndInitter
-    (only (setPointer (sheet .root) offset)) readerType true
-    [] (only (initPointer (sheet .root) offset (ascii "0"))) builderType
+    (oneLine (setPointer (sheet .root) offset)) readerType true
+    [] (oneLine (initPointer (sheet .root) offset (ascii "0"))) builderType
     option.none)
 
 abbrev pub interfaceParts : Sheet → Ty → ℕ → Out Parts
 interfaceParts sheet t offset =
     typeString t sheet Client then λ client.
-    ok (setterOnly (ascii "value") (only (reborrowed offset ++ ascii ".set_capability(value.client.hook);")) client)
+    ok (setterOnly (ascii "value") (oneLine (reborrowed offset ++ ascii ".set_capability(value.client.hook);")) client)
 
 abbrev pub newPointer : Str → ℕ → Str
 newPointer root offset = root ++ ascii "::any_pointer::Builder::new(" ++ pointerField offset ++ ascii ")"
@@ -159,8 +159,8 @@ parameterParts sheet t offset =
     typeString t sheet (Builder A) then λ builderType.
     typeString t sheet Owned then λ owned.
     ok (setterAndInitter
-    (only (setPointer (sheet .root) offset)) (setterInput (sheet .root) owned) true
-    [] (only (newPointer (sheet .root) offset ++ ascii ".init_as()")) builderType
+    (oneLine (setPointer (sheet .root) offset)) (setterInput (sheet .root) owned) true
+    [] (oneLine (newPointer (sheet .root) offset ++ ascii ".init_as()")) builderType
     (some (builderType, newPointer (sheet .root) offset ++ ascii ".initn_as(length)")))
 
 -- an initializer alone
@@ -180,18 +180,18 @@ pointerParts root offset = record {
   initn = option.none;
 }
 
-abbrev pub partsOf : Sheet → Slot → Ty → Out Parts
-partsOf sheet s (plain k) =
+abbrev pub setterParts : Sheet → Slot → Ty → Out Parts
+setterParts sheet s (plain k) =
     cond (eqb k 0) (ok (setterOnly (ascii "_value") none (ascii "()")))
     (cond (eqb k 12) (ok (textParts (sheet .root) (s .offset)))
     (cond (eqb k 13) (ok (dataParts (sheet .root) (s .offset)))
     (primParts sheet s)))
-partsOf sheet s (list t) = listParts sheet t (s .ty) (s .offset)
-partsOf sheet s (enum id ss) = enumParts sheet id s
-partsOf sheet s (struct id ss) = structParts sheet (s .ty) (s .offset)
-partsOf sheet s (interface id ss) = interfaceParts sheet (s .ty) (s .offset)
-partsOf sheet s anyPointer = ok (pointerParts (sheet .root) (s .offset))
-partsOf sheet s (parameter id k) = parameterParts sheet (s .ty) (s .offset)
+setterParts sheet s (list t) = listParts sheet t (s .ty) (s .offset)
+setterParts sheet s (enum id ss) = enumParts sheet id s
+setterParts sheet s (struct id ss) = structParts sheet (s .ty) (s .offset)
+setterParts sheet s (interface id ss) = interfaceParts sheet (s .ty) (s .offset)
+setterParts sheet s anyPointer = ok (pointerParts (sheet .root) (s .offset))
+setterParts sheet s (parameter id k) = parameterParts sheet (s .ty) (s .offset)
 
 -- the tag's line, where the field has a discriminant
 abbrev pub tagged : ℕ → ℕ → FormattedTexts → FormattedTexts
@@ -227,8 +227,8 @@ initterLines tag name p (some builderType) =
     (tag (p .initterInterior)) none
 
 -- the functions, from what the match gave
-abbrev pub setterOf : Str → ℕ → Str → ℕ → Parts → FormattedText
-setterOf root tagOffset styledName discriminant p =
+abbrev pub setterFunctions : Str → ℕ → Str → ℕ → Parts → FormattedText
+setterFunctions root tagOffset styledName discriminant p =
     Branch (
     initnLines (tagged tagOffset discriminant) styledName (p .initn)
     (setterLines root (tagged tagOffset discriminant) styledName p (p .readerType)
@@ -236,7 +236,7 @@ setterOf root tagOffset styledName discriminant p =
 
 unfoldable pub generateSetter : Sheet → ℕ → Str → ℕ → Slot → Out FormattedText
 generateSetter sheet tagOffset styledName discriminant s =
-    partsOf sheet s (s .ty) then λ p. ok (setterOf (sheet .root) tagOffset styledName discriminant p)
+    setterParts sheet s (s .ty) then λ p. ok (setterFunctions (sheet .root) tagOffset styledName discriminant p)
 
 -- the text of a setter's request
 unfoldable pub setterRequest : Sheet → ℕ → Str → ℕ → Slot → Out Str

@@ -1,6 +1,7 @@
 // The parts of accessors' texts that need no look into the sheet: codegen.rs of capnpc, its slot part.
 use calls::Mask;
 use field::Slot;
+use terms::kinds;
 use text::Text;
 ghost use mathlib.Core.Path.{_≡_};
 ghost use mathlib.Core.Option.{some};
@@ -21,19 +22,19 @@ ghost use Rattle.codegen_types.specs.Primitive.{primitiveText};
 fn integer(kind: u64, bits: u64) -> Mask
     ensures { λ r. ⌜ maskText r ≡ some (integer (value kind bits)) ⌝ }
 {
-    if kind == 2 {
+    if kind == kinds::INT8 {
         return Mask::Signed { half: 0x80, bits };
     }
-    if kind == 3 {
+    if kind == kinds::INT16 {
         return Mask::Signed { half: 0x8000, bits };
     }
-    if kind == 4 {
+    if kind == kinds::INT32 {
         return Mask::Signed {
             half: 0x8000_0000,
             bits,
         };
     }
-    if kind == 5 {
+    if kind == kinds::INT64 {
         return Mask::Signed {
             half: 0x8000_0000_0000_0000,
             bits,
@@ -49,7 +50,7 @@ pub fn getter_mask(kind: u64, bits: u64) -> Mask
     if bits == 0 {
         return Mask::None;
     }
-    if kind == 1 {
+    if kind == kinds::BOOL {
         return Mask::True;
     }
     integer(kind, bits)
@@ -69,13 +70,13 @@ fn is_float_zero(sign: u64, bits: u64) -> bool
 fn prim_default(kind: u64, bits: u64) -> Mask
     ensures { λ r. ⌜ Given (primDefault (value kind bits)) (λ mask. maskText r ≡ mask) ⌝ }
 {
-    if kind == 10 {
+    if kind == kinds::FLOAT32 {
         if is_float_zero(0x8000_0000, bits) {
             return Mask::None;
         }
         return Mask::U32(bits);
     }
-    if kind == 11 {
+    if kind == kinds::FLOAT64 {
         if is_float_zero(0x8000_0000_0000_0000, bits) {
             return Mask::None;
         }
@@ -138,10 +139,10 @@ pub fn zero_number(kind: u64, offset: u64, t: Text, buf: &mut [u8]) -> Text
 pub fn is_pointer(kind: u64) -> bool
     ensures { λ r. ⌜ r ≡ both (leb 12 kind) (cond (eqb kind 15) false true) ⌝ }
 {
-    if kind < 12 {
+    if kind < kinds::TEXT {
         return false;
     }
-    if kind == 15 {
+    if kind == kinds::ENUM {
         return false;
     }
     true

@@ -6,14 +6,14 @@ use native.Mathlib.Omega.{arith}
 use lib.ListN.{length, take, length-take, List·getD-eq-default}
 use Rattle.text.specs.Bytes.{Str}
 use Rattle.codegen_types.specs.TypeString.{primitives}
-use Rattle.codegen_types.specs.Primitive.{primitiveText, Holds}
+use Rattle.codegen_types.specs.Primitive.{primitiveText, NameIs}
 use Rattle.codegen_types.specs.declared.TypeName.{TypeName}
 
 pub held-name : (p : TypeName) (bytes : Str) (len : ℕ) → (p .bytes ≡ bytes) × (p .len ≡ len) → len ≤ 4 → length bytes ≡ 4
-    → Holds p (take len bytes)
+    → NameIs p (take len bytes)
 held-name p bytes len e fits full = record { full = rw (e .0) full; fits = rw (e .1) fits; bytes = rw (e .0, e .1) refl }
 
-pub counted : (p : TypeName) (text : Str) → Holds p text → p .len ≡ length (take (p .len) (p .bytes))
+pub counted : (p : TypeName) (text : Str) → NameIs p text → p .len ≡ length (take (p .len) (p .bytes))
 counted p text h =
     let e : length (take (p .len) (p .bytes)) ≡ min (p .len) (length (p .bytes)) = length-take (p .len) (p .bytes) in
     let f = h .full in

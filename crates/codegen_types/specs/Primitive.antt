@@ -12,7 +12,7 @@ abbrev pub primitiveText : ℕ → Str
 primitiveText kind = getD primitives kind []
 
 -- p holds a text
-pub record Holds (p : TypeName) (text : Str) : Type 0 where
+pub record NameIs (p : TypeName) (text : Str) : Type 0 where
   pub full : length (p .bytes) ≡ 4
   pub fits : p .len ≤ 4
   pub bytes : take (p .len) (p .bytes) ≡ text

@@ -1,6 +1,7 @@
 // `Leaf` of codegen_types.rs of capnpc and the texts that depend on it alone, and the names of the primitive types. The
 // definitions of `type_string` and `do_branding` stand in specs/; the code that meets them is in the crates type_parts and
 // type_string.
+use terms::kinds;
 use text::Text;
 ghost use mathlib.Core.List.{_++_};
 ghost use Rattle.text.specs.Bytes.{ascii};
@@ -8,24 +9,9 @@ ghost use Rattle.text.specs.Text.{Wrote};
 ghost use mathlib.Core.Path.{_≡_};
 ghost use Rattle.codegen_types.specs.Leaf.{bareName, display, lifetimeComma};
 ghost use Rattle.codegen_types.specs.TypeString.{elementLeaf};
-ghost use Rattle.codegen_types.specs.Primitive.{primitiveText, Holds};
+ghost use Rattle.codegen_types.specs.Primitive.{primitiveText, NameIs};
 ghost use Rattle.codegen_types.specs.Written.{firstOf};
 ghost use Rattle.codegen_types.specs.declared.Refusal.the-variants.{None, Number};
-
-// The kinds of the types that are no numbers, as in the schema's `Type`.
-pub const TEXT: u64 = 12;
-
-pub const DATA: u64 = 13;
-
-pub const LIST: u64 = 14;
-
-pub const ENUM: u64 = 15;
-
-pub const STRUCT: u64 = 16;
-
-pub const INTERFACE: u64 = 17;
-
-pub const ANY_POINTER: u64 = 18;
 
 // The lifetimes that are asked for: 'a and '_.
 pub enum Lifetime {
@@ -48,7 +34,7 @@ pub enum Leaf {
 // The refusal of a request by document 01's number, if there is one.
 pub enum Refusal {
     None,
-    Number(u8),
+    Number(u64),
 }
 
 // What a writer leaves: the text state after its text, and the refusal of what it was to write, if there is one. A text that is
@@ -69,7 +55,7 @@ pub fn whole(t: Text) -> Written
 }
 
 // A text that is refused with a number.
-pub fn refused(t: Text, number: u8) -> Written
+pub fn refused(t: Text, number: u64) -> Written
     ensures { λ r. ⌜ r .refusal ≡ Number number ⌝ }
 {
     Written {
@@ -138,7 +124,7 @@ impl Leaf {
 pub fn element_leaf(kind: u64) -> Leaf
     ensures { λ r. ⌜ r ≡ elementLeaf kind ⌝ }
 {
-    if kind == INTERFACE {
+    if kind == kinds::INTERFACE {
         Leaf::Client
     } else {
         Leaf::Owned
@@ -159,21 +145,21 @@ fn held(bytes: [u8; 4], len: usize) -> TypeName
 
 // The text of the type of this kind: Void to Float64; any other kind has none.
 pub fn primitive(kind: u64) -> TypeName
-    ensures { λ r. ⌜ Holds r (primitiveText kind) ⌝ }
+    ensures { λ r. ⌜ NameIs r (primitiveText kind) ⌝ }
 {
     match kind {
-        0 => held(*b"()  ", 2),
-        1 => held(*b"bool", 4),
-        2 => held(*b"i8  ", 2),
-        3 => held(*b"i16 ", 3),
-        4 => held(*b"i32 ", 3),
-        5 => held(*b"i64 ", 3),
-        6 => held(*b"u8  ", 2),
-        7 => held(*b"u16 ", 3),
-        8 => held(*b"u32 ", 3),
-        9 => held(*b"u64 ", 3),
-        10 => held(*b"f32 ", 3),
-        11 => held(*b"f64 ", 3),
+        kinds::VOID => held(*b"()  ", 2),
+        kinds::BOOL => held(*b"bool", 4),
+        kinds::INT8 => held(*b"i8  ", 2),
+        kinds::INT16 => held(*b"i16 ", 3),
+        kinds::INT32 => held(*b"i32 ", 3),
+        kinds::INT64 => held(*b"i64 ", 3),
+        kinds::UINT8 => held(*b"u8  ", 2),
+        kinds::UINT16 => held(*b"u16 ", 3),
+        kinds::UINT32 => held(*b"u32 ", 3),
+        kinds::UINT64 => held(*b"u64 ", 3),
+        kinds::FLOAT32 => held(*b"f32 ", 3),
+        kinds::FLOAT64 => held(*b"f64 ", 3),
         _ => held(*b"    ", 0),
     }
 }

@@ -77,7 +77,7 @@ fn more_digits(t: &[u8], from: usize, head: u64) -> Number
         if 1844674407370955161 < v {
             return Number::Not;
         }
-        if 18446744073709551615 - d < v * 10 {
+        if u64::MAX - d < v * 10 {
             return Number::Not;
         }
         v = v * 10 + d;

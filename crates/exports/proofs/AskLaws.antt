@@ -1,61 +1,67 @@
 -- What the code's answer says of a request is what is told at the boundary: by the two cases of the answer. Assumes nothing.
-use mathlib.Core.Path.{_≡_, refl, sym, ap, _∙_}
+use mathlib.Core.Path.{_≡_, refl, sym, ap, subst, _∙_}
 use mathlib.Core.List.{List, [], _∷_}
 use Prim.Native.Nat.{ℕ, zero, suc, _-_, _^_, _≤_}
 use lib.ListN.{length, getD}
 use native.Mathlib.Omega.{arith}
-use Rattle.text.specs.Answer as text
 use Rattle.text.specs.Bytes.{Str}
-use Rattle.text.specs.Text.{textAt}
+use Rattle.text.specs.Text.{stateAt}
 use Rattle.text.specs.declared.Text.{Text}
-use Rattle.requests.specs.Requests.{Outcome, answerOf, bufferOf}
-use Rattle.requests.specs.Told.{told, Answered}
+use Rattle.tree.specs.Tree.{Sheet}
+use Rattle.tree.specs.Read.{sheet}
+use Rattle.requests.specs.Requests.{requestText, Outcome, outcome, entryAnswer, entryBuffer}
+use Rattle.requests.specs.declared.Request.{Request}
+use Rattle.requests.specs.Told.{inNumbers, Answered}
 use Rattle.requests.specs.declared.Answer.{Answer}
 use Rattle.requests.specs.declared.Answer.the-variants.{Done, Refused}
 use Rattle.requests.proofs.LeafLaws.{more}
-use Rattle.requests.specs.declared.Request.the-variants.{TypeText}
-use Rattle.exports.specs.Boundary.{numberIn, lineIn, fillIn, replyOf, requestsAt, requestOf, Asked}
+use Rattle.requests.specs.declared.Accessor.the-variants.{TypeText}
+use Rattle.exports.specs.Boundary.{numberIn, lineIn, fillIn, replyOf, ask, accessors, accessorOf, Said, Asked}
 
 -- a request that comes to o, asked at the state t of a fill count
-module _ (l : Str) (fill : ℕ) (o : Outcome) (t : Text) (l′ : Str) (r : Answer) (at : t ≡ textAt fill)
+module _ (l : Str) (fill : ℕ) (o : Outcome) (t : Text) (l′ : Str) (r : Answer) (at : t ≡ stateAt fill)
     (answered : Answered l t o l′ r) where
-  answer-is : told r ≡ answerOf l fill o
+  answer-is : inNumbers r ≡ entryAnswer l fill o
   answer-is = rw at at (answered .answer)
 
-  buffer-is : l′ ≡ bufferOf l fill o
+  buffer-is : l′ ≡ entryBuffer l fill o
   buffer-is = rw at at (answered .buffer)
 
-  pub asked-done : (t′ : Text) (n : ℕ) → r ≡ Done t′ → n ≡ t′ .at → Asked l fill (replyOf o) l′ n 0 0
+  -- what is said of the answer is what is asked
+  pub asked : (fill′ number line : ℕ) → Said (inNumbers r) fill fill′ number line → Asked l fill (replyOf o) l′ fill′ number line
   unfolding replyOf
-  asked-done t′ n e f =
-      let z : text.done (t′ .at) ≡ answerOf l fill o = rw e at answer-is in
-      record {
-        number-is = ap numberIn z;
-        line-is = ap lineIn z;
-        fill-is = f ∙ ap (fillIn fill) z;
-        buffer-is = buffer-is;
-      }
+  asked fill′ number line s = record {
+    number-is = s .number-is ∙ ap numberIn answer-is;
+    line-is = s .line-is ∙ ap lineIn answer-is;
+    fill-is = s .fill-is ∙ ap (fillIn fill) answer-is;
+    buffer-is = buffer-is;
+  }
 
-  pub asked-refused : (k line : ℕ) → r ≡ Refused k line → Asked l fill (replyOf o) l′ fill k line
-  unfolding replyOf
-  asked-refused k line e =
-      let z : text.refused k line ≡ answerOf l fill o = rw e at answer-is in
-      record {
-        number-is = ap numberIn z;
-        line-is = ap lineIn z;
-        fill-is = ap (fillIn fill) z;
-        buffer-is = buffer-is;
-      }
+-- a request of the sheet with some nodes: q as the code has it, and q′ as it was asked
+pub asked-in :
+    (l : Str) (fill : ℕ) (sh : Sheet) (id : ℕ) (q q′ : Request) (t : Text) (l′ : Str) (r : Answer) → q ≡ q′ → t ≡ stateAt fill
+    → Answered l t (outcome (requestText sh id q)) l′ r → (fill′ number line : ℕ) → Said (inNumbers r) fill fill′ number line
+    → Asked l fill (ask (sheet sh) id q′) l′ fill′ number line
+asked-in l fill sh id q q′ t l′ r e at answered =
+    asked l fill (outcome (requestText sh id q′)) t l′ r at
+    (subst (λ (x : Request). Answered l t (outcome (requestText sh id x)) l′ r) e answered)
+
+-- the two cases of an answer
+pub said-done : (fill n : ℕ) (r : Answer) (t : Text) → r ≡ Done t → n ≡ t .at → Said (inNumbers r) fill n 0 0
+said-done fill n r t e f = rw e (record { number-is = refl; line-is = refl; fill-is = f })
+
+pub said-refused : (fill : ℕ) (r : Answer) (k line : ℕ) → r ≡ Refused k line → Said (inNumbers r) fill fill k line
+said-refused fill r k line e = rw e (record { number-is = refl; line-is = refl; fill-is = refl })
 
 -- a number that is none of the nine
-pub no-request :
-    (n place leaf : ℕ) → (n ≡ 0 → ⊥) → (n ≡ 1 → ⊥) → (n ≡ 2 → ⊥) → (n ≡ 3 → ⊥) → (n ≡ 4 → ⊥) → (n ≡ 5 → ⊥) → (n ≡ 6 → ⊥) → (n ≡ 7 → ⊥)
-    → (n ≡ 8 → ⊥) → TypeText place (2 ^ 64 - 1) ≡ requestOf n place leaf
-unfolding requestOf
-no-request n place leaf a b c d e f g h i =
+pub no-accessor :
+    (n leaf : ℕ) → (n ≡ 0 → ⊥) → (n ≡ 1 → ⊥) → (n ≡ 2 → ⊥) → (n ≡ 3 → ⊥) → (n ≡ 4 → ⊥) → (n ≡ 5 → ⊥) → (n ≡ 6 → ⊥) → (n ≡ 7 → ⊥)
+    → (n ≡ 8 → ⊥) → TypeText (2 ^ 64 - 1) ≡ accessorOf n leaf
+unfolding accessorOf
+no-accessor n leaf a b c d e f g h i =
     let z : 9 ≤ n = more n 8 (more n 7 (more n 6 (more n 5 (more n 4 (more n 3 (more n 2 (more n 1 (more n 0
     (omega arith) a) b) c) d) e) f) g) h) i in
-    sym (getD-past (requestsAt place leaf) n (TypeText place (2 ^ 64 - 1)) z)
+    sym (getD-past (accessors leaf) n (TypeText (2 ^ 64 - 1)) z)
   where
     getD-past : {A : Type 0} (l : List A) (n : ℕ) (x : A) → length l ≤ n → getD l n x ≡ x
     getD-past [] n x h = refl

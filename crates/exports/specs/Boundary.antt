@@ -1,35 +1,46 @@
 -- What the exported functions answer: the fill count after a text, or that nothing was taken; what a sheet is; what a request
--- answers. Assumes nothing.
+-- answers; what an index tells of a sheet's nodes, and a position of its fields. Assumes nothing.
 use mathlib.Core.Path.{_≡_}
 use mathlib.Core.Bool.{Bool, true, false}
 use mathlib.Core.List.{List, [], _∷_}
-use Prim.Native.Nat.{ℕ, _-_, _%_, _^_}
+use mathlib.Core.Option.{Option, none, some}
+use Prim.Native.Nat.{ℕ, _-_, _%_, _^_, _≤_}
 use lib.Dec.{eqb}
-use lib.ListN.{getD}
+use lib.ListN.{length, take, drop, getD}
 use Rattle.text.specs.Bytes.{Str, cond, either}
 use Rattle.text.specs.Decimal.{signed}
-use Rattle.text.specs.Text.{adv, put, textAt}
+use Rattle.text.specs.Text.{adv, put, stateAt}
 use Rattle.names.specs.Names.{taken}
 use Rattle.text.specs.Answer as text
+use Rattle.row.specs.Rows.{rows}
+use Rattle.row.specs.Line as line
+use Rattle.tree.specs.Tree as tree
+use Rattle.tree.specs.Tree.{Arm, slot, group, Node}
 use Rattle.tree.specs.Read.{Admitted, sheet, refused}
-use Rattle.requests.specs.Requests.{Outcome, outcomeOf, answerOf, bufferOf}
+use Rattle.tree.specs.Fields.{FieldsHere}
+use Rattle.nodes.specs.Index.{nth, Indexed, ForAll}
+use Rattle.codegen_types.specs.Out.{Out, ok, _then_}
+use Rattle.requests.specs.Requests.{accessorText, ofField, Outcome, outcomeOf, entryAnswer, entryBuffer}
+use Rattle.requests.specs.Told.{passOf, firstOf}
+use Rattle.requests.specs.declared.Pass.{Pass}
+use Rattle.requests.specs.declared.Pass.the-variants as pass
 use Rattle.requests.specs.declared.Request.{Request}
-use Rattle.requests.specs.declared.Request.the-variants.{TypeText, Field}
-use Rattle.requests.specs.declared.Accessor.the-variants.{Getter, Setter, Haser, Zeroing}
+use Rattle.requests.specs.declared.Accessor.{Accessor}
+use Rattle.requests.specs.declared.Accessor.the-variants.{TypeText, Getter, Setter, Haser, Zeroing}
 
 -- where it is taken, the text s is written at a fill count into l, which leaves l′ and the fill count r; else nothing is
 -- written, and the answer is the largest count
-pub record FilledIf (isTaken : Bool) (l : Str) (at : ℕ) (s : Str) (l′ : Str) (r : ℕ) : Type 0 where
-  pub bytes : l′ ≡ cond isTaken (put l (textAt at) s) l
-  pub fill : r ≡ cond isTaken (adv (textAt at) s .at) (2 ^ 64 - 1)
+pub record FillsIf (isTaken : Bool) (l : Str) (at : ℕ) (s : Str) (l′ : Str) (r : ℕ) : Type 0 where
+  pub bytes : l′ ≡ cond isTaken (put l (stateAt at) s) l
+  pub fill : r ≡ cond isTaken (adv (stateAt at) s .at) (2 ^ 64 - 1)
 
 -- a text that is written in any case
-abbrev pub Filled : Str → ℕ → Str → Str → ℕ → Type 0
-Filled = FilledIf true
+abbrev pub Fills : Str → ℕ → Str → Str → ℕ → Type 0
+Fills = FillsIf true
 
 -- the text that a definition gives for a name, where the name is taken
-abbrev pub Named : Str → ℕ → (Str → Str) → Str → Str → ℕ → Type 0
-Named l at f name = FilledIf (taken name) l at (f name)
+abbrev pub FillsName : Str → ℕ → (Str → Str) → Str → Str → ℕ → Type 0
+FillsName l at f name = FillsIf (taken name) l at (f name)
 
 -- a width of numbers
 abbrev pub isWidth : ℕ → Bool
@@ -37,20 +48,20 @@ isWidth w = either (eqb w 8) (either (eqb w 16) (either (eqb w 32) (eqb w 64)))
 
 -- the number whose bits in two's complement are the lowest w of n, where there is such a width
 abbrev pub Signed : Str → ℕ → ℕ → ℕ → Str → ℕ → Type 0
-Signed l at w n = FilledIf (isWidth w) l at (signed (2 ^ (w - 1)) (n % 2 ^ w))
+Signed l at w n = FillsIf (isWidth w) l at (signed (2 ^ (w - 1)) (n % 2 ^ w))
 
 -- document 01's number and line for what is admitted of a sheet: 0 where it has a tree
-abbrev pub numberOf : Admitted → ℕ
-numberOf (sheet sh) = 0
-numberOf (refused k l) = k
+abbrev pub numberTold : Admitted → ℕ
+numberTold (sheet sh) = 0
+numberTold (refused k l) = k
 
-abbrev pub lineOf : Admitted → ℕ
-lineOf (sheet sh) = 0
-lineOf (refused k l) = l
+abbrev pub lineTold : Admitted → ℕ
+lineTold (sheet sh) = 0
+lineTold (refused k l) = l
 
 pub record Told (a : Admitted) (number line : ℕ) : Type 0 where
-  pub number-is : number ≡ numberOf a
-  pub line-is : line ≡ lineOf a
+  pub number-is : number ≡ numberTold a
+  pub line-is : line ≡ lineTold a
 
 -- an answer by its number, its line and the fill count that it leaves: 0 where there is a text, and a refusal leaves the count
 abbrev pub numberIn : text.Answer → ℕ
@@ -71,23 +82,32 @@ pub record Reply : Type 0 where
   pub buffer : Str
 
 unfoldable pub replyOf : Outcome → Str → ℕ → Reply
-replyOf o l fill = record { answer = answerOf l fill o; buffer = bufferOf l fill o }
+replyOf o l fill = record { answer = entryAnswer l fill o; buffer = entryBuffer l fill o }
 
 -- a request of a node, over a sheet
 abbrev pub ask : Admitted → ℕ → Request → Str → ℕ → Reply
 ask a id request = replyOf (outcomeOf a id request)
 
--- the requests for the field at a place by their numbers; a type's text is asked at a leaf
-abbrev pub requestsAt : ℕ → ℕ → List Request
-requestsAt place leaf =
-    TypeText place leaf
-    ∷ Field place (Getter true false) ∷ Field place (Getter false false)
-    ∷ Field place (Getter true true) ∷ Field place (Getter false true)
-    ∷ Field place Setter ∷ Field place (Haser true) ∷ Field place (Haser false) ∷ Field place Zeroing ∷ []
+-- the texts of a field by their numbers; a type's text is asked for a leaf
+abbrev pub accessors : ℕ → List Accessor
+accessors leaf =
+    TypeText leaf
+    ∷ Getter true false ∷ Getter false false ∷ Getter true true ∷ Getter false true
+    ∷ Setter ∷ Haser true ∷ Haser false ∷ Zeroing ∷ []
 
 -- any other number asks for a type's text at a leaf that there is not: 15, in its place among the refusals
-unfoldable pub requestOf : ℕ → ℕ → ℕ → Request
-requestOf number place leaf = getD (requestsAt place leaf) number (TypeText place (2 ^ 64 - 1))
+unfoldable pub accessorOf : ℕ → ℕ → Accessor
+accessorOf number leaf = getD (accessors leaf) number (TypeText (2 ^ 64 - 1))
+
+-- the request for such a text of the field at a place
+abbrev pub requestOf : ℕ → ℕ → ℕ → Request
+requestOf number place leaf = ofField place (accessorOf number leaf)
+
+-- over a fill count, an answer leaves fill′, and is told by a number and a line
+pub record Said (a : text.Answer) (fill fill′ number line : ℕ) : Type 0 where
+  pub number-is : number ≡ numberIn a
+  pub line-is : line ≡ lineIn a
+  pub fill-is : fill′ ≡ fillIn fill a
 
 -- over the buffer l and a fill count, a reply leaves l′ and fill′, and is told by a number and a line
 pub record Asked (l : Str) (fill : ℕ) (reply : Str → ℕ → Reply) (l′ : Str) (fill′ number line : ℕ) : Type 0 where
@@ -95,3 +115,72 @@ pub record Asked (l : Str) (fill : ℕ) (reply : Str → ℕ → Reply) (l′ : 
   pub line-is : line ≡ lineIn (reply l fill .answer)
   pub fill-is : fill′ ≡ fillIn fill (reply l fill .answer)
   pub buffer-is : l′ ≡ reply l fill .buffer
+
+-- ---- over an index
+
+-- whatever nodes of s the index has: so it is for the sheet with these nodes
+abbrev pub OverIndex : Str → List ℕ → (Admitted → Type 0) → Type 0
+OverIndex s index P = ForAll (line.textAt (rows s)) s index (λ sh. P (sheet sh))
+
+-- a pass by its number and the length that it tells
+abbrev pub numberPass : Pass → ℕ
+numberPass (pass.Whole n) = 0
+numberPass (pass.Longer n) = 22
+numberPass (pass.Refused k) = k
+
+abbrev pub lengthPass : Pass → ℕ
+lengthPass (pass.Whole n) = n
+lengthPass (pass.Longer n) = n
+lengthPass (pass.Refused k) = 0
+
+-- a text that comes to o, written in one pass from the start of l on, leaves l′, and is told by a number and a length
+pub record PassTold (o : Out Str) (l l′ : Str) (number size : ℕ) : Type 0 where
+  pub number-is : number ≡ numberPass (passOf (length l) o)
+  pub length-is : size ≡ lengthPass (passOf (length l) o)
+  pub text : (w : Str) → o ≡ ok w → length w ≤ length l → l′ ≡ text.placed l 0 w
+
+-- a text of the first of the fields at a position, in the node with a number
+abbrev pub TextTold : Str → List ℕ → ℕ → ℕ → Accessor → Str → Str → ℕ → ℕ → Type 0
+TextTold s index node at accessor l l′ number size =
+    ForAll (line.textAt (rows s)) s index
+    (λ sh. (fields : List tree.Field) → FieldsHere (rows (drop at s)) fields
+    → PassTold (firstOf (sh .nodes) node fields then λ f. accessorText sh f accessor) l l′ number size)
+
+-- a node is told by its id, the place and the length of its module in s, and where its first field stands
+pub record NodeIs (s : Str) (n : Node) (number id at size first : ℕ) : Type 0 where
+  pub number-is : number ≡ 0
+  pub id-is : id ≡ n .id
+  pub module-is : take size (drop at s) ≡ n .theMod
+  pub fields-here : FieldsHere (rows (drop first s)) (n .fields)
+
+-- 15 and zeros where there is none
+abbrev pub NodeSaid : Str → Option Node → ℕ → ℕ → ℕ → ℕ → ℕ → Type 0
+NodeSaid s (some n) number id at size first = NodeIs s n number id at size first
+NodeSaid s none number id at size first = (number ≡ 15) × (id ≡ 0) × (at ≡ 0) × (size ≡ 0) × (first ≡ 0)
+
+-- the node with a number
+abbrev pub NodeTold : Str → List ℕ → ℕ → ℕ → ℕ → ℕ → ℕ → ℕ → Type 0
+NodeTold s index k number id at size first =
+    (ns : List Node) → Indexed s ns index → NodeSaid s (nth k ns) number id at size first
+
+-- a field's kind: that of a slot's type, or 19 for a group
+abbrev pub kindOf : Arm → ℕ
+kindOf (slot sl) = tree.kind (sl .ty)
+kindOf (group id) = 19
+
+-- a field is told by its kind, the place and the length of its name in s, and where those after it stand
+pub record FieldTold (s : Str) (f : tree.Field) (fs : List tree.Field) (number kind at size next : ℕ) : Type 0 where
+  pub number-is : number ≡ 0
+  pub kind-is : kind ≡ kindOf (f .arm)
+  pub name-is : take size (drop at s) ≡ f .name
+  pub fields-here : FieldsHere (rows (drop next s)) fs
+
+-- 15 and zeros where there is none
+abbrev pub FieldSaid : Str → List tree.Field → ℕ → ℕ → ℕ → ℕ → ℕ → Type 0
+FieldSaid s [] number kind at size next = (number ≡ 15) × (kind ≡ 0) × (at ≡ 0) × (size ≡ 0) × (next ≡ 0)
+FieldSaid s (f ∷ fs) number kind at size next = FieldTold s f fs number kind at size next
+
+-- the first of the fields at a position
+abbrev pub FirstTold : Str → ℕ → ℕ → ℕ → ℕ → ℕ → ℕ → Type 0
+FirstTold s from number kind at size next =
+    (fs : List tree.Field) → FieldsHere (rows (drop from s)) fs → FieldSaid s fs number kind at size next

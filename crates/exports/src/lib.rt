@@ -1,36 +1,31 @@
-// The static library's boundary, for Rust programs and for the comparison with capnpc. A slice passes as pointer then length:
-//
-//     size_t kitlubas_number(size_t at, uint8_t *buf, size_t buf_len, uint64_t n);
-//     size_t kitlubas_signed(size_t at, uint8_t *buf, size_t buf_len, uint32_t width, uint64_t n);
-//     size_t kitlubas_line(size_t at, uint8_t *buf, size_t buf_len, size_t indent, const uint8_t *line, size_t line_len);
-//     size_t kitlubas_blank_line(size_t at, uint8_t *buf, size_t buf_len);
-//     size_t kitlubas_no_lines(size_t at, uint8_t *buf, size_t buf_len);
-//     size_t kitlubas_snake(size_t at, uint8_t *buf, size_t buf_len, const uint8_t *name, size_t name_len);
-//     size_t kitlubas_default_name(size_t at, uint8_t *buf, size_t buf_len, const uint8_t *name, size_t name_len);
-//     size_t kitlubas_module_name(size_t at, uint8_t *buf, size_t buf_len, const uint8_t *name, size_t name_len);
-//     uint64_t kitlubas_admit(const uint8_t *s, size_t s_len, size_t *line);
-//     uint64_t kitlubas_answer(const uint8_t *s, size_t s_len, uint64_t id, uint64_t place, uint64_t request, uint64_t leaf,
-//                              size_t *fill, size_t *line, uint8_t *buf, size_t buf_len);
+// The static library's boundary, for C, Rust and the comparison with capnpc; kitlubas.h declares it.
 //
 // The writers put their text at the fill count `at` and answer the new one. Bytes past the end of the buffer are counted and
-// not written. What is not taken writes nothing and answers 18446744073709551615.
+// not written. What is not taken writes nothing and answers 18446744073709551615, the largest count.
+mod index;
+
+pub use index::kitlubas_answer_in;
+pub use index::kitlubas_field;
+pub use index::kitlubas_index;
+pub use index::kitlubas_index_size;
+pub use index::kitlubas_node;
+pub use index::kitlubas_text_at;
 use requests::Accessor;
+use requests::Answer;
 use requests::Request;
-use sheet::Answer;
 use text::Text;
 ghost use Rattle.tree.specs.Read.{admitted};
 ghost use Rattle.names.specs.Names.{camelToSnakeCase, defaultName, moduleName};
 ghost use Rattle.text.specs.Decimal.{decimal};
 ghost use Rattle.text.specs.Lines.{Line, BlankLine, Branch, none, toLines, stringify, ended};
-ghost use Rattle.requests.specs.declared.Accessor.the-variants.{Getter, Haser};
-ghost use Rattle.requests.specs.declared.Request.the-variants.{Field};
-ghost use Rattle.exports.specs.Boundary.{Filled, Named, Signed, Told, Asked, ask, requestOf};
+ghost use Rattle.requests.specs.Told.{inNumbers};
+ghost use Rattle.exports.specs.Boundary.{Fills, FillsName, Signed, Told, Asked, ask, Said, accessorOf, requestOf};
 ghost use mathlib.Core.Path.{_≡_};
 
 // The number in decimal.
 #[no_mangle]
 pub extern "C" fn kitlubas_number(at: usize, buf: &mut [u8], n: u64) -> usize
-    ensures { λ r. ⌜ Filled (now (buf .entry)) at (decimal n) (now (buf .exit)) r ⌝ }
+    ensures { λ r. ⌜ Fills (now (buf .entry)) at (decimal n) (now (buf .exit)) r ⌝ }
 {
     let t = Text::at(at).number(buf, n);
     t.fill()
@@ -47,14 +42,14 @@ pub extern "C" fn kitlubas_signed(at: usize, buf: &mut [u8], width: u32, n: u64)
         16 => t.signed(buf, 0x8000, n % 0x1_0000).fill(),
         32 => t.signed(buf, 0x8000_0000, n % 0x1_0000_0000).fill(),
         64 => t.signed(buf, 0x8000_0000_0000_0000, n).fill(),
-        _ => 18446744073709551615,
+        _ => usize::MAX,
     }
 }
 
 // A line at a level of indentation; an empty line; what `stringify` makes of no lines.
 #[no_mangle]
 pub extern "C" fn kitlubas_line(at: usize, buf: &mut [u8], indent: usize, line: &[u8]) -> usize
-    ensures { λ r. ⌜ Filled (now (buf .entry)) at (ended (toLines (Line (now (line .entry))) indent)) (now (buf .exit)) r ⌝ }
+    ensures { λ r. ⌜ Fills (now (buf .entry)) at (ended (toLines (Line (now (line .entry))) indent)) (now (buf .exit)) r ⌝ }
 {
     let t = Text::at(at).line(buf, indent, line);
     t.fill()
@@ -62,7 +57,7 @@ pub extern "C" fn kitlubas_line(at: usize, buf: &mut [u8], indent: usize, line: 
 
 #[no_mangle]
 pub extern "C" fn kitlubas_blank_line(at: usize, buf: &mut [u8]) -> usize
-    ensures { λ r. ⌜ Filled (now (buf .entry)) at (ended (toLines BlankLine 0)) (now (buf .exit)) r ⌝ }
+    ensures { λ r. ⌜ Fills (now (buf .entry)) at (ended (toLines BlankLine 0)) (now (buf .exit)) r ⌝ }
 {
     let t = Text::at(at).blank_line(buf);
     t.fill()
@@ -70,7 +65,7 @@ pub extern "C" fn kitlubas_blank_line(at: usize, buf: &mut [u8]) -> usize
 
 #[no_mangle]
 pub extern "C" fn kitlubas_no_lines(at: usize, buf: &mut [u8]) -> usize
-    ensures { λ r. ⌜ Filled (now (buf .entry)) at (stringify (Branch none)) (now (buf .exit)) r ⌝ }
+    ensures { λ r. ⌜ Fills (now (buf .entry)) at (stringify (Branch none)) (now (buf .exit)) r ⌝ }
 {
     let t = Text::at(at).no_lines(buf);
     t.fill()
@@ -80,10 +75,10 @@ pub extern "C" fn kitlubas_no_lines(at: usize, buf: &mut [u8]) -> usize
 // at most 64 bytes, all of them ASCII.
 #[no_mangle]
 pub extern "C" fn kitlubas_snake(at: usize, buf: &mut [u8], name: &[u8]) -> usize
-    ensures { λ r. ⌜ Named (now (buf .entry)) at camelToSnakeCase (now (name .entry)) (now (buf .exit)) r ⌝ }
+    ensures { λ r. ⌜ FillsName (now (buf .entry)) at camelToSnakeCase (now (name .entry)) (now (buf .exit)) r ⌝ }
 {
     if !names::takes(name) {
-        return 18446744073709551615;
+        return usize::MAX;
     }
     let t = names::snake_name(Text::at(at), buf, name);
     t.fill()
@@ -91,10 +86,10 @@ pub extern "C" fn kitlubas_snake(at: usize, buf: &mut [u8], name: &[u8]) -> usiz
 
 #[no_mangle]
 pub extern "C" fn kitlubas_default_name(at: usize, buf: &mut [u8], name: &[u8]) -> usize
-    ensures { λ r. ⌜ Named (now (buf .entry)) at defaultName (now (name .entry)) (now (buf .exit)) r ⌝ }
+    ensures { λ r. ⌜ FillsName (now (buf .entry)) at defaultName (now (name .entry)) (now (buf .exit)) r ⌝ }
 {
     if !names::takes(name) {
-        return 18446744073709551615;
+        return usize::MAX;
     }
     let t = names::default_name(Text::at(at), buf, name);
     t.fill()
@@ -102,10 +97,10 @@ pub extern "C" fn kitlubas_default_name(at: usize, buf: &mut [u8], name: &[u8]) 
 
 #[no_mangle]
 pub extern "C" fn kitlubas_module_name(at: usize, buf: &mut [u8], name: &[u8]) -> usize
-    ensures { λ r. ⌜ Named (now (buf .entry)) at moduleName (now (name .entry)) (now (buf .exit)) r ⌝ }
+    ensures { λ r. ⌜ FillsName (now (buf .entry)) at moduleName (now (name .entry)) (now (buf .exit)) r ⌝ }
 {
     if !names::takes(name) {
-        return 18446744073709551615;
+        return usize::MAX;
     }
     let t = names::module_name(Text::at(at), buf, name);
     t.fill()
@@ -117,38 +112,20 @@ pub extern "C" fn kitlubas_admit(s: &[u8], line: &mut usize) -> u64
     ensures { λ r. ⌜ Told (admitted (now (s .entry))) r (now (line .exit)) ⌝ }
 {
     let mut none = [0u64; 0];
-    match sheet::admit(s, &mut none) {
-        Answer::Sheet => {
-            *line = 0;
-            0
-        }
-        Answer::Refused { number, line: at } => {
-            *line = at;
-            number
-        }
-    }
+    kitlubas_index(s, &mut none, line)
 }
 
-// The answer to a request: 0 with `fill` moved past the text, or the number of its refusal; `line` becomes the refusal's line.
-fn ask(
-    s: &[u8],
-    id: u64,
-    request: Request,
-    fill: &mut usize,
-    line: &mut usize,
-    buf: &mut [u8],
-) -> u64
-    ensures { λ r. ⌜ Asked (now (buf .entry)) (now (fill .entry)) (ask (admitted (now (s .entry))) id request)
-        (now (buf .exit)) (now (fill .exit)) r (now (line .exit)) ⌝ }
+// Says an answer: 0 with `fill` moved past the text, or the number of its refusal; `line` becomes the refusal's line.
+fn say(answer: Answer, fill: &mut usize, line: &mut usize) -> u64
+    ensures { λ r. ⌜ Said (inNumbers answer) (now (fill .entry)) (now (fill .exit)) r (now (line .exit)) ⌝ }
 {
-    let answer = requests::answer_request(s, id, request, Text::at(*fill), buf);
     match answer {
-        requests::Answer::Done(t) => {
+        Answer::Done(t) => {
             *fill = t.fill();
             *line = 0;
             0
         }
-        requests::Answer::Refused {
+        Answer::Refused {
             number,
             line: at_line,
         } => {
@@ -158,47 +135,44 @@ fn ask(
     }
 }
 
-// The request for an accessor of the field at a place.
-fn field(place: u64, accessor: Accessor) -> Request
-    ensures { λ r. ⌜ r ≡ Field place accessor ⌝ }
+// The text of a field with a number: 0 is its type's text for a leaf, 1 and 2 are the getters of reader and builder, 3 and 4 the
+// same as functions, 5 is the setter, 6 and 7 are the hasers of reader and builder, 8 is the zeroing. Any other number asks for a
+// leaf that there is not.
+fn accessor_of(number: u64, leaf: u64) -> Accessor
+    ensures { λ r. ⌜ r ≡ accessorOf number leaf ⌝ }
 {
-    Request::Field { place, accessor }
+    match number {
+        0 => Accessor::TypeText { leaf },
+        1 => Accessor::Getter {
+            is_reader: true,
+            is_fn: false,
+        },
+        2 => Accessor::Getter {
+            is_reader: false,
+            is_fn: false,
+        },
+        3 => Accessor::Getter {
+            is_reader: true,
+            is_fn: true,
+        },
+        4 => Accessor::Getter {
+            is_reader: false,
+            is_fn: true,
+        },
+        5 => Accessor::Setter,
+        6 => Accessor::Haser { is_reader: true },
+        7 => Accessor::Haser { is_reader: false },
+        8 => Accessor::Zeroing,
+        _ => Accessor::TypeText { leaf: u64::MAX },
+    }
 }
 
-// The request for a getter, of the reader or the builder, as a function or not; and for a haser.
-fn getter(place: u64, is_reader: bool, is_fn: bool) -> Request
-    ensures { λ r. ⌜ r ≡ Field place (Getter «is_reader» «is_fn») ⌝ }
-{
-    field(place, Accessor::Getter { is_reader, is_fn })
-}
-
-fn haser(place: u64, is_reader: bool) -> Request
-    ensures { λ r. ⌜ r ≡ Field place (Haser «is_reader») ⌝ }
-{
-    field(place, Accessor::Haser { is_reader })
-}
-
-// The request with a number: 0 is a type's text at a leaf, 1 and 2 are the getters of reader and builder, 3 and 4 the same as
-// functions, 5 is the setter, 6 and 7 are the hasers of reader and builder, 8 is the zeroing. Any other number asks for a leaf
-// that there is not.
+// The request for that text of the field at a place.
 fn request_of(number: u64, place: u64, leaf: u64) -> Request
     ensures { λ r. ⌜ r ≡ requestOf number place leaf ⌝ }
 {
-    match number {
-        0 => Request::TypeText { place, leaf },
-        1 => getter(place, true, false),
-        2 => getter(place, false, false),
-        3 => getter(place, true, true),
-        4 => getter(place, false, true),
-        5 => field(place, Accessor::Setter),
-        6 => haser(place, true),
-        7 => haser(place, false),
-        8 => field(place, Accessor::Zeroing),
-        _ => Request::TypeText {
-            place,
-            leaf: 18446744073709551615,
-        },
-    }
+    let accessor = accessor_of(number, leaf);
+    Request { place, accessor }
 }
 
 // The answer to the request with a number.
@@ -217,5 +191,7 @@ pub extern "C" fn kitlubas_answer(
         (ask (admitted (now (s .entry))) id (requestOf request place leaf))
         (now (buf .exit)) (now (fill .exit)) r (now (line .exit)) ⌝ }
 {
-    ask(s, id, request_of(request, place, leaf), fill, line, buf)
+    let asked = request_of(request, place, leaf);
+    let answer = requests::answer_request(s, id, asked, Text::at(*fill), buf);
+    say(answer, fill, line)
 }

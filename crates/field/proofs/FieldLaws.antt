@@ -19,7 +19,7 @@ use Rattle.tree.specs.Tree as tree
 use Rattle.tree.specs.Tree.{slot, group}
 use Rattle.tree.specs.Reader.{Rows, Reading, got, no, _then_}
 use Rattle.tree.specs.Read as read
-use Rattle.tree.specs.Read.{slotOf, fieldOf, isField}
+use Rattle.tree.specs.Read.{readSlot, readField, isField}
 use Rattle.tree.specs.Fields as fields
 use Rattle.tree.specs.Fields.{FieldsHere}
 use Rattle.tree.proofs.OtherLines.{never, not-a-field}
@@ -34,11 +34,11 @@ use Rattle.field.proofs.SlotLaws.{row-fewer}
 use Rattle.field.proofs.TypeLaws.{rest-fewer}
 
 -- where no field stands, none is read
-field-none : (rs : Rows) → isField (lineAt rs) ≡ false → fieldOf rs ≡ no 2 rs
-unfolding fieldOf
+field-none : (rs : Rows) → isField (lineAt rs) ≡ false → readField rs ≡ no 2 rs
+unfolding readField
 field-none rs h = go (lineAt rs) refl h
   where
-    go : (l : Line) → lineAt rs ≡ l → isField l ≡ false → fieldOf rs ≡ no 2 rs
+    go : (l : Line) → lineAt rs ≡ l → isField l ≡ false → readField rs ≡ no 2 rs
     go line.Root e h = rw (e, e)
     go (line.Node a b c d x f g) e h = rw (e, e)
     go line.Parameter e h = rw (e, e)
@@ -59,17 +59,17 @@ module _ (s : Str) (at next : ℕ) (l : Line) (here : l ≡ lineAt (rows (drop a
 
   -- an F row
   module _ (o d e p : ℕ) (is : l ≡ line.Field o d e p) where
-    of-slot : fieldOf rs ≡ (slotOf o e p (rows (drop next s)) then λ sl. got (read.field (textAt rs) d (slot sl)))
-    unfolding fieldOf
+    of-slot : readField rs ≡ (readSlot o e p (rows (drop next s)) then λ sl. got (read.field (textAt rs) d (slot sl)))
+    unfolding readField
     of-slot = rw (← here, is, ← after)
 
     pub first-slot :
-        (r : Field) → Gets (slotOf o e p (rows (drop next s))) (SlotRead s r at d) → (fs : List tree.Field)
+        (r : Field) → Gets (readSlot o e p (rows (drop next s))) (SlotRead s r at d) → (fs : List tree.Field)
         → FieldsHere rs fs → ReadsFirst s r fs
     first-slot r h [] (fields.none x) =
         let i : isField (lineAt rs) ≡ true = rw (← here, is) refl in never cc
     first-slot r h (f ∷ fs) (fields.more {rest = rest} x y) =
-        go (slotOf o e p (rows (drop next s))) h (sym of-slot ∙ x)
+        go (readSlot o e p (rows (drop next s))) h (sym of-slot ∙ x)
       where
         go : (g : Reading tree.Slot) → Gets g (SlotRead s r at d)
             → (g then λ sl. got (read.field (textAt rs) d (slot sl))) ≡ got f rest → ReadsFirst s r (f ∷ fs)
@@ -89,8 +89,8 @@ module _ (s : Str) (at next : ℕ) (l : Line) (here : l ≡ lineAt (rows (drop a
     abbrev here-group : Field
     here-group = field.Group (record { id = i; discriminant = d; at = at; next = next })
 
-    of-group : fieldOf rs ≡ got (read.field (textAt rs) d (group i)) (rows (drop next s))
-    unfolding fieldOf
+    of-group : readField rs ≡ got (read.field (textAt rs) d (group i)) (rows (drop next s))
+    unfolding readField
     of-group = rw (← here, is, ← here, is, ← after)
 
     pub first-group : (fs : List tree.Field) → FieldsHere rs fs → ReadsFirst s here-group fs
@@ -109,7 +109,7 @@ module _ (s : Str) (at next : ℕ) (l : Line) (here : l ≡ lineAt (rows (drop a
       → FieldsHere rs fs → ReadsFirst s field.Nothing fs
   first-none other [] (fields.none x) = refl
   first-none other (f ∷ fs) (fields.more {rest = rest} x y) =
-      let e : fieldOf rs ≡ no 2 rs = field-none rs (rw (← here) (not-a-field l other)) in never cc
+      let e : readField rs ≡ no 2 rs = field-none rs (rw (← here) (not-a-field l other)) in never cc
 
 -- ---- by place
 

@@ -17,7 +17,7 @@ use Rattle.row.proofs.Line.{the-type}
 use Rattle.tree.specs.Tree as tree
 use Rattle.tree.specs.Tree.{Ty, Value}
 use Rattle.tree.specs.Reader.{Rows, Reading, Reader, got, no, _then_, mapR}
-use Rattle.tree.specs.Read.{typeOf, hasWords, valueOf, wordsUpTo, wordsOf, slotOf}
+use Rattle.tree.specs.Read.{readType, hasWords, valueOf, readWordsUpTo, readWords, readSlot}
 use Rattle.tree.proofs.OtherLines.{never, not-value}
 use Rattle.field.specs.Field.{Fewer}
 use Rattle.field.specs.Parts.{Gets, TypeIs, mostWords, SlotRead}
@@ -32,26 +32,26 @@ gets-got P g a q h e = rw e at h
 -- the slot that is read, by its type, its default and its words
 slot-gets : (o e p : ℕ) (rs : Rows) (P : tree.Slot → Rows → Type 0)
     → ((ty : Ty) (q : Rows) (v : Value) (w : Rows) (ws : List ℕ) (z : Rows)
-    → typeOf 16 rs ≡ got ty q → valueOf q ≡ got v w → wordsOf (hasWords e (v .kind)) w ≡ got ws z
+    → readType 16 rs ≡ got ty q → valueOf q ≡ got v w → readWords (hasWords e (v .kind)) w ≡ got ws z
     → P (record { offset = o; explicit = e; option = p; ty = ty; default = v; words = ws }) z)
-    → Gets (slotOf o e p rs) P
-unfolding slotOf
-slot-gets o e p rs P f = types (typeOf 16 rs) refl
+    → Gets (readSlot o e p rs) P
+unfolding readSlot
+slot-gets o e p rs P f = types (readType 16 rs) refl
   where
-    words : (ty : Ty) (q : Rows) (v : Value) (w : Rows) → typeOf 16 rs ≡ got ty q → valueOf q ≡ got v w
-        → (g : Reading (List ℕ)) → wordsOf (hasWords e (v .kind)) w ≡ g
+    words : (ty : Ty) (q : Rows) (v : Value) (w : Rows) → readType 16 rs ≡ got ty q → valueOf q ≡ got v w
+        → (g : Reading (List ℕ)) → readWords (hasWords e (v .kind)) w ≡ g
         → Gets (g then λ ws. got (record { offset = o; explicit = e; option = p; ty = ty; default = v; words = ws })) P
     words ty q v w et ev (got ws z) ew = f ty q v w ws z et ev ew
     words ty q v w et ev (no k z) ew = tt
 
-    values : (ty : Ty) (q : Rows) → typeOf 16 rs ≡ got ty q → (g : Reading Value) → valueOf q ≡ g
-        → Gets (g then λ v rs. wordsOf (hasWords e (v .kind)) rs then λ ws.
+    values : (ty : Ty) (q : Rows) → readType 16 rs ≡ got ty q → (g : Reading Value) → valueOf q ≡ g
+        → Gets (g then λ v rs. readWords (hasWords e (v .kind)) rs then λ ws.
         got (record { offset = o; explicit = e; option = p; ty = ty; default = v; words = ws })) P
-    values ty q et (got v w) ev = words ty q v w et ev (wordsOf (hasWords e (v .kind)) w) refl
+    values ty q et (got v w) ev = words ty q v w et ev (readWords (hasWords e (v .kind)) w) refl
     values ty q et (no k w) ev = tt
 
-    types : (g : Reading Ty) → typeOf 16 rs ≡ g
-        → Gets (g then λ t rs. valueOf rs then λ v rs. wordsOf (hasWords e (v .kind)) rs then λ ws.
+    types : (g : Reading Ty) → readType 16 rs ≡ g
+        → Gets (g then λ t rs. valueOf rs then λ v rs. readWords (hasWords e (v .kind)) rs then λ ws.
         got (record { offset = o; explicit = e; option = p; ty = t; default = v; words = ws })) P
     types (got ty q) et = values ty q et (valueOf q) refl
     types (no k q) et = tt
@@ -63,29 +63,29 @@ row-fewer [] rest l here after h = absurd (h here)
 row-fewer (r ∷ rs) rest l here after h = rw after (omega arith)
 
 -- the type t that stands at a position, and the line l of the row after it
-module _ (s : Str) (typ : ℕ) (t : TypeRow) (type-is : Gets (typeOf 16 (rows (drop typ s))) (TypeIs s t)) (l : Line)
+module _ (s : Str) (typ : ℕ) (t : TypeRow) (type-is : Gets (readType 16 (rows (drop typ s))) (TypeIs s t)) (l : Line)
     (here : l ≡ lineAt (rows (drop (t .past) s))) where
   -- no V row
   pub slot-no-value :
       (o e p : ℕ) (P : tree.Slot → Rows → Type 0)
-      → OneOf (0 ∷ 1 ∷ 2 ∷ 3 ∷ 4 ∷ 5 ∷ 6 ∷ 7 ∷ 9 ∷ 10 ∷ []) (tagOf the-type l) → Gets (slotOf o e p (rows (drop typ s))) P
+      → OneOf (0 ∷ 1 ∷ 2 ∷ 3 ∷ 4 ∷ 5 ∷ 6 ∷ 7 ∷ 9 ∷ 10 ∷ []) (tagOf the-type l) → Gets (readSlot o e p (rows (drop typ s))) P
   unfolding valueOf
   slot-no-value o e p P other =
       slot-gets o e p (rows (drop typ s)) P (λ ty q v w ws z et ev ew. absurd (none ty q v w et ev))
     where
-      none : (ty : Ty) (q : Rows) (v : Value) (w : Rows) → typeOf 16 (rows (drop typ s)) ≡ got ty q → valueOf q ≡ got v w → ⊥
+      none : (ty : Ty) (q : Rows) (v : Value) (w : Rows) → readType 16 (rows (drop typ s)) ≡ got ty q → valueOf q ≡ got v w → ⊥
       none ty q v w et ev =
           let at : rows (drop (t .past) s) ≡ q = gets-got _ _ ty q type-is et .past in
           let n : valueOf q ≡ no 2 q = rw (← at, ← here, not-value {A = Reader _} l _ _ other) refl in
           never cc
 
 -- a slot by value, whose type t, V row l and words these are
-module _ (s : Str) (r : Slot) (t : TypeRow) (type-is : Gets (typeOf 16 (rows (drop (r .typ) s))) (TypeIs s t))
+module _ (s : Str) (r : Slot) (t : TypeRow) (type-is : Gets (readType 16 (rows (drop (r .typ) s))) (TypeIs s t))
     (kind : r .kind ≡ t .kind) (id : r .id ≡ t .id) (l : Line) (here : l ≡ lineAt (rows (drop (t .past) s)))
     (after : rows (drop (r .words) s) ≡ restOf (rows (drop (t .past) s))) (is : l ≡ line.Value (r .default) (r .bits))
     (has : Bool) (has-is : has ≡ hasWords (r .explicit) (r .default))
     (counted : got (r .count) (rows (drop (r .next) s))
-    ≡ mapR length (wordsUpTo (mostWords has)) (rows (drop (r .words) s))) where
+    ≡ mapR length (readWordsUpTo (mostWords has)) (rows (drop (r .words) s))) where
   value-is : (q : Rows) (v : Value) (w : Rows) → rows (drop (t .past) s) ≡ q → valueOf q ≡ got v w
       → (v ≡ record { kind = r .default; bits = r .bits }) × (w ≡ rows (drop (r .words) s))
   unfolding valueOf
@@ -95,19 +95,19 @@ module _ (s : Str) (r : Slot) (t : TypeRow) (type-is : Gets (typeOf 16 (rows (dr
       (cc, w-is ∙ sym (rw e at after))
 
   slot-here : rows (drop (r .typ) s) ≡ restOf (rows (drop (r .at) s))
-      → Gets (slotOf (r .offset) (r .explicit) (r .option) (rows (drop (r .typ) s)))
+      → Gets (readSlot (r .offset) (r .explicit) (r .option) (rows (drop (r .typ) s)))
       (SlotRead s (field.Slot r) (r .at) (r .discriminant))
   slot-here next = slot-gets (r .offset) (r .explicit) (r .option) (rows (drop (r .typ) s)) _ found
     where
       found : (ty : Ty) (q : Rows) (v : Value) (w : Rows) (ws : List ℕ) (z : Rows)
-          → typeOf 16 (rows (drop (r .typ) s)) ≡ got ty q → valueOf q ≡ got v w
-          → wordsOf (hasWords (r .explicit) (v .kind)) w ≡ got ws z
+          → readType 16 (rows (drop (r .typ) s)) ≡ got ty q → valueOf q ≡ got v w
+          → readWords (hasWords (r .explicit) (v .kind)) w ≡ got ws z
           → SlotRead s (field.Slot r) (r .at) (r .discriminant)
           (record { offset = r .offset; explicit = r .explicit; option = r .option; ty = ty; default = v; words = ws }) z
       found ty q v w ws z et ev ew =
           let typ = gets-got _ _ ty q type-is et in
           let default = value-is q v w (typ .past) ev in
-          let words : wordsOf has (rows (drop (r .words) s)) ≡ got ws z =
+          let words : readWords has (rows (drop (r .words) s)) ≡ got ws z =
           rw (has-is, ← ap (λ (y : Value). y .kind) (default .0), ← (default .1)) ew in
           let all = words-counted has (rows (drop (r .words) s)) ws z (r .count) (rows (drop (r .next) s)) words counted in (
             record {
@@ -138,7 +138,7 @@ module _ (s : Str) (r : Slot) (t : TypeRow) (type-is : Gets (typeOf 16 (rows (dr
 
   pub slot-told : length (rows (drop (t .past) s)) ≤ length (rows (drop (r .typ) s))
       → (rows (drop (r .typ) s) ≡ restOf (rows (drop (r .at) s))
-      → Gets (slotOf (r .offset) (r .explicit) (r .option) (rows (drop (r .typ) s)))
+      → Gets (readSlot (r .offset) (r .explicit) (r .option) (rows (drop (r .typ) s)))
       (SlotRead s (field.Slot r) (r .at) (r .discriminant)))
       × Fewer s (r .typ) (field.Slot r)
   slot-told h = (slot-here, slot-fewer h)

@@ -21,12 +21,12 @@ use Rattle.tree.specs.Tree as tree
 use Rattle.tree.specs.Tree.{Ty, plain, list, enum, struct, interface, anyPointer, parameter, Scopes, end}
 use Rattle.tree.specs.Reader.{Rows, Reading, Reader, got, no, mapR, times}
 use Rattle.tree.specs.Read as read
-use Rattle.tree.specs.Read.{typeOf, typeFrom, branded}
+use Rattle.tree.specs.Read.{readType, typeFrom, branded}
 use Rattle.tree.specs.Index.{On}
 use Rattle.tree.proofs.OtherLines.{not-type}
-use Rattle.find.specs.Find.{After, kindAt, owed, pastRows}
-use Rattle.find.proofs.Laws.{as-type, on-map, on-all, past-type, past-next, past-none}
-use Rattle.find.proofs.TypeLaws.{type-kind}
+use Rattle.types.specs.Find.{After, kindAt, owed, pastRows}
+use Rattle.types.proofs.Laws.{as-type, on-map, on-all, past-type, past-next, past-none}
+use Rattle.types.proofs.TypeLaws.{type-kind}
 use Rattle.field.specs.Slot.{HasId}
 use Rattle.field.specs.Parts.{Gets, TypeIs}
 use Rattle.field.specs.declared.TypeRow.{TypeRow}
@@ -44,30 +44,30 @@ branded-id k a ss = go (eqb k 15) (eqb k 16)
     go false true = tt
     go false false = tt
 
-type-id : (left : ℕ) (rs : Rows) → On (typeOf left rs) (λ ty. HasId ty (idAt rs))
-unfolding typeOf typeFrom
+type-id : (left : ℕ) (rs : Rows) → On (readType left rs) (λ ty. HasId ty (idAt rs))
+unfolding readType typeFrom
 type-id zero rs = as-type (λ (f : Reader Ty). On (f rs) (λ ty. HasId ty (idAt rs))) (lineAt rs) _ _ (λ k a b c e. tt) tt
 type-id (suc n) rs =
     as-type (λ (f : Reader Ty). On (f rs) (λ ty. HasId ty (idAt rs))) (lineAt rs) _ _
     (λ k a b c e. rw e (go k a b c (ltb k 14) (eqb k 14) (ltb k 18) (eqb a 0) refl refl (restOf rs))) tt
   where
     go : (k a b c : ℕ) (x y z w : Bool) → ltb k 14 ≡ x → eqb a 0 ≡ w → (q : Rows)
-        → On (cond x (got (plain k)) (cond y (mapR (λ t. list t) (typeOf n)) (cond z
-        (mapR (branded k a) (times (read.scopeOf (typeOf n)) end b)) (got (cond w anyPointer (parameter b c))))) q)
+        → On (cond x (got (plain k)) (cond y (mapR (λ t. list t) (readType n)) (cond z
+        (mapR (branded k a) (times (read.readScope (readType n)) end b)) (got (cond w anyPointer (parameter b c))))) q)
         (λ ty. HasId ty a)
     go k a b c true y z w f e q = ltb-true k 14 f
     go k a b c false true z w f e q =
-        on-map (λ t. list t) (λ ty. HasId ty a) (typeOf n q) (on-all {P = λ t. HasId (list t) a} (λ t. tt) (typeOf n q))
+        on-map (λ t. list t) (λ ty. HasId ty a) (readType n q) (on-all {P = λ t. HasId (list t) a} (λ t. tt) (readType n q))
     go k a b c false false true w f e q =
-        on-map (branded k a) (λ ty. HasId ty a) (times (read.scopeOf (typeOf n)) end b q)
-        (on-all {P = λ ss. HasId (branded k a ss) a} (branded-id k a) (times (read.scopeOf (typeOf n)) end b q))
+        on-map (branded k a) (λ ty. HasId ty a) (times (read.readScope (readType n)) end b q)
+        (on-all {P = λ ss. HasId (branded k a ss) a} (branded-id k a) (times (read.readScope (readType n)) end b q))
     go k a b c false false false true f e q = eqb-true a 0 e
     go k a b c false false false false f e q = eqb-false a 0 e
 
 -- the type that is read, by its row
 type-gets : (s : Str) (r : TypeRow) (rs : Rows) → r .kind ≡ kindAt rs → r .id ≡ idAt rs → rows (drop (r .past) s) ≡ pastRows rs 1
-    → Gets (typeOf 16 rs) (TypeIs s r)
-type-gets s r rs k i p = go (typeOf 16 rs) (type-kind 16 rs) (type-id 16 rs) (past-type 16 rs)
+    → Gets (readType 16 rs) (TypeIs s r)
+type-gets s r rs k i p = go (readType 16 rs) (type-kind 16 rs) (type-id 16 rs) (past-type 16 rs)
   where
     go : (g : Reading Ty) → On g (λ ty. tree.kind ty ≡ kindAt rs) → On g (λ ty. HasId ty (idAt rs))
         → After g (λ rest. pastRows rs 1 ≡ rest) → Gets g (TypeIs s r)
@@ -92,8 +92,8 @@ nested-fewer rs rest q n e f =
 
 -- the row l that stands first, and the rows after it
 module _ (s : Str) (r : TypeRow) (rs rest : Rows) (l : Line) (here : l ≡ lineAt rs) (after : rest ≡ restOf rs) where
-  pub type-other : OneOf (0 ∷ 1 ∷ 2 ∷ 3 ∷ 4 ∷ 6 ∷ 7 ∷ 8 ∷ 9 ∷ 10 ∷ []) (tagOf the-type l) → Gets (typeOf 16 rs) (TypeIs s r)
-  unfolding typeOf
+  pub type-other : OneOf (0 ∷ 1 ∷ 2 ∷ 3 ∷ 4 ∷ 6 ∷ 7 ∷ 8 ∷ 9 ∷ 10 ∷ []) (tagOf the-type l) → Gets (readType 16 rs) (TypeIs s r)
+  unfolding readType
   type-other other = rw (← here, not-type {A = Reader _} l _ _ other) tt
 
   module _ (k a b c : ℕ) (is : l ≡ line.Typ k a b c) (id : r .id ≡ a) where
@@ -106,23 +106,23 @@ module _ (s : Str) (r : TypeRow) (rs rest : Rows) (l : Line) (here : l ≡ lineA
     below : k < 18 → r .kind ≡ k → r .kind ≡ kindAt rs
     below h e = e ∙ rw (← here, is, lt-ltb k 18 h) refl
 
-    pub type-plain : r .kind ≡ k → k < 14 → rows (drop (r .past) s) ≡ rest → Gets (typeOf 16 rs) (TypeIs s r)
+    pub type-plain : r .kind ≡ k → k < 14 → rows (drop (r .past) s) ≡ rest → Gets (readType 16 rs) (TypeIs s r)
     unfolding owed
     type-plain e h p =
         type-gets s r rs (below (omega arith) e) id-is (past-is (p ∙ rw (is, lt-ltb k 14 h) (sym (past-none rest))))
 
-    pub type-list : r .kind ≡ k → k ≡ 14 → rows (drop (r .past) s) ≡ pastRows rest 1 → Gets (typeOf 16 rs) (TypeIs s r)
+    pub type-list : r .kind ≡ k → k ≡ 14 → rows (drop (r .past) s) ≡ pastRows rest 1 → Gets (readType 16 rs) (TypeIs s r)
     unfolding owed
     type-list e h p =
         type-gets s r rs (below (omega arith) e) id-is (past-is (p ∙ rw (is, le-ltb k 14 (omega arith), eq-eqb k 14 h) refl))
 
     pub type-brand : r .kind ≡ k → 14 ≤ k → (k ≡ 14 → ⊥) → k < 18 → rows (drop (r .past) s) ≡ pastRows rest b
-        → Gets (typeOf 16 rs) (TypeIs s r)
+        → Gets (readType 16 rs) (TypeIs s r)
     unfolding owed
     type-brand e h n u p =
         type-gets s r rs (below u e) id-is (past-is (p ∙ rw (is, le-ltb k 14 h, ne-eqb k 14 n, lt-ltb k 18 u) refl))
 
-    pub type-pointer : r .kind ≡ 18 → 18 ≤ k → rows (drop (r .past) s) ≡ rest → Gets (typeOf 16 rs) (TypeIs s r)
+    pub type-pointer : r .kind ≡ 18 → 18 ≤ k → rows (drop (r .past) s) ≡ rest → Gets (readType 16 rs) (TypeIs s r)
     unfolding owed
     type-pointer e h p =
         type-gets s r rs (e ∙ rw (← here, is, le-ltb k 18 h) refl) id-is

@@ -15,31 +15,31 @@ use Rattle.row.specs.declared.Line.{Line}
 use Rattle.row.specs.declared.Line.the-variants as line
 use Rattle.row.proofs.Line.{the-type}
 use Rattle.tree.specs.Reader.{Rows, Reading, Reader, got, no, _then_, mapR}
-use Rattle.tree.specs.Read.{wordsUpTo, wordsOf}
+use Rattle.tree.specs.Read.{readWordsUpTo, readWords}
 use Rattle.tree.proofs.OtherLines.{not-word, never}
 use Rattle.tree.proofs.SlotLaws.{words-more}
 use Rattle.field.specs.Parts.{Gets, mostWords}
 
 -- k words were counted, and at most 255 are
 unfoldable pub counting : ℕ → Reader ℕ
-counting k = mapR (λ ws. k + length ws) (wordsUpTo (255 - k))
+counting k = mapR (λ ws. k + length ws) (readWordsUpTo (255 - k))
 
-pub count-start : (any : Bool) (rs : Rows) → not any ≡ false → counting 0 rs ≡ mapR length (wordsUpTo (mostWords any)) rs
+pub count-start : (any : Bool) (rs : Rows) → not any ≡ false → counting 0 rs ≡ mapR length (readWordsUpTo (mostWords any)) rs
 unfolding counting
-count-start true rs e = go (wordsUpTo 255 rs)
+count-start true rs e = go (readWordsUpTo 255 rs)
   where
     go : (g : Reading (List ℕ)) → (g then λ ws. got (0 + length ws)) ≡ (g then λ ws. got (length ws))
     go (got ws q) = let e : 0 + length ws ≡ length ws = omega arith in rw e refl
     go (no k q) = refl
 count-start false rs e = never cc
 
-pub count-none : (any : Bool) (rs : Rows) → not any ≡ true → got 0 rs ≡ mapR length (wordsUpTo (mostWords any)) rs
-unfolding wordsUpTo
+pub count-none : (any : Bool) (rs : Rows) → not any ≡ true → got 0 rs ≡ mapR length (readWordsUpTo (mostWords any)) rs
+unfolding readWordsUpTo
 count-none true rs e = never cc
 count-none false rs e = refl
 
 pub count-full : (k : ℕ) (rs : Rows) → 255 ≤ k → counting k rs ≡ got k rs
-unfolding counting wordsUpTo
+unfolding counting readWordsUpTo
 count-full k rs h =
     let e : 255 - k ≡ 0 = omega arith in let f : k + 0 ≡ k = omega arith in rw e (ap (λ (n : ℕ). got n rs) f)
 
@@ -49,7 +49,7 @@ module _ (rs rest : Rows) (l : Line) (here : l ≡ lineAt rs) (after : rest ≡ 
   unfolding counting
   count-on k w h is =
       let e : 255 - k - 1 ≡ 255 - (k + 1) = omega arith in
-      rw (words-more (255 - k) rs (omega arith), ← here, is, ← after, e) (go (wordsUpTo (255 - (k + 1)) rest))
+      rw (words-more (255 - k) rs (omega arith), ← here, is, ← after, e) (go (readWordsUpTo (255 - (k + 1)) rest))
     where
       go : (g : Reading (List ℕ))
           → ((g then λ ws. got (w ∷ ws)) then λ ws. got (k + length ws)) ≡ (g then λ ws. got (k + 1 + length ws))
@@ -81,25 +81,25 @@ two R (line.Word w) y z y′ z′ f g = f w
 two R line.Bad y z y′ z′ f g = g
 
 -- where a slot has words, they are those up to 255
-words-whole : (has : Bool) (rs : Rows) (ws : List ℕ) (z : Rows) → wordsOf has rs ≡ got ws z
-    → wordsUpTo (mostWords has) rs ≡ got ws z
-unfolding wordsOf wordsUpTo
+words-whole : (has : Bool) (rs : Rows) (ws : List ℕ) (z : Rows) → readWords has rs ≡ got ws z
+    → readWordsUpTo (mostWords has) rs ≡ got ws z
+unfolding readWords readWordsUpTo
 words-whole false rs ws z e = e
 words-whole true rs ws z e =
     two (λ (f g : Reader (List ℕ)). f rs ≡ got ws z → g rs ≡ got ws z) (lineAt rs) _ _ _ _ (λ w e. e) (λ e. never cc) e
 
-pub words-counted : (has : Bool) (rs : Rows) (ws : List ℕ) (z : Rows) (k : ℕ) (q : Rows) → wordsOf has rs ≡ got ws z
-    → got k q ≡ mapR length (wordsUpTo (mostWords has)) rs → (k ≡ length ws) × (q ≡ z)
+pub words-counted : (has : Bool) (rs : Rows) (ws : List ℕ) (z : Rows) (k : ℕ) (q : Rows) → readWords has rs ≡ got ws z
+    → got k q ≡ mapR length (readWordsUpTo (mostWords has)) rs → (k ≡ length ws) × (q ≡ z)
 words-counted has rs ws z k q e h =
     let g : got k q ≡ got (length ws) z = rw (words-whole has rs ws z e) at h in (cc, cc)
 
 -- words leave no more rows
-words-fewer : (n : ℕ) (rs : Rows) → Gets (wordsUpTo n rs) (λ ws q. length q ≤ length rs)
-unfolding wordsUpTo restOf
+words-fewer : (n : ℕ) (rs : Rows) → Gets (readWordsUpTo n rs) (λ ws q. length q ≤ length rs)
+unfolding readWordsUpTo restOf
 words-fewer zero rs = omega arith
 words-fewer (suc n) [] =
     two (λ (f g : Reader (List ℕ)). Gets (f []) (λ ws q. length q ≤ length {A = Str} [])) (lineAt []) _ _ (λ w. got []) (got [])
-    (λ w. go w (wordsUpTo n []) (words-fewer n [])) (omega arith)
+    (λ w. go w (readWordsUpTo n []) (words-fewer n [])) (omega arith)
   where
     go : (w : ℕ) (g : Reading (List ℕ)) → Gets g (λ ws q. length q ≤ length {A = Str} [])
         → Gets (g then λ ws. got (w ∷ ws)) (λ ws q. length q ≤ length {A = Str} [])
@@ -108,15 +108,15 @@ words-fewer (suc n) [] =
 words-fewer (suc n) (r ∷ rs) =
     two (λ (f g : Reader (List ℕ)). Gets (f (r ∷ rs)) (λ ws q. length q ≤ length (r ∷ rs))) (lineAt (r ∷ rs)) _ _ (λ w. got [])
     (got [])
-    (λ w. go w (wordsUpTo n rs) (words-fewer n rs)) (omega arith)
+    (λ w. go w (readWordsUpTo n rs) (words-fewer n rs)) (omega arith)
   where
     go : (w : ℕ) (g : Reading (List ℕ)) → Gets g (λ ws q. length q ≤ length rs)
         → Gets (g then λ ws. got (w ∷ ws)) (λ ws q. length q ≤ length (r ∷ rs))
     go w (got ws q) h = omega arith
     go w (no k q) h = tt
 
-pub counted-fewer : (n : ℕ) (rs : Rows) (k : ℕ) (q : Rows) → got k q ≡ mapR length (wordsUpTo n) rs → length q ≤ length rs
-counted-fewer n rs k q h = go (wordsUpTo n rs) (words-fewer n rs) h
+pub counted-fewer : (n : ℕ) (rs : Rows) (k : ℕ) (q : Rows) → got k q ≡ mapR length (readWordsUpTo n) rs → length q ≤ length rs
+counted-fewer n rs k q h = go (readWordsUpTo n rs) (words-fewer n rs) h
   where
     go : (g : Reading (List ℕ)) → Gets g (λ ws q. length q ≤ length rs) → got k q ≡ (g then λ ws. got (length ws))
         → length q ≤ length rs

@@ -7,7 +7,7 @@ use Rattle.row.specs.Rows.{rows, restOf}
 use Rattle.row.specs.Line.{textAt}
 use Rattle.tree.specs.Tree as tree
 use Rattle.tree.specs.Tree.{Ty, plain, list, enum, struct, interface, anyPointer, parameter}
-use Rattle.tree.specs.Read.{typeOf, hasWords, wordsOf}
+use Rattle.tree.specs.Read.{readType, hasWords, readWords}
 use Rattle.tree.specs.Index.{Has}
 use Rattle.field.specs.declared.Slot.{Slot}
 
@@ -43,6 +43,6 @@ pub record SlotHere (s : Str) (r : Slot) (f : SlotField) : Type 0 where
   pub after : rows (drop (r .typ) s) ≡ restOf (rows (drop (r .at) s))
   pub discriminant : f .discriminant ≡ r .discriminant
   pub slot : SlotIs r (f .slot)
-  pub typ : Has (typeOf 16 (rows (drop (r .typ) s))) (λ ty. ty ≡ f .slot .ty)
-  pub words : Has (wordsOf (hasWords (r .explicit) (r .default)) (rows (drop (r .words) s))) (λ ws. ws ≡ f .slot .words)
+  pub typ : Has (readType 16 (rows (drop (r .typ) s))) (λ ty. ty ≡ f .slot .ty)
+  pub words : Has (readWords (hasWords (r .explicit) (r .default)) (rows (drop (r .words) s))) (λ ws. ws ≡ f .slot .words)
   pub count : r .count ≡ length (f .slot .words)

@@ -1,6 +1,7 @@
 // A field of the sheet by value, read once: what its F or G row says, its type's row and its V row, where its name, type and
 // words stand, and where the next field begins.
 use row::Line;
+use terms::kinds;
 ghost use mathlib.Core.Path.{_≡_};
 ghost use mathlib.Core.List.{List};
 ghost use Prim.Native.Nat.{ℕ, _≤_};
@@ -9,7 +10,7 @@ ghost use Rattle.text.specs.Bytes.{Str};
 ghost use Rattle.row.specs.Rows.{rows, restOf};
 ghost use Rattle.tree.specs.Tree as tree;
 ghost use Rattle.tree.specs.Reader.{got, mapR};
-ghost use Rattle.tree.specs.Read.{typeOf, wordsUpTo, slotOf};
+ghost use Rattle.tree.specs.Read.{readType, readWordsUpTo, readSlot};
 ghost use Rattle.tree.specs.Fields.{FieldsHere};
 ghost use Rattle.nodes.specs.Index.{nth};
 ghost use Rattle.field.specs.Slot.{SlotField, SlotHere};
@@ -78,35 +79,35 @@ struct TypeRow {
 
 // The type at a position: its row is read, and what is nested is passed over.
 fn type_row(s: &[u8], at: usize) -> TypeRow
-    ensures is { λ r. ⌜ Gets (typeOf 16 (rows (drop at (now (s .entry))))) (TypeIs (now (s .entry)) r) ⌝ }
+    ensures is { λ r. ⌜ Gets (readType 16 (rows (drop at (now (s .entry))))) (TypeIs (now (s .entry)) r) ⌝ }
     ensures fewer { λ r. ⌜ length (rows (drop (r .past) (now (s .entry)))) ≤ length (rows (drop at (now (s .entry)))) ⌝ }
 {
     let g = row::next(s, at);
     let line = g.line;
     let Line::Typ { kind, a, b, c: _ } = line else {
         return TypeRow {
-            kind: 0,
+            kind: kinds::VOID,
             id: 0,
             past: g.next,
         };
     };
-    if kind < 14 {
+    if kind < kinds::LIST {
         return TypeRow {
             kind,
             id: a,
             past: g.next,
         };
     }
-    if kind == 14 {
-        let past = find::past(s, g.next, 1);
+    if kind == kinds::LIST {
+        let past = types::past(s, g.next, 1);
         return TypeRow { kind, id: a, past };
     }
-    if kind < 18 {
-        let past = find::past(s, g.next, b);
+    if kind < kinds::ANY_POINTER {
+        let past = types::past(s, g.next, b);
         return TypeRow { kind, id: a, past };
     }
     TypeRow {
-        kind: 18,
+        kind: kinds::ANY_POINTER,
         id: a,
         past: g.next,
     }
@@ -121,7 +122,7 @@ struct Words {
 // The W rows at a position, up to 255, where there may be any.
 fn words_from(s: &[u8], from: usize, any: bool) -> Words
     ensures { λ r. ⌜ got (r .count) (rows (drop (r .next) (now (s .entry))))
-        ≡ mapR length (wordsUpTo (mostWords any)) (rows (drop from (now (s .entry)))) ⌝ }
+        ≡ mapR length (readWordsUpTo (mostWords any)) (rows (drop from (now (s .entry)))) ⌝ }
 {
     let mut next = from;
     let mut count: u64 = 0;
@@ -151,7 +152,7 @@ fn slot_from(
     option: u64,
 ) -> Field
     ensures is { λ r. ⌜ (rows (drop typ (now (s .entry))) ≡ restOf (rows (drop at (now (s .entry))))
-        → Gets (slotOf offset explicit option (rows (drop typ (now (s .entry)))))
+        → Gets (readSlot offset explicit option (rows (drop typ (now (s .entry)))))
         (SlotRead (now (s .entry)) r at discriminant)) ⌝ }
     ensures fewer { λ r. ⌜ Fewer (now (s .entry)) typ r ⌝ }
 {

@@ -15,7 +15,7 @@ use Rattle.text.proofs.Laws.{_⨾_}
 use Rattle.tree.specs.Tree as tree
 use Rattle.tree.specs.Tree.{Ty, plain, list, enum, struct, interface, anyPointer, parameter, kind, Scopes, Sheet}
 use Rattle.row.specs.Rows.{rows}
-use Rattle.tree.specs.Read.{typeOf}
+use Rattle.tree.specs.Read.{readType}
 use Rattle.tree.specs.Reader.{Reading}
 use Rattle.tree.specs.Index.{On}
 use Rattle.codegen_types.specs.Out.{Out, ok, refused, _then_, refusalOf}
@@ -29,7 +29,7 @@ use Rattle.codegen_types.specs.declared.Written.{Written}
 use Rattle.codegen_types.specs.declared.Refusal.the-variants.{None}
 use Rattle.codegen_types.proofs.Laws.{refusal-then}
 use Rattle.codegen_types.proofs.WrittenLaws.{whole, none, text-of, around}
-use Rattle.find.proofs.Laws.{on-one, on-has}
+use Rattle.types.proofs.Laws.{on-one, on-has}
 use Rattle.field.specs.Slot.{HasId, SlotIs, SlotField, SlotHere}
 use Rattle.field.specs.declared.Slot.{Slot}
 use Rattle.codegen.specs.Getter.{moduleLeaf, isOptionField, optional, resultType, asFunction}
@@ -384,7 +384,7 @@ module _ (sheet : Sheet) (isReader isFn : Bool) (bytes : Str) (r : Slot) (f : Sl
   out = resultOut sheet (f .slot) isReader isFn
 
   abbrev read : Reading Ty
-  read = typeOf 16 (rows (drop (r .typ) bytes))
+  read = readType 16 (rows (drop (r .typ) bytes))
 
   pub prim-here : {l l′ : List ℕ} {t t₁ : Text} {q : Written} → r .kind ≤ 11
       → Wrote l t (asFunction isFn (primitiveText (r .kind))) l′ t₁ → (q .text ≡ t₁) × (q .refusal ≡ None) → Writes out l t l′ q

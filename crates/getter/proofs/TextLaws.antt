@@ -16,7 +16,7 @@ use Rattle.names.specs.Names.{defaultName}
 use Rattle.row.specs.Rows.{rows}
 use Rattle.tree.specs.Tree as tree
 use Rattle.tree.specs.Tree.{kind, Sheet}
-use Rattle.tree.specs.Read.{hasWords, wordsOf}
+use Rattle.tree.specs.Read.{hasWords, readWords}
 use Rattle.tree.specs.Index.{Has}
 use Rattle.codegen_types.specs.Out.{Out, ok, refused, refusalOf}
 use Rattle.codegen_types.specs.TypeString.{typeString}
@@ -40,7 +40,7 @@ use Rattle.getter.proofs.ResultLaws.{at-plain, prim-text}
 
 module _ (bytes : Str) (r : Slot) (f : SlotField) (h : SlotHere bytes r f) where
   pub words-here : r .kind ≡ r .default → hasWords (r .explicit) (r .kind) ≡ true
-      → Has (wordsOf true (rows (drop (r .words) bytes))) (λ ws. ws ≡ f .slot .words)
+      → Has (readWords true (rows (drop (r .words) bytes))) (λ ws. ws ≡ f .slot .words)
   words-here k e = rw (← k, e) at (h .words)
 
   pub words-text : (root name : Str) → hasWords (r .explicit) (r .kind) ≡ true

@@ -4,6 +4,8 @@ use codegen_types::Lifetime;
 use codegen_types::Refusal;
 use codegen_types::Written;
 use field::Slot;
+use terms::kinds;
+use terms::refusals;
 use text::Text;
 ghost use mathlib.Core.Path.{_≡_};
 ghost use mathlib.Core.Bool.{Bool};
@@ -13,7 +15,7 @@ ghost use Rattle.text.specs.Bytes.{Str, both};
 ghost use Rattle.text.specs.Text.{Wrote};
 ghost use Rattle.row.specs.Rows.{rows};
 ghost use Rattle.tree.specs.Tree as tree;
-ghost use Rattle.tree.specs.Read.{typeOf};
+ghost use Rattle.tree.specs.Read.{readType};
 ghost use Rattle.tree.specs.Index.{On};
 ghost use Rattle.nodes.specs.Index.{ForAll};
 ghost use Rattle.codegen_types.specs.Out.{ok, _then_, refusalOf};
@@ -42,13 +44,13 @@ fn option_refusal(slot: Slot) -> Refusal
     if slot.option == 0 {
         return Refusal::None;
     }
-    if slot.kind == 17 {
-        return Refusal::Number(9);
+    if slot.kind == kinds::INTERFACE {
+        return Refusal::Number(refusals::OPTION_MISPLACED);
     }
     if codegen::is_pointer(slot.kind) {
         return Refusal::None;
     }
-    Refusal::Number(9)
+    Refusal::Number(refusals::OPTION_MISPLACED)
 }
 
 // What getter_fragment refuses: a default that is not of the slot's type.
@@ -59,7 +61,7 @@ fn default_refusal(slot: Slot) -> Refusal
     if slot.kind == slot.default {
         return Refusal::None;
     }
-    Refusal::Number(10)
+    Refusal::Number(refusals::GETTER_DEFAULT)
 }
 
 // The arrow in front of a function's result type.
@@ -76,7 +78,7 @@ fn arrow(is_fn: bool, t: Text, buf: &mut [u8]) -> Text
 fn prim_result(kind: u64, is_fn: bool, t: Text, buf: &mut [u8]) -> Text
     ensures { λ r. ⌜ Wrote (now (buf .entry)) t (asFunction «is_fn» (primitiveText kind)) (now (buf .exit)) r ⌝ }
 {
-    if kind == 0 {
+    if kind == kinds::VOID {
         if is_fn {
             return t;
         }
@@ -113,7 +115,7 @@ fn optional_type(
     buf: &mut [u8],
 ) -> Written
     ensures { λ r. ⌜ ForAll (now (root .entry)) (now (s .entry)) (now (index .entry)) (λ sheet.
-        On (typeOf 16 (rows (drop at (now (s .entry))))) (λ ty.
+        On (readType 16 (rows (drop at (now (s .entry))))) (λ ty.
         Writes (typeString ty sheet leaf then λ typ. ok (optional option typ)) (now (buf .entry)) t (now (buf .exit)) r)) ⌝ }
 {
     if option {
@@ -138,7 +140,7 @@ fn fallible_result(
     buf: &mut [u8],
 ) -> Written
     ensures { λ r. ⌜ ForAll (now (root .entry)) (now (s .entry)) (now (index .entry)) (λ sheet.
-        On (typeOf 16 (rows (drop at (now (s .entry))))) (λ ty.
+        On (readType 16 (rows (drop at (now (s .entry))))) (λ ty.
         Writes (typeString ty sheet leaf then λ typ. ok (fallibleResult (now (root .entry)) (optional option typ)))
         (now (buf .entry)) t (now (buf .exit)) r)) ⌝ }
 {
@@ -154,7 +156,7 @@ fn fallible_result(
 fn is_untyped(kind: u64, id: u64) -> bool
     ensures { λ r. ⌜ r ≡ both (eqb kind 18) (eqb id 0) ⌝ }
 {
-    if kind == 18 {
+    if kind == kinds::ANY_POINTER {
         return id == 0;
     }
     false
@@ -176,15 +178,15 @@ fn result_type(
         → Writes (resultOut sheet (f .slot) «is_reader» «is_fn») (now (buf .entry)) t (now (buf .exit)) r) ⌝ }
 {
     let kind = slot.kind;
-    if kind <= 11 {
+    if kind <= kinds::FLOAT64 {
         let t = prim_result(kind, is_fn, t, buf);
         return codegen_types::whole(t);
     }
     let t = arrow(is_fn, t, buf);
-    if kind == 15 {
+    if kind == kinds::ENUM {
         return enum_result(root, s, index, slot.id, t, buf);
     }
-    if kind == 17 {
+    if kind == kinds::INTERFACE {
         return fallible_result(root, s, index, slot.typ, Leaf::Client, false, t, buf);
     }
     let leaf = module_leaf(is_reader);
@@ -226,7 +228,7 @@ pub fn getter(
     let name = slot.name(s);
     let result = result_type(root, s, index, slot, is_reader, is_fn, t, buf);
     let t = result.text.byte(buf, b'\n');
-    let t = codegen_getter::code(root, name, slot, is_reader, is_fn, t, buf);
+    let t = getter_code::code(root, name, slot, is_reader, is_fn, t, buf);
     let t = declaration(root, s, name, slot, t, buf);
     let of_type = result.refusal;
     let of_option = option_refusal(slot);

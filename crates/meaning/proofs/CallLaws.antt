@@ -14,12 +14,12 @@ use Rattle.text.specs.Decimal.{decimal, signed}
 use Rattle.text.proofs.DecimalLaws.{decimal-low, decimal-high, signed-low, signed-high}
 use Rattle.calls.specs.Calls.{member, getBoolField, getDataField, getEnumField, setBoolField, setDataField, setTag}
 use Rattle.calls.specs.Calls.{zeroTag, clearPointer, notNull, tagTest}
-use Rattle.record.specs.Lines.{setLine, getLine, zeroLine}
+use Rattle.record.specs.Lines.{setLine, getLine, zeroCall}
 use Rattle.record.specs.Masks.{halfOf, getMaskText, setMaskText, maskBits}
 use Rattle.record.specs.Record.{mapO}
-use Rattle.record.specs.Types.{Num, int, uint, float32, float64, nameOf, Kind, bool, num, enum, placeOf, tagPlace}
+use Rattle.record.specs.Types.{Num, int, uint, float32, float64, typeNameOf, Kind, bool, num, enum, placeOf, tagPlace}
 use Rattle.meaning.specs.Reading.{value, constant}
-use Rattle.meaning.specs.Claims.{Fits}
+use Rattle.meaning.specs.Claims.{MaskFits}
 use Rattle.meaning.specs.Meaning as meaning
 use Rattle.meaning.specs.Meaning.{setOp, clearOp, writes, gets, getsIn, nullTest, tests}
 use Rattle.meaning.proofs.ReadingLaws.{by-type, number-decimal, type-name, type-u16, truth-mask, get-truth, get-mask}
@@ -123,7 +123,7 @@ get-enum-mask false o m = simp append-assoc
 
 -- ---- lines that write
 
-pub writes-set : (k : Kind) (o : ℕ) (m : Option ℕ) → Fits k m
+pub writes-set : (k : Kind) (o : ℕ) (m : Option ℕ) → MaskFits k m
     → writes (setLine k o (mapO (setMaskText k) m)) ≡ some (setOp (placeOf k o) value (maskBits m), [])
 unfolding writes
 writes-set bool o none h = rw set-bool (simp parts)
@@ -137,7 +137,7 @@ pub writes-tag : (o n : ℕ) → n < 2 ^ 16 → writes (setTag o n) ≡ some (se
 unfolding writes
 writes-tag o n h = rw set-data (simp (parts, arg-tag n h))
 
-pub writes-zero : (k : Kind) (o : ℕ) → writes (zeroLine k o) ≡ some (setOp (placeOf k o) (constant 0) 0, [])
+pub writes-zero : (k : Kind) (o : ℕ) → writes (zeroCall k o) ≡ some (setOp (placeOf k o) (constant 0) 0, [])
 unfolding writes
 writes-zero bool o = rw set-bool (simp parts)
 writes-zero (num t) o = rw set-data (simp parts)
@@ -189,9 +189,9 @@ in-decimal n s = go n n (omega arith) s
             let big = ltb-false n 10 e in
             rw (decimal-high n big, append-assoc) (ih (omega arith) ∙ in-digit (n % 10) s (mod-lt n (zero-lt-suc 9)))
 
-pub in-name : (t : Num) (s : Str) → getsIn (nameOf t ++ s) ≡ getsIn s
+pub in-name : (t : Num) (s : Str) → getsIn (typeNameOf t ++ s) ≡ getsIn s
 unfolding getsIn gets
-in-name t s = by-type (λ t. getsIn (nameOf t ++ s) ≡ getsIn s) refl refl refl refl refl refl refl refl refl refl t
+in-name t s = by-type (λ t. getsIn (typeNameOf t ++ s) ≡ getsIn s) refl refl refl refl refl refl refl refl refl refl t
 
 in-minus : (s : Str) → getsIn (45 ∷ s) ≡ getsIn s
 unfolding getsIn gets
@@ -221,7 +221,7 @@ in-mask enum m s = in-decimal m (41 ∷ s)
 
 pub ruleset around = (in-decimal, in-name, in-mask)
 
-pub gets-line : (isReader : Bool) (k : Kind) (o : ℕ) (m : Option ℕ) → Fits k m
+pub gets-line : (isReader : Bool) (k : Kind) (o : ℕ) (m : Option ℕ) → MaskFits k m
     → getsIn (getLine isReader k o (mapO (getMaskText k) m)) ≡ (placeOf k o, maskBits m) ∷ []
 unfolding getsIn gets
 gets-line true bool o none h = rw get-bool (simp (parts, around))

@@ -13,7 +13,7 @@ use Rattle.record.specs.Record.{Record, get, null}
 use Rattle.record.specs.Types.{tagPlace}
 use Rattle.record.proofs.RecordLaws.{get-inside}
 use Rattle.meaning.specs.Reading.{bindO}
-use Rattle.meaning.specs.Claims.{HaserHolds, TagHolds}
+use Rattle.meaning.specs.Claims.{TextHaserHolds, TagHolds}
 use Rattle.meaning.specs.Meaning as meaning
 use Rattle.meaning.specs.Meaning.{Test, nullTest, whole, testsOf, runTests, runHaser}
 use Rattle.meaning.proofs.CallLaws.{tests-null, tests-tag}
@@ -52,7 +52,7 @@ tests-of isReader none i = tests-of-null isReader i
 tests-of isReader (some t) i =
     tests-of-tag isReader (t .0) (t .1) (indented 4 (notNull isReader i ∷ [])) (testsFor none i) (tests-of-null isReader i)
 
-pub haser-holds : HaserHolds
+pub haser-holds : TextHaserHolds
 unfolding runHaser runTests
 haser-holds opening isReader none i r h =
     rw (function-inner opening (haserLines isReader none i) h (wholes-haser isReader none i), tests-of isReader none i)

@@ -14,13 +14,13 @@ use Rattle.text.proofs.LinesLaws.{stringify-lines}
 use Rattle.text.proofs.DecimalLaws.{decimal-low, decimal-high, signed-low, signed-high}
 use Rattle.calls.specs.Calls.{getBoolField, getDataField, setBoolField, setDataField, setTag, clearPointer}
 use Rattle.calls.specs.Calls.{notNull, tagTest}
-use Rattle.record.specs.Lines.{Zero, ofSlot, ofTag, ofPointer, getLine, setLine, zeroText}
+use Rattle.record.specs.Lines.{Zero, ofSlot, ofTag, ofPointer, getLine, setLine, zeroingLine}
 use Rattle.record.specs.Masks.{halfOf, getMaskText, setMaskText, maskBits}
 use Rattle.record.specs.Record.{Record, mapO}
-use Rattle.record.specs.Types.{Num, int, uint, float32, float64, nameOf, Kind, bool, num, enum, placeOf, tagPlace}
+use Rattle.record.specs.Types.{Num, int, uint, float32, float64, typeNameOf, Kind, bool, num, enum, placeOf, tagPlace}
 use Rattle.meaning.specs.Reading.{bindO, value, constant}
-use Rattle.meaning.specs.Claims.{Fits}
-use Rattle.meaning.specs.Meaning.{Op, setOp, clearOp, writes, whole, lines, push, trim, inner, front, runOp, runLine}
+use Rattle.meaning.specs.Claims.{MaskFits}
+use Rattle.meaning.specs.Meaning.{Op, setOp, clearOp, writes, whole, lines, pushByte, trim, inner, prepend, runOp, runLine}
 use Rattle.meaning.specs.Meaning.{runLines}
 use Rattle.meaning.proofs.ReadingLaws.{by-type}
 use Rattle.meaning.proofs.CallLaws.{writes-set, writes-tag, writes-zero, writes-zero-tag, writes-clear}
@@ -59,8 +59,8 @@ whole-signed half m = go (ltb m half) refl
     go true e = rw (signed-low half m (ltb-true m half e)) (whole-decimal m)
     go false e = rw (signed-high half m (ltb-false m half e)) (whole-decimal (half + half - m))
 
-pub whole-name : (t : Num) → whole (nameOf t) ≡ true
-whole-name t = by-type (λ t. whole (nameOf t) ≡ true) refl refl refl refl refl refl refl refl refl refl t
+pub whole-name : (t : Num) → whole (typeNameOf t) ≡ true
+whole-name t = by-type (λ t. whole (typeNameOf t) ≡ true) refl refl refl refl refl refl refl refl refl refl t
 
 whole-truth : (b : Bool) → whole (cond b (ascii "false") (ascii "true")) ≡ true
 whole-truth true = refl
@@ -93,7 +93,7 @@ pub record Says (l : Str) (o : Op) : Type 0 where
   pub tight : trim l ≡ l
   pub one : whole l ≡ true
 
-pub says-set : (k : Kind) (o : ℕ) (m : Option ℕ) → Fits k m
+pub says-set : (k : Kind) (o : ℕ) (m : Option ℕ) → MaskFits k m
     → Says (setLine k o (mapO (setMaskText k) m)) (setOp (placeOf k o) value (maskBits m))
 says-set k o m h = record { reads = writes-set k o m h; tight = tight k m; one = one k m }
   where
@@ -124,7 +124,7 @@ zeroOp (ofSlot k o) = setOp (placeOf k o) (constant 0) 0
 zeroOp (ofTag o) = setOp (tagPlace o) (constant 0) 0
 zeroOp (ofPointer i) = clearOp (record { 0 = i })
 
-pub says-zero : (z : Zero) → Says (zeroText z) (zeroOp z)
+pub says-zero : (z : Zero) → Says (zeroingLine z) (zeroOp z)
 unfolding setBoolField setDataField clearPointer
 says-zero (ofSlot bool o) = record { reads = writes-zero bool o; tight = refl; one = simp wholes }
 says-zero (ofSlot (num t) o) = record { reads = writes-zero (num t) o; tight = refl; one = simp wholes }
@@ -166,7 +166,7 @@ line-end [] s h = refl
 line-end (c ∷ l) s h = go (eqb c 10) h (line-end l s)
   where
     go : (b : Bool) → cond b false (whole l) ≡ true → (whole l ≡ true → lines (l ++ 10 ∷ s) ≡ l ∷ lines s)
-        → cond b ([] ∷ lines (l ++ 10 ∷ s)) (push c (lines (l ++ 10 ∷ s))) ≡ (c ∷ l) ∷ lines s
+        → cond b ([] ∷ lines (l ++ 10 ∷ s)) (pushByte c (lines (l ++ 10 ∷ s))) ≡ (c ∷ l) ∷ lines s
     go true e ih = let z : _≡_ {A = ℕ} 0 1 = cc in absurd (omega arith)
     go false e ih = rw (ih e)
 
@@ -238,7 +238,7 @@ run-lines v n (add {l = l} {o = o} s w) r =
     (fun-ext (λ x. run-lines v n w x))
 
 -- a function's text: without its first two lines and its last
-front-last : (a : Str) (l : List Str) (x : Str) → front a (l ++ (x ∷ [])) ≡ a ∷ l
+front-last : (a : Str) (l : List Str) (x : Str) → prepend a (l ++ (x ∷ [])) ≡ a ∷ l
 front-last a [] x = refl
 front-last a (b ∷ l) x = ap (λ (y : List Str). a ∷ y) (front-last b l x)
 

@@ -12,19 +12,19 @@ use borrow.Author.Tests.{eqb-true}
 use Rattle.text.specs.Bytes.{cond, either}
 use Rattle.record.specs.Bits.{toBits, ofBits, xors}
 use Rattle.record.specs.Masks.{getMask, setMask, maskBits}
-use Rattle.record.specs.Offsets.{size}
+use Rattle.record.specs.Offsets.{bitCount}
 use Rattle.record.specs.Types.{int, uint, float32, float64, Kind, bool, num, enum, slotBits, placeOf}
 use Rattle.record.proofs.BitLaws.{of-to, xors-twice, xors-xor}
-use Rattle.meaning.specs.Claims.{Fits, expected, ExpectedHolds}
+use Rattle.meaning.specs.Claims.{MaskFits, expected, ExpectedHolds}
 
 -- a slot's place has the slot's bits
-pub slot-size : (k : Kind) (o : ℕ) → size (placeOf k o) ≡ slotBits k
+pub slot-size : (k : Kind) (o : ℕ) → bitCount (placeOf k o) ≡ slotBits k
 slot-size bool o = refl
 slot-size (num t) o = refl
 slot-size enum o = refl
 
 -- no mask, or one whose bits fit
-pub mask-below : (k : Kind) (m : Option ℕ) → Fits k m → maskBits m < 2 ^ slotBits k
+pub mask-below : (k : Kind) (m : Option ℕ) → MaskFits k m → maskBits m < 2 ^ slotBits k
 mask-below k none h = pow-pos (slotBits k)
 mask-below k (some m) h = h
 

@@ -14,45 +14,45 @@ use Rattle.text.specs.Decimal.{decimal, signed}
 use Rattle.text.proofs.DecimalLaws.{decimal-low, decimal-high, signed-low, signed-high}
 use Rattle.record.specs.Masks.{halfOf, getMaskText, setMaskText}
 use Rattle.record.specs.Offsets.{bytesOf}
-use Rattle.record.specs.Types.{Num, int, uint, float32, float64, bitsOf, nameOf, bool, num, enum}
+use Rattle.record.specs.Types.{Num, int, uint, float32, float64, bitsOf, typeNameOf, bool, num, enum}
 use Rattle.record.specs.declared.Width.{Width}
 use Rattle.record.specs.declared.Width.the-variants.{One, Two, Four, Eight}
-use Rattle.meaning.specs.Reading.{digit, digits, number, below, signedNumber, typeName, truth, getMaskOf}
+use Rattle.meaning.specs.Reading.{digitByte, digitsFrom, numeral, below, signedNumber, typeName, truth, getMaskOf}
 use Rattle.meaning.specs.Reading.{setMaskOf, value, constant, dataArg, boolArg}
 
 -- ---- numbers
 
-is-digit : (x : ℕ) → x < 10 → digit (48 + x) ≡ true
+is-digit : (x : ℕ) → x < 10 → digitByte (48 + x) ≡ true
 is-digit x h = rw (le-leb 48 (48 + x) (omega arith), le-leb (48 + x) 57 (omega arith))
 
-digits-one : (k x : ℕ) (s : Str) → x < 10 → digits k ((48 + x) ∷ s) ≡ digits (k * 10 + x) s
+digits-one : (k x : ℕ) (s : Str) → x < 10 → digitsFrom k ((48 + x) ∷ s) ≡ digitsFrom (k * 10 + x) s
 digits-one k x s h =
     let e : 48 + x - 48 ≡ x = omega arith in
     rw (is-digit x h, e)
 
-number-one : (x : ℕ) (s : Str) → x < 10 → number ((48 + x) ∷ s) ≡ some (digits x s)
+number-one : (x : ℕ) (s : Str) → x < 10 → numeral ((48 + x) ∷ s) ≡ some (digitsFrom x s)
 number-one x s h =
     let e : 0 * 10 + (48 + x - 48) ≡ x = omega arith in
     rw (is-digit x h, e)
 
 -- a number that is written is read again, and what follows goes on
-pub number-decimal : (n : ℕ) (s : Str) → number (decimal n ++ s) ≡ some (digits n s)
+pub number-decimal : (n : ℕ) (s : Str) → numeral (decimal n ++ s) ≡ some (digitsFrom n s)
 number-decimal n s = go n n (omega arith) s
   where
-    go : (f n : ℕ) → n ≤ f → (s : Str) → number (decimal n ++ s) ≡ some (digits n s)
+    go : (f n : ℕ) → n ≤ f → (s : Str) → numeral (decimal n ++ s) ≡ some (digitsFrom n s)
     go zero n h s = rw (decimal-low n (omega arith)) (number-one n s (omega arith))
     go (suc f) n h s = pick (ltb n 10) refl (λ k. go f (n / 10) k ((48 + n % 10) ∷ s))
       where
         pick : (b : Bool) → ltb n 10 ≡ b
-            → (n / 10 ≤ f → number (decimal (n / 10) ++ (48 + n % 10) ∷ s) ≡ some (digits (n / 10) ((48 + n % 10) ∷ s)))
-            → number (decimal n ++ s) ≡ some (digits n s)
+            → (n / 10 ≤ f → numeral (decimal (n / 10) ++ (48 + n % 10) ∷ s) ≡ some (digitsFrom (n / 10) ((48 + n % 10) ∷ s)))
+            → numeral (decimal n ++ s) ≡ some (digitsFrom n s)
         pick true e ih = rw (decimal-low n (ltb-true n 10 e)) (number-one n s (ltb-true n 10 e))
         pick false e ih =
             let big = ltb-false n 10 e in
             rw (decimal-high n big, append-assoc)
             (ih (omega arith)
             ∙ ap some
-            (digits-one (n / 10) (n % 10) s (mod-lt n (zero-lt-suc 9)) ∙ ap (λ (y : ℕ). digits y s) (div-add-mod' n 10)))
+            (digits-one (n / 10) (n % 10) s (mod-lt n (zero-lt-suc 9)) ∙ ap (λ (y : ℕ). digitsFrom y s) (div-add-mod' n 10)))
 
 -- ---- types
 
@@ -72,9 +72,9 @@ by-type P a b c d e f g h i j (uint Eight) = h
 by-type P a b c d e f g h i j float32 = i
 by-type P a b c d e f g h i j float64 = j
 
-pub type-name : (t : Num) (s : Str) → typeName (nameOf t ++ s) ≡ some (t, s)
+pub type-name : (t : Num) (s : Str) → typeName (typeNameOf t ++ s) ≡ some (t, s)
 unfolding typeName
-type-name t s = by-type (λ t. typeName (nameOf t ++ s) ≡ some (t, s)) refl refl refl refl refl refl refl refl refl refl t
+type-name t s = by-type (λ t. typeName (typeNameOf t ++ s) ≡ some (t, s)) refl refl refl refl refl refl refl refl refl refl t
 
 pub type-u16 : (s : Str) → typeName (ascii "u16" ++ s) ≡ some (uint Two, s)
 type-u16 s = type-name (uint Two) s
@@ -94,7 +94,7 @@ get-truth m h s = truth-mask m h s
 below-decimal : (n k : ℕ) → k < n → (s : Str) → below n (decimal k ++ 41 ∷ s) ≡ some (k, 41 ∷ s)
 below-decimal n k h s = rw (number-decimal, lt-ltb k n h)
 
-below-ended : (n k c : ℕ) → k < n → (s : Str) → digit c ≡ false → below n (decimal k ++ c ∷ s) ≡ some (k, c ∷ s)
+below-ended : (n k c : ℕ) → k < n → (s : Str) → digitByte c ≡ false → below n (decimal k ++ c ∷ s) ≡ some (k, c ∷ s)
 below-ended n k c h s e = rw (number-decimal, e, lt-ltb k n h)
 
 signed-read : (half m : ℕ) → m < half + half → (s : Str) → signedNumber half (signed half m ++ 41 ∷ s) ≡ some (m, 41 ∷ s)
@@ -160,10 +160,10 @@ unfolding dataArg
 arg-tag n h s = rw (below-decimal (2 ^ 16) n h s)
 
 -- zero, with the type's name behind it
-pub arg-zero : (t : Num) (s : Str) → dataArg t (48 ∷ (nameOf t ++ s)) ≡ some (constant 0, s)
+pub arg-zero : (t : Num) (s : Str) → dataArg t (48 ∷ (typeNameOf t ++ s)) ≡ some (constant 0, s)
 unfolding dataArg
 arg-zero t s =
-    by-type (λ t. dataArg t (48 ∷ (nameOf t ++ s)) ≡ some (constant 0, s)) refl refl refl refl refl refl refl refl refl refl t
+    by-type (λ t. dataArg t (48 ∷ (typeNameOf t ++ s)) ≡ some (constant 0, s)) refl refl refl refl refl refl refl refl refl refl t
 
 pub arg-zero-u16 : (s : Str) → dataArg (uint Two) (ascii "0u16" ++ s) ≡ some (constant 0, s)
 arg-zero-u16 s = arg-zero (uint Two) s

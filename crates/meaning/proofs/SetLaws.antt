@@ -9,13 +9,13 @@ use Prim.Native.Nat.{ℕ}
 use Rattle.text.specs.Bytes.{Str, ascii}
 use Rattle.text.specs.Lines.{FormattedTexts, Indent, Branch, Line, none as noMore, _&_, toLines, flatMap, stringify, spaces}
 use Rattle.calls.specs.Calls.{setTag}
-use Rattle.record.specs.Lines.{Tag, getLine, setLine, tagThen, functionText, getterText}
+use Rattle.record.specs.Lines.{Tag, getLine, setLine, tagThen, functionText, getterLines}
 use Rattle.record.specs.Masks.{getMaskText, setMaskText, maskBits}
 use Rattle.record.specs.Record.{Record, mapO, get, Holds, Same}
 use Rattle.record.specs.Types.{Kind, placeOf, tagPlace}
 use Rattle.record.proofs.RecordLaws.{after, put-inside, after-same, get-after, get-set, get-other}
 use Rattle.meaning.specs.Reading.{value, constant}
-use Rattle.meaning.specs.Claims.{Fits, TagFits, TagHolds, TagHas, TagClear, TagIs, SetGetHolds, VoidSetHolds}
+use Rattle.meaning.specs.Claims.{MaskFits, TagFits, TagHolds, TagHas, TagClear, TagIs, TextSetGetHolds, TextVoidSetHolds}
 use Rattle.meaning.specs.Meaning.{Op, setOp, whole, lines, inner, runOp}
 use Rattle.meaning.specs.Meaning.{runSetter, runGetter}
 use Rattle.meaning.proofs.CallLaws.{gets-line}
@@ -55,10 +55,10 @@ unfolding runSetter
 setter-runs {ls} opening h s v r = rw (function-inner opening ls h (wholes-saying s)) (run-lines (some v) 4 s r)
 
 -- a getter's text is its one get
-pub getter-answers : (typ : Str) → whole typ ≡ true → (isReader : Bool) (k : Kind) (o : ℕ) (m : Option ℕ) → Fits k m
+pub getter-answers : (typ : Str) → whole typ ≡ true → (isReader : Bool) (k : Kind) (o : ℕ) (m : Option ℕ) → MaskFits k m
     → (r : Record)
-    → runGetter (getterText typ (getLine isReader k o (mapO (getMaskText k) m))) r ≡ get (placeOf k o) (maskBits m) r
-unfolding runGetter getterText
+    → runGetter (getterLines typ (getLine isReader k o (mapO (getMaskText k) m))) r ≡ get (placeOf k o) (maskBits m) r
+unfolding runGetter getterLines
 getter-answers typ h isReader k o m f r =
     let l : Str = getLine isReader k o (mapO (getMaskText k) m) in
     let code : lines (stringify (Line l)) ≡ l ∷ [] =
@@ -113,7 +113,7 @@ unfolding runOps runOp
 run-tag v none os r h = refl
 run-tag v (some t) os r h = rw (put-inside (tagPlace (t .0)) (t .1) 0 r h)
 
-pub void-set-holds : VoidSetHolds
+pub void-set-holds : TextVoidSetHolds
 void-set-holds opening tag v r h f t =
     record {
       left = tagged tag r;
@@ -125,7 +125,7 @@ void-set-holds opening tag v r h f t =
 -- ---- set and get
 
 module _ (tag : Option Tag) (k : Kind) (o : ℕ) (ms : Option ℕ) where
-  saying-set : Fits k ms → Saying (setLine k o (mapO (setMaskText k) ms) ∷ []) (setOp (placeOf k o) value (maskBits ms) ∷ [])
+  saying-set : MaskFits k ms → Saying (setLine k o (mapO (setMaskText k) ms) ∷ []) (setOp (placeOf k o) value (maskBits ms) ∷ [])
   saying-set h = Saying.add (says-set k o ms h) Saying.nil
 
   run-set : (v : ℕ) (r : Record) → Holds (placeOf k o) r
@@ -147,7 +147,7 @@ module _ (tag : Option Tag) (k : Kind) (o : ℕ) (ms : Option ℕ) where
           ∙ tag-is (some x) r f t
 
 -- SET AND GET, from the bytes of both texts
-pub set-get-holds : SetGetHolds
+pub set-get-holds : TextSetGetHolds
 set-get-holds opening tag k o ms mg v r h f fs fg hv hp t =
     let p = placeOf k o in
     let s = tag-same tag r t in

@@ -15,16 +15,16 @@ use Rattle.text.specs.Bytes.{Str}
 use Rattle.text.specs.Lines.{FormattedText, toLines, stringify}
 use Rattle.text.proofs.LinesLaws.{stringify-none}
 use Rattle.calls.specs.Calls.{clearPointer}
-use Rattle.record.specs.Lines.{Zero, ofSlot, ofTag, ofPointer, zeroLine, zeroText, zeroTexts}
+use Rattle.record.specs.Lines.{Zero, ofSlot, ofTag, ofPointer, zeroCall, zeroingLine, zeroTexts}
 use Rattle.record.specs.Masks.{maskBits}
-use Rattle.record.specs.Offsets.{Place, from, size}
-use Rattle.record.specs.Record.{Record, coded, get, null, Has, Holds, HoldsPointer}
+use Rattle.record.specs.Offsets.{Place, from, bitCount}
+use Rattle.record.specs.Record.{Record, coded, get, null, Covers, Holds, HoldsPointer}
 use Rattle.record.specs.Types.{Kind, placeOf, tagPlace}
 use Rattle.record.proofs.BitLaws.{xors-xor, toBits-zero}
 use Rattle.record.proofs.RecordLaws.{after, cleared, put-inside, after-length, after-at, after-out, get-ext, get-after}
 use Rattle.record.proofs.RecordLaws.{clear-inside, cleared-bits, cleared-length, cleared-at, cleared-other, null-flag}
 use Rattle.record.proofs.SectionLaws.{where?}
-use Rattle.meaning.specs.Claims.{In, HoldsZero, ZeroHas, ZeroClears, Zeroed, ZeroingHolds}
+use Rattle.meaning.specs.Claims.{In, HoldsZero, ZeroHas, ZeroClears, TextZeroed, TextZeroingHolds}
 use Rattle.meaning.specs.Meaning.{Op, setOp, clearOp, writes, runOp, runLine, runLines, runZeroing}
 use Rattle.meaning.specs.Reading.{_>>=_, _>>_, pure}
 use Rattle.meaning.proofs.HaserLaws.{haser-null}
@@ -65,7 +65,7 @@ step-holds z (ofPointer i) r h g = rw (step-pointers z r h) g
 
 -- the bits of a zero
 zero-off : (p : Place) (i : ℕ) → getD (coded p 0 0) i false ≡ false
-zero-off p i = rw (xors-xor (size p) 0 0, toBits-zero (size p)) (off (size p) i)
+zero-off p i = rw (xors-xor (bitCount p) 0 0, toBits-zero (bitCount p)) (off (bitCount p) i)
   where
     off : (n i : ℕ) → getD (replicate n false) i false ≡ false
     off zero i = refl
@@ -79,13 +79,13 @@ Off r b = getD (r .bits) b false ≡ false
 abbrev Null : Record → ℕ → Type 0
 Null r j = getD (r .pointers) j false ≡ false
 
-put-makes : (p : Place) (r : Record) → Holds p r → (b : ℕ) → Has p b → Off (after p 0 0 r) b
+put-makes : (p : Place) (r : Record) → Holds p r → (b : ℕ) → Covers p b → Off (after p 0 0 r) b
 put-makes p r h b x = after-at p 0 0 r h b x ∙ zero-off p (b - from p)
 
 put-keeps : (p : Place) (r : Record) → Holds p r → (b : ℕ) → Off r b → Off (after p 0 0 r) b
-put-keeps p r h b e = go (where? (from p) (size p) b)
+put-keeps p r h b e = go (where? (from p) (bitCount p) b)
   where
-    go : Has p b ⊎ ((b < from p) ⊎ (from p + size p ≤ b)) → Off (after p 0 0 r) b
+    go : Covers p b ⊎ ((b < from p) ⊎ (from p + bitCount p ≤ b)) → Off (after p 0 0 r) b
     go (inl x) = put-makes p r h b x
     go (inr (inl x)) = after-out p 0 0 r h b (λ y. omega arith) ∙ e
     go (inr (inr x)) = after-out p 0 0 r h b (λ y. omega arith) ∙ e
@@ -193,7 +193,7 @@ unfolding runZeroing runLines runLine runOps
 zeroing-runs [] ft r e = rw (stringify-none ft e)
 zeroing-runs (z ∷ zs) ft r e =
     ap (λ (x : List Str). runLines none x r)
-    (lines-stringify ft (zeroText z) (zeroTexts zs) e (wholes-saying (saying-zeros (z ∷ zs)))
+    (lines-stringify ft (zeroingLine z) (zeroTexts zs) e (wholes-saying (saying-zeros (z ∷ zs)))
     ∙ sym (indented-none (zeroTexts (z ∷ zs))))
     ∙ run-lines none 0 (saying-zeros (z ∷ zs)) r
 
@@ -207,7 +207,7 @@ line-of l o s (z ∷ zs) (inl e) =
 line-of l o s (z ∷ zs) (inr i) = let x = line-of l o s zs i in (x .0, inr (x .1), x .2)
 
 abbrev OpHas : Op → ℕ → Type 0
-OpHas (setOp p a m) b = Has p b
+OpHas (setOp p a m) b = Covers p b
 OpHas (clearOp i) b = ⊥
 
 has-op : (z : Zero) (b : ℕ) → OpHas (zeroOp z) b → ZeroHas z b
@@ -234,10 +234,11 @@ clears-op (ofTag o) j x = absurd x
 clears-op (ofPointer i) j x = x
 
 -- a get of bits that are off is its mask
-get-off : (p : Place) (k : ℕ) (r : Record) → Holds p r → k < 2 ^ size p → ((b : ℕ) → Has p b → Off r b) → get p k r ≡ some k
+get-off : (p : Place) (k : ℕ) (r : Record) → Holds p r → k < 2 ^ bitCount p → ((b : ℕ) → Covers p b → Off r b)
+    → get p k r ≡ some k
 get-off p k r h l o =
     sym (get-ext p k r (after p 0 0 r) (after-length p 0 0 r h) (λ b x. put-makes p r h b x ∙ sym (o b x)))
-    ∙ get-after p 0 0 r h k (pow-pos (size p)) (pow-pos (size p)) l
+    ∙ get-after p 0 0 r h k (pow-pos (bitCount p)) (pow-pos (bitCount p)) l
     ∙ ap some (xor-zero-l k)
 
 module _ (zs : List Zero) (r : Record) (h : Holding zs r) where
@@ -252,16 +253,16 @@ module _ (zs : List Zero) (r : Record) (h : Holding zs r) where
   )
 
   -- a slot whose line is among the lines has all its bits off
-  slot-off : (k : Kind) (o : ℕ) → In (zeroLine k o) (zeroTexts zs) → (b : ℕ) → Has (placeOf k o) b → Off left b
+  slot-off : (k : Kind) (o : ℕ) → In (zeroCall k o) (zeroTexts zs) → (b : ℕ) → Covers (placeOf k o) b → Off left b
   unfolding left
   slot-off k o i b x =
-      let y = line-of (zeroLine k o) (zeroOp (ofSlot k o)) (says-zero (ofSlot k o)) zs i in
+      let y = line-of (zeroCall k o) (zeroOp (ofSlot k o)) (says-zero (ofSlot k o)) zs i in
       let m : ZeroHas (y .0) b = has-op (y .0) b (rw (y .2) x) in
       steps-make (λ s. Off s b) (y .0) (λ z s g. step-keeps z s g b) (λ s g. step-makes (y .0) s g b m) zs r h (y .1)
 
-  slot-holds : (k : Kind) (o : ℕ) → In (zeroLine k o) (zeroTexts zs) → Holds (placeOf k o) left
+  slot-holds : (k : Kind) (o : ℕ) → In (zeroCall k o) (zeroTexts zs) → Holds (placeOf k o) left
   slot-holds k o i =
-      let y = line-of (zeroLine k o) (zeroOp (ofSlot k o)) (says-zero (ofSlot k o)) zs i in
+      let y = line-of (zeroCall k o) (zeroOp (ofSlot k o)) (says-zero (ofSlot k o)) zs i in
       let g : OpHolds (zeroOp (y .0)) r = holds-op (y .0) r (h (y .0) (y .1)) in
       rw (lengths .0) (subst (λ (x : Op). OpHolds x r) (y .2) g)
 
@@ -275,7 +276,7 @@ module _ (zs : List Zero) (r : Record) (h : Holding zs r) where
       steps-make (λ x. Null x i) (y .0) (λ z x g. step-null z x g i) (λ x g. step-clears (y .0) x g i m) zs r h (y .1) in
       null-flag (record { 0 = i }) left (rw (lengths .1) (subst (λ (x : Op). OpHolds x r) (y .2) g)) ∙ rw s
 
-  pub zeroed : (ft : FormattedText) → toLines ft 0 ≡ zeroTexts zs → Zeroed zs ft r
+  pub zeroed : (ft : FormattedText) → toLines ft 0 ≡ zeroTexts zs → TextZeroed zs ft r
   unfolding left
   zeroed ft e = record {
     left = left;
@@ -291,5 +292,5 @@ module _ (zs : List Zero) (r : Record) (h : Holding zs r) where
         λ j f. steps-same (λ x. getD (x .pointers) j false) (λ z. ZeroClears z j → ⊥) (λ z x g q. step-flag z x g j q) zs r h f;
   }
 
-pub zeroing-holds : ZeroingHolds
+pub zeroing-holds : TextZeroingHolds
 zeroing-holds zs ft r e h = zeroed zs r h ft e

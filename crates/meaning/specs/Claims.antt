@@ -12,11 +12,11 @@ use lib.ListN.{length, getD}
 use Rattle.text.specs.Bytes.{Str, cond}
 use Rattle.text.specs.Lines.{FormattedText, toLines, stringify}
 use Rattle.calls.specs.Calls.{clearPointer}
-use Rattle.record.specs.Lines.{Tag, getLine, setterText, voidSetterText, getterText, haserText, Zero, ofSlot, ofTag, ofPointer}
-use Rattle.record.specs.Lines.{zeroLine, zeroTexts}
+use Rattle.record.specs.Lines.{Tag, getLine, setterText, voidSetterText, getterLines, haserText, Zero, ofSlot, ofTag, ofPointer}
+use Rattle.record.specs.Lines.{zeroCall, zeroTexts}
 use Rattle.record.specs.Masks.{getMask, setMask, getMaskText, setMaskText, maskBits}
 use Rattle.record.specs.Offsets.{Place}
-use Rattle.record.specs.Record.{Record, mapO, get, null, Has, Clear, Holds, HoldsPointer, Same}
+use Rattle.record.specs.Record.{Record, mapO, get, null, Covers, Clear, Holds, HoldsPointer, Same}
 use Rattle.record.specs.Types.{int, uint, float32, float64, Kind, bool, num, enum, slotBits, placeOf, tagPlace}
 use Rattle.record.specs.declared.PointerOffset.{PointerOffset}
 use Rattle.meaning.specs.Reading.{bindO}
@@ -25,9 +25,9 @@ use Rattle.meaning.specs.Meaning.{whole, runSetter, runGetter, runHaser,
 -- ---- conditions
 
 -- a mask is of the slot's type: its bits fit
-abbrev pub Fits : Kind → Option ℕ → Type 0
-Fits k none = Unit {0}
-Fits k (some m) = m < 2 ^ slotBits k
+abbrev pub MaskFits : Kind → Option ℕ → Type 0
+MaskFits k none = Unit {0}
+MaskFits k (some m) = m < 2 ^ slotBits k
 
 -- a member's discriminant value has 16 bits
 abbrev pub TagFits : Option Tag → Type 0
@@ -41,7 +41,7 @@ TagHolds (some t) r = Holds (tagPlace (t .0)) r
 
 abbrev pub TagHas : Option Tag → ℕ → Type 0
 TagHas none b = ⊥
-TagHas (some t) b = Has (tagPlace (t .0)) b
+TagHas (some t) b = Covers (tagPlace (t .0)) b
 
 abbrev pub TagClear : Option Tag → Place → Type 0
 TagClear none p = Unit {0}
@@ -56,21 +56,22 @@ TagIs (some t) r = get (tagPlace (t .0)) 0 r ≡ some (t .1)
 
 -- The setter's text runs; each getter's text then answers the value, exclusive or both masks; only the slot's bits and the tag's
 -- change.
-pub record SetGet (opening : Str) (tag : Option Tag) (k : Kind) (o : ℕ) (ms mg : Option ℕ) (v : ℕ) (r : Record) : Type 0 where
+pub record TextSetGet (opening : Str) (tag : Option Tag) (k : Kind) (o : ℕ) (ms mg : Option ℕ) (v : ℕ) (r : Record) : Type 0 where
   pub left : Record
   pub runs : runSetter (setterText opening tag k o (mapO (setMaskText k) ms)) v r ≡ some left
   pub answers : (typ : Str) → whole typ ≡ true → (isReader : Bool)
-      → runGetter (getterText typ (getLine isReader k o (mapO (getMaskText k) mg))) left
+      → runGetter (getterLines typ (getLine isReader k o (mapO (getMaskText k) mg))) left
       ≡ some (bitXor (bitXor v (maskBits ms)) (maskBits mg))
-  pub same : Same (λ b. Has (placeOf k o) b ⊎ TagHas tag b) r left
+  pub same : Same (λ b. Covers (placeOf k o) b ⊎ TagHas tag b) r left
   pub tagged : TagClear tag (placeOf k o) → TagIs tag left
 
 -- for every Bool, numeric or enum slot, every value of its width, every record that is long enough
-abbrev pub SetGetHolds : Type 0
-SetGetHolds =
+abbrev pub TextSetGetHolds : Type 0
+TextSetGetHolds =
     (opening : Str) (tag : Option Tag) (k : Kind) (o : ℕ) (ms mg : Option ℕ) (v : ℕ) (r : Record)
-    → whole opening ≡ true → TagFits tag → Fits k ms → Fits k mg → v < 2 ^ slotBits k → Holds (placeOf k o) r → TagHolds tag r
-    → SetGet opening tag k o ms mg v r
+    → whole opening ≡ true → TagFits tag → MaskFits k ms → MaskFits k mg → v < 2 ^ slotBits k → Holds (placeOf k o) r
+    → TagHolds tag r
+    → TextSetGet opening tag k o ms mg v r
 
 -- What a value v reads as under document 01's rules for masks, of a default d with or without its flag: v, except that a float
 -- default of -0.0 flips its sign, and an enum default without its flag is combined with it by exclusive or.
@@ -89,16 +90,16 @@ ExpectedHolds =
 
 -- ---- the Void setter: just the tag
 
-pub record VoidSet (opening : Str) (tag : Option Tag) (v : ℕ) (r : Record) : Type 0 where
+pub record TextVoidSet (opening : Str) (tag : Option Tag) (v : ℕ) (r : Record) : Type 0 where
   pub left : Record
   pub runs : runSetter (voidSetterText opening tag) v r ≡ some left
   pub same : Same (TagHas tag) r left
   pub tagged : TagIs tag left
 
-abbrev pub VoidSetHolds : Type 0
-VoidSetHolds =
+abbrev pub TextVoidSetHolds : Type 0
+TextVoidSetHolds =
     (opening : Str) (tag : Option Tag) (v : ℕ) (r : Record) → whole opening ≡ true → TagFits tag → TagHolds tag r
-    → VoidSet opening tag v r
+    → TextVoidSet opening tag v r
 
 -- ---- hasers
 
@@ -107,8 +108,8 @@ abbrev pub hasAnswer : Option Tag → PointerOffset → Record → Option Bool
 hasAnswer none i r = mapO not (null i r)
 hasAnswer (some t) i r = bindO (get (tagPlace (t .0)) 0 r) (λ x. cond (eqb x (t .1)) (mapO not (null i r)) (some false))
 
-abbrev pub HaserHolds : Type 0
-HaserHolds =
+abbrev pub TextHaserHolds : Type 0
+TextHaserHolds =
     (opening : Str) (isReader : Bool) (tag : Option Tag) (i : ℕ) (r : Record) → whole opening ≡ true
     → runHaser (haserText opening isReader tag i) r ≡ hasAnswer tag (record { 0 = i }) r
 
@@ -126,8 +127,8 @@ HoldsZero (ofPointer i) r = HoldsPointer (record { 0 = i }) r
 
 -- the bits and the pointers that it touches
 abbrev pub ZeroHas : Zero → ℕ → Type 0
-ZeroHas (ofSlot k o) b = Has (placeOf k o) b
-ZeroHas (ofTag o) b = Has (tagPlace o) b
+ZeroHas (ofSlot k o) b = Covers (placeOf k o) b
+ZeroHas (ofTag o) b = Covers (tagPlace o) b
 ZeroHas (ofPointer i) b = ⊥
 
 abbrev pub ZeroClears : Zero → ℕ → Type 0
@@ -137,12 +138,12 @@ ZeroClears (ofPointer i) j = j ≡ i
 
 -- The zeroing's text runs. A slot with bits whose line is among its lines then reads as its default, the getter's mask; a pointer
 -- slot tests absent, and each of its hasers says false if its tag can be read. What no line touches stays.
-pub record Zeroed (zs : List Zero) (ft : FormattedText) (r : Record) : Type 0 where
+pub record TextZeroed (zs : List Zero) (ft : FormattedText) (r : Record) : Type 0 where
   pub left : Record
   pub runs : runZeroing (stringify ft) r ≡ some left
-  pub defaults : (k : Kind) (o : ℕ) → In (zeroLine k o) (zeroTexts zs) → (mg : Option ℕ) → Fits k mg
+  pub defaults : (k : Kind) (o : ℕ) → In (zeroCall k o) (zeroTexts zs) → (mg : Option ℕ) → MaskFits k mg
       → (typ : Str) → whole typ ≡ true → (isReader : Bool)
-      → runGetter (getterText typ (getLine isReader k o (mapO (getMaskText k) mg))) left ≡ some (maskBits mg)
+      → runGetter (getterLines typ (getLine isReader k o (mapO (getMaskText k) mg))) left ≡ some (maskBits mg)
   pub absent : (i : ℕ) → In (clearPointer i) (zeroTexts zs) → null (record { 0 = i }) left ≡ some true
   pub hasers : (i : ℕ) → In (clearPointer i) (zeroTexts zs) → (opening : Str) → whole opening ≡ true
       → (isReader : Bool) (tag : Option Tag)
@@ -153,7 +154,7 @@ pub record Zeroed (zs : List Zero) (ft : FormattedText) (r : Record) : Type 0 wh
       → getD (left .pointers) j false ≡ getD (r .pointers) j false
 
 -- for every tree of code whose lines are those of zeros, and every record that is long enough
-abbrev pub ZeroingHolds : Type 0
-ZeroingHolds =
+abbrev pub TextZeroingHolds : Type 0
+TextZeroingHolds =
     (zs : List Zero) (ft : FormattedText) (r : Record) → toLines ft 0 ≡ zeroTexts zs → ((z : Zero) → In z zs → HoldsZero z r)
-    → Zeroed zs ft r
+    → TextZeroed zs ft r

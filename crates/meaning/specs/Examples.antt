@@ -13,8 +13,8 @@ use Rattle.text.specs.Decimal.{decimal, signed}
 use Rattle.text.specs.Lines.{FormattedTexts, Branch, Line, none as noMore, _&_, toLines, flatMap, join, stringify}
 use Rattle.record.specs.Bits.{sectionBits}
 use Rattle.calls.specs.Calls.{getBoolField, getDataField, setBoolField, setDataField, clearPointer, notNull, tagTest}
-use Rattle.record.specs.Lines.{getLine, setLine, functionText, getterText, haserText, Zero, ofSlot, ofTag, ofPointer}
-use Rattle.record.specs.Lines.{zeroText}
+use Rattle.record.specs.Lines.{getLine, setLine, functionText, getterLines, haserText, Zero, ofSlot, ofTag, ofPointer}
+use Rattle.record.specs.Lines.{zeroingLine}
 use Rattle.record.specs.Masks.{getMask, setMask, getMaskText, setMaskText}
 use Rattle.record.specs.Record.{Record, mapO, found, stored, getBits, putBits, nullFlag, clearFlag}
 use Rattle.record.specs.Types.{int, uint, float32, Kind, bool, num, enum, kindOf}
@@ -100,7 +100,7 @@ abbrev pub right : Row → Bool
 right x =
     both (same (setOf x) (ascii (x .setter)))
     (both (same (getOf x) (ascii (x .getter)))
-    (is (bindO (setWith (setOf x) (x .writes)) (runGetter (getterText (ascii "T") (getOf x)))) (x .reads)))
+    (is (bindO (setWith (setOf x) (x .writes)) (runGetter (getterLines (ascii "T") (getOf x)))) (x .reads)))
 
 abbrev pub all : {A : Type 0} → (A → Bool) → List A → Bool
 all f [] = true
@@ -108,7 +108,7 @@ all f (x ∷ l) = both (f x) (all f l)
 
 pub rows-right : all right rows ≡ true
 unfolding toLines flatMap join stringify same decimal signed getBoolField getDataField setBoolField setDataField functionText
-    getterText getMaskText setMaskText found stored getBits putBits typeName truth getMaskOf setMaskOf dataArg boolArg writes
+    getterLines getMaskText setMaskText found stored getBits putBits typeName truth getMaskOf setMaskOf dataArg boolArg writes
     gets getsIn runOp runLine runLines runSetter runGetter
 rows-right = refl
 
@@ -171,7 +171,7 @@ has-other-tag = refl
 
 abbrev pub zeros : List Zero → FormattedTexts
 zeros [] = noMore
-zeros (z ∷ zs) = Line (zeroText z) & zeros zs
+zeros (z ∷ zs) = Line (zeroingLine z) & zeros zs
 
 -- an element of two bytes zeroed as a number, as an enum and as a tag; a Bool; the second pointer
 pub zeroed :

@@ -7,10 +7,10 @@ use mathlib.Core.Option.{Option, none, some}
 use lib.Dec.{eqb}
 use Rattle.text.specs.Bytes.{Str, cond}
 use Rattle.record.specs.Offsets.{Place, boolAt, dataAt}
-use Rattle.record.specs.Record.{Record, mapO, get, put, null, clear}
+use Rattle.record.specs.Record.{Record, mapO, get, putValue, null, clear}
 use Rattle.record.specs.Types.{Num, widthOf, tagPlace}
 use Rattle.record.specs.declared.PointerOffset.{PointerOffset}
-use Rattle.meaning.specs.Reading.{Reads, bindO, _>>=_, _>>_, pure, _or_, lit, end, number, typeName, truth}
+use Rattle.meaning.specs.Reading.{Reads, bindO, _>>=_, _>>_, pure, _or_, lit, end, numeral, typeName, truth}
 use Rattle.meaning.specs.Reading.{getMaskOf, setMaskOf, Arg, value, constant, dataArg, boolArg}
 
 -- ---- a line that writes
@@ -27,12 +27,12 @@ abbrev pub dataPlace : Num → ℕ → Place
 dataPlace t o = dataAt (widthOf t) (record { 0 = o })
 
 abbrev pub setBool : Reads Op
-setBool = do lit "set_bool_field("; o ← number; lit ", "; a ← boolArg; lit ");"; end; pure (setOp (boolPlace o) a 0)
+setBool = do lit "set_bool_field("; o ← numeral; lit ", "; a ← boolArg; lit ");"; end; pure (setOp (boolPlace o) a 0)
 
 abbrev pub setBoolMask : Reads Op
 setBoolMask = do
   lit "set_bool_field_mask("
-  o ← number
+  o ← numeral
   lit ", "
   a ← boolArg
   lit ", "
@@ -46,7 +46,7 @@ setData = do
   lit "set_data_field::<"
   t ← typeName
   lit ">("
-  o ← number
+  o ← numeral
   lit ", "
   a ← dataArg t
   lit ");"
@@ -58,7 +58,7 @@ setDataMask = do
   lit "set_data_field_mask::<"
   t ← typeName
   lit ">("
-  o ← number
+  o ← numeral
   lit ", "
   a ← dataArg t
   lit ", "
@@ -67,11 +67,11 @@ setDataMask = do
   end
   pure (setOp (dataPlace t o) a m)
 
-abbrev pub clearPointer : Reads Op
-clearPointer = do lit "reborrow().get_pointer_field("; i ← number; lit ").clear();"; end; pure (clearOp (record { 0 = i }))
+abbrev pub clearCall : Reads Op
+clearCall = do lit "reborrow().get_pointer_field("; i ← numeral; lit ").clear();"; end; pure (clearOp (record { 0 = i }))
 
 unfoldable pub writes : Reads Op
-writes = lit "self.builder." >> (setBool or setBoolMask or setData or setDataMask or clearPointer)
+writes = lit "self.builder." >> (setBool or setBoolMask or setData or setDataMask or clearCall)
 
 -- ---- a get, at the front of a text
 
@@ -79,31 +79,31 @@ writes = lit "self.builder." >> (setBool or setBoolMask or setData or setDataMas
 abbrev pub Get : Type 0
 Get = Place × ℕ
 
-abbrev pub getBool : Reads Get
-getBool = do lit "get_bool_field("; o ← number; lit ")"; pure (boolPlace o, 0)
+abbrev pub getBoolCall : Reads Get
+getBoolCall = do lit "get_bool_field("; o ← numeral; lit ")"; pure (boolPlace o, 0)
 
 abbrev pub getBoolMask : Reads Get
-getBoolMask = do lit "get_bool_field_mask("; o ← number; lit ", "; m ← truth; lit ")"; pure (boolPlace o, m)
+getBoolMask = do lit "get_bool_field_mask("; o ← numeral; lit ", "; m ← truth; lit ")"; pure (boolPlace o, m)
 
 abbrev pub getData : Reads Get
-getData = do lit "get_data_field::<"; t ← typeName; lit ">("; o ← number; lit ")"; pure (dataPlace t o, 0)
+getData = do lit "get_data_field::<"; t ← typeName; lit ">("; o ← numeral; lit ")"; pure (dataPlace t o, 0)
 
 abbrev pub getDataMask : Reads Get
 getDataMask = do
   lit "get_data_field_mask::<"
   t ← typeName
   lit ">("
-  o ← number
+  o ← numeral
   lit ", "
   m ← getMaskOf t
   lit ")"
   pure (dataPlace t o, m)
 
-abbrev pub member : Reads (Unit {0})
-member = lit "reader." or lit "builder."
+abbrev pub memberDot : Reads (Unit {0})
+memberDot = lit "reader." or lit "builder."
 
 unfoldable pub gets : Reads Get
-gets = lit "self." >> member >> (getBool or getBoolMask or getData or getDataMask)
+gets = lit "self." >> memberDot >> (getBoolCall or getBoolMask or getData or getDataMask)
 
 -- all gets of a line, wherever they begin
 abbrev pub adds : Option (Get × Str) → List Get → List Get
@@ -123,34 +123,34 @@ pub data Test : Type 0 where
 abbrev pub readTag : Reads Test
 readTag = do
   lit "if self."
-  member
+  memberDot
   lit "get_data_field::<u16>("
-  o ← number
+  o ← numeral
   lit ") != "
-  n ← number
+  n ← numeral
   lit " { return false; }"
   end
   pure (tagTest o n)
 
 abbrev pub readNull : Reads Test
-readNull = do lit "!self.reader.get_pointer_field("; i ← number; lit ").is_null()"; end; pure (nullTest (record { 0 = i }))
+readNull = do lit "!self.reader.get_pointer_field("; i ← numeral; lit ").is_null()"; end; pure (nullTest (record { 0 = i }))
 
 abbrev pub readNullField : Reads Test
-readNullField = do lit "!self.builder.is_pointer_field_null("; i ← number; lit ")"; end; pure (nullTest (record { 0 = i }))
+readNullField = do lit "!self.builder.is_pointer_field_null("; i ← numeral; lit ")"; end; pure (nullTest (record { 0 = i }))
 
 unfoldable pub tests : Reads Test
 tests = readTag or readNull or readNullField
 
 -- ---- lines
 
-abbrev pub push : ℕ → List Str → List Str
-push c [] = (c ∷ []) ∷ []
-push c (l ∷ ls) = (c ∷ l) ∷ ls
+abbrev pub pushByte : ℕ → List Str → List Str
+pushByte c [] = (c ∷ []) ∷ []
+pushByte c (l ∷ ls) = (c ∷ l) ∷ ls
 
 -- the lines of a text, each ended by byte 10
 abbrev pub lines : Str → List Str
 lines [] = []
-lines (c ∷ s) = cond (eqb c 10) ([] ∷ lines s) (push c (lines s))
+lines (c ∷ s) = cond (eqb c 10) ([] ∷ lines s) (pushByte c (lines s))
 
 -- no byte 10 in it
 abbrev pub whole : Str → Bool
@@ -162,16 +162,16 @@ abbrev pub trim : Str → Str
 trim [] = []
 trim (c ∷ s) = cond (eqb c 32) (trim s) (c ∷ s)
 
-abbrev pub front : Str → List Str → List Str
-front a [] = []
-front a (b ∷ l) = a ∷ front b l
+abbrev pub prepend : Str → List Str → List Str
+prepend a [] = []
+prepend a (b ∷ l) = a ∷ prepend b l
 
 -- the lines without the first two and the last, of three at least
 abbrev pub inner : List Str → Option (List Str)
 inner [] = none
 inner (a ∷ []) = none
 inner (a ∷ (b ∷ [])) = none
-inner (a ∷ (b ∷ (c ∷ l))) = some (front c l)
+inner (a ∷ (b ∷ (c ∷ l))) = some (prepend c l)
 
 -- ---- running; v is the accessor's `value`, where there is one
 
@@ -180,7 +180,7 @@ argBits v value = v
 argBits v (constant k) = some k
 
 unfoldable pub runOp : Option ℕ → Op → Record → Option Record
-runOp v (setOp p a m) r = bindO (argBits v a) (λ x. put p x m r)
+runOp v (setOp p a m) r = bindO (argBits v a) (λ x. putValue p x m r)
 runOp v (clearOp i) r = clear i r
 
 -- an empty line does nothing

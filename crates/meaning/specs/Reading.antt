@@ -8,7 +8,7 @@ use lib.Dec.{eqb, leb, ltb}
 use Rattle.text.specs.Bytes.{Str, ascii, cond, both}
 use Rattle.record.specs.Masks.{halfOf}
 use Rattle.record.specs.Record.{only}
-use Rattle.record.specs.Types.{Num, int, uint, float32, float64, bitsOf, nameOf}
+use Rattle.record.specs.Types.{Num, int, uint, float32, float64, bitsOf, typeNameOf}
 use Rattle.record.specs.declared.Width.the-variants.{One, Two, Four, Eight}
 
 -- a reading gives what was read and the rest, or nothing
@@ -54,26 +54,26 @@ end (x ∷ s) = none
 
 -- ---- numbers
 
-abbrev pub digit : ℕ → Bool
-digit c = both (leb 48 c) (leb c 57)
+abbrev pub digitByte : ℕ → Bool
+digitByte c = both (leb 48 c) (leb c 57)
 
 -- the digits in front, after those whose number is n
-abbrev pub digits : ℕ → Str → ℕ × Str
-digits n [] = (n, [])
-digits n (c ∷ s) = cond (digit c) (digits (n * 10 + (c - 48)) s) (n, c ∷ s)
+abbrev pub digitsFrom : ℕ → Str → ℕ × Str
+digitsFrom n [] = (n, [])
+digitsFrom n (c ∷ s) = cond (digitByte c) (digitsFrom (n * 10 + (c - 48)) s) (n, c ∷ s)
 
 -- a number: one digit at least, and all that follow
-abbrev pub number : Reads ℕ
-number [] = none
-number (c ∷ s) = only (digit c) (digits 0 (c ∷ s))
+abbrev pub numeral : Reads ℕ
+numeral [] = none
+numeral (c ∷ s) = only (digitByte c) (digitsFrom 0 (c ∷ s))
 
 -- a number below a limit
 abbrev pub below : ℕ → Reads ℕ
-below limit s = bindO (number s) (λ x. only (ltb (x .0) limit) x)
+below limit s = bindO (numeral s) (λ x. only (ltb (x .0) limit) x)
 
 -- the bits of a negative number by what stands after its sign: 1 to half, which is the sign's bit
 abbrev pub negative : ℕ → Reads ℕ
-negative half s = bindO (number s) (λ x. only (both (ltb 0 (x .0)) (leb (x .0) half)) (half + half - x .0, x .1))
+negative half s = bindO (numeral s) (λ x. only (both (ltb 0 (x .0)) (leb (x .0) half)) (half + half - x .0, x .1))
 
 -- a number with a sign as its bits: -5 of 8 bits is 251
 abbrev pub signedNumber : ℕ → Reads ℕ
@@ -131,7 +131,7 @@ limit float64 = 1
 
 -- the type's own name after a constant adds nothing
 abbrev pub ending : Num → Reads (Unit {0})
-ending t = strip (nameOf t) or pure tt
+ending t = strip (typeNameOf t) or pure tt
 
 -- an enum's value is written as its number, of type u16
 abbrev pub enumValue : Num → Reads Arg

@@ -13,30 +13,30 @@ use lib.ListN.{length, take, drop, length-drop}
 use lib.Seq.{drop-drop}
 use Rattle.text.specs.Bytes.{Str, unit, cond, both, either, same}
 use Rattle.text.proofs.BytesLaws.{unlike, both-true}
-use Rattle.names.specs.Keywords.{rustKeywords, among, isKeyword, cut, wordsOf}
+use Rattle.names.specs.Keywords.{rustKeywords, isOneOf, isKeyword, cut, cutWords}
 
 -- the words of n bytes
 abbrev pub ofLength : ℕ → List Str → List Str
 ofLength n [] = []
 ofLength n (w ∷ ws) = cond (eqb (length w) n) (w ∷ []) [] ++ ofLength n ws
 
-among-length : (s : Str) (ws : List Str) → among s (ofLength (length s) ws) ≡ among s ws
-unfolding among
+among-length : (s : Str) (ws : List Str) → isOneOf s (ofLength (length s) ws) ≡ isOneOf s ws
+unfolding isOneOf
 among-length s [] = refl
 among-length s (w ∷ ws) = go (eqb (length w) (length s)) refl (among-length s ws)
   where
-    go : (b : Bool) → eqb (length w) (length s) ≡ b → among s (ofLength (length s) ws) ≡ among s ws
-        → among s (cond b (w ∷ []) [] ++ ofLength (length s) ws) ≡ either (same s w) (among s ws)
+    go : (b : Bool) → eqb (length w) (length s) ≡ b → isOneOf s (ofLength (length s) ws) ≡ isOneOf s ws
+        → isOneOf s (cond b (w ∷ []) [] ++ ofLength (length s) ws) ≡ either (same s w) (isOneOf s ws)
     go true e f = ap (either (same s w)) f
     go false e f = rw (unlike s w (λ q. eqb-false (length w) (length s) e (sym q))) f
 
 -- the words of a byte string, where they are the keywords of the name's length
-pub of-length : (s words : Str) (r : Bool) (n : ℕ) → length s ≡ n → r ≡ among s (wordsOf (length s) words)
+pub of-length : (s words : Str) (r : Bool) (n : ℕ) → length s ≡ n → r ≡ isOneOf s (cutWords (length s) words)
     → cut n n [] words ≡ ofLength n rustKeywords → r ≡ isKeyword s
-unfolding isKeyword wordsOf
+unfolding isKeyword cutWords
 of-length s words r n e f g =
-    f ∙ ap (λ (k : ℕ). among s (cut k k [] words)) e ∙ ap (among s) g
-    ∙ ap (λ (k : ℕ). among s (ofLength k rustKeywords)) (sym e) ∙ among-length s rustKeywords
+    f ∙ ap (λ (k : ℕ). isOneOf s (cut k k [] words)) e ∙ ap (isOneOf s) g
+    ∙ ap (λ (k : ℕ). isOneOf s (ofLength k rustKeywords)) (sym e) ∙ among-length s rustKeywords
 
 -- whether each word has 2 to 8 bytes
 abbrev sized : List Str → Bool
@@ -45,13 +45,13 @@ sized (w ∷ ws) = both (both (leb 2 (length w)) (leb (length w) 8)) (sized ws)
 
 -- a name of another length is no keyword
 pub of-no-length : (s : Str) → (2 ≤ length s → 8 < length s) → isKeyword s ≡ false
-unfolding isKeyword among
+unfolding isKeyword isOneOf
 of-no-length s h = go rustKeywords refl
   where
     other : (w : Str) → 2 ≤ length w → length w ≤ 8 → length s ≡ length w → ⊥
     other w a b q = let g : 8 < length s = h (omega arith) in omega arith
 
-    go : (ws : List Str) → sized ws ≡ true → among s ws ≡ false
+    go : (ws : List Str) → sized ws ≡ true → isOneOf s ws ≡ false
     go [] e = refl
     go (w ∷ ws) e =
         let b = both-true (both (leb 2 (length w)) (leb (length w) 8)) (sized ws) e in
@@ -81,19 +81,19 @@ cut-none n zero w (c ∷ s) h = absurd (not-suc-le-zero h)
 cut-none n (suc k) w (c ∷ s) h = cut-none n k (w ++ unit c) s (le-of-suc-le-suc h)
 
 -- the first word, and those after it
-pub words-some : (n : ℕ) (s : Str) → n < length s → wordsOf n s ≡ take n s ∷ wordsOf n (drop (n + 1) s)
-unfolding wordsOf
+pub words-some : (n : ℕ) (s : Str) → n < length s → cutWords n s ≡ take n s ∷ cutWords n (drop (n + 1) s)
+unfolding cutWords
 words-some n s h = cut-some n n [] s h ∙ rw add-one
 
-pub words-none : (n : ℕ) (s : Str) → length s ≤ n → wordsOf n s ≡ []
-unfolding wordsOf
+pub words-none : (n : ℕ) (s : Str) → length s ≤ n → cutWords n s ≡ []
+unfolding cutWords
 words-none n s h = cut-none n n [] s h
 
 -- a turn over the words from a place on: the word there, which ends at place + length, and those after it
 pub turn : (name words : Str) (at : ℕ) → length name < length words - at
-    → among name (wordsOf (length name) (drop at words)) ≡ either (same name (take (at + length name - at) (drop at words)))
-    (among name (wordsOf (length name) (drop (at + length name + 1) words)))
-unfolding among
+    → isOneOf name (cutWords (length name) (drop at words)) ≡ either (same name (take (at + length name - at) (drop at words)))
+    (isOneOf name (cutWords (length name) (drop (at + length name + 1) words)))
+unfolding isOneOf
 turn name words at h =
     let n = length name in
     let e : at + n - at ≡ n = omega arith in

@@ -11,7 +11,7 @@ use lib.ListN.{length, take, drop, replicate, length-append, length-replicate}
 use lib.Seq.{take-all, take-append-seam, length-take-le}
 use Rattle.text.specs.Answer.{placed}
 use Rattle.text.specs.Bytes.{Str, unit, cond, both}
-use Rattle.text.specs.Text.{put, textAt, Wrote}
+use Rattle.text.specs.Text.{put, stateAt, Wrote}
 use Rattle.text.specs.declared.Text.{Text}
 use Rattle.text.proofs.BytesLaws.{both-false}
 use Rattle.text.proofs.Places.{put-placed, adv-fits}
@@ -67,7 +67,7 @@ drop-replicate (suc n) zero = rw zero-sub
 drop-replicate (suc n) (suc m) = rw suc-sub-suc (drop-replicate n m)
 
 -- a text at the start of m zeros
-padded : (m : ℕ) (s : Str) → length s ≤ m → m < 2 ^ 64 → put (replicate m 0) (textAt 0) s ≡ s ++ replicate (m - length s) 0
+padded : (m : ℕ) (s : Str) → length s ≤ m → m < 2 ^ 64 → put (replicate m 0) (stateAt 0) s ≡ s ++ replicate (m - length s) 0
 unfolding placed
 padded m s h b =
     let e = length-replicate {A = ℕ} m 0 in
@@ -77,14 +77,14 @@ abbrev snake : Str → ℕ → Snake
 snake l n = record { bytes = l; len = n }
 
 -- a text that was written into zeros is held
-held-wrote : (s l : Str) (t : Text) → length s ≤ 128 → Wrote (replicate 128 0) (textAt 0) s l t → snake l (t .at) ≡ held s
+held-wrote : (s l : Str) (t : Text) → length s ≤ 128 → Wrote (replicate 128 0) (stateAt 0) s l t → snake l (t .at) ≡ held s
 unfolding held
 held-wrote s l t h w =
     ap₂ snake (w .bytes ∙ padded 128 s h (omega arith))
     (ap (λ (u : Text). u .at) (w .state ∙ adv-fits 0 s (omega arith)) ∙ zero-add (length s))
 
 -- the two ends of `camel_to_snake_case`: a name that is taken, and one that is not
-pub held-taken : (name l : Str) (t : Text) → taken name ≡ true → Wrote (replicate 128 0) (textAt 0) (snakeFrom true name) l t
+pub held-taken : (name l : Str) (t : Text) → taken name ≡ true → Wrote (replicate 128 0) (stateAt 0) (snakeFrom true name) l t
     → snake l (t .at) ≡ held (camelToSnakeCase name)
 held-taken name l t e w =
     let f = camel-taken name e in

@@ -14,13 +14,13 @@ rustKeywords =
     ∷ "type" ∷ "typeof" ∷ "unsafe" ∷ "unsized" ∷ "use" ∷ "virtual" ∷ "where" ∷ "while" ∷ "yield" ∷ [])
 
 -- whether s is one of the words
-unfoldable pub among : Str → List Str → Bool
-among s [] = false
-among s (w ∷ ws) = either (same s w) (among s ws)
+unfoldable pub isOneOf : Str → List Str → Bool
+isOneOf s [] = false
+isOneOf s (w ∷ ws) = either (same s w) (isOneOf s ws)
 
 -- `RUST_KEYWORDS.contains(name)`
 unfoldable pub isKeyword : Str → Bool
-isKeyword name = among name rustKeywords
+isKeyword name = isOneOf name rustKeywords
 
 -- the words of n bytes that stand in a byte string one after the other, each with one byte after it; k bytes are left of the
 -- word that begins with w
@@ -29,5 +29,5 @@ cut n k w [] = []
 cut n zero w (c ∷ cs) = w ∷ cut n n [] cs
 cut n (suc k) w (c ∷ cs) = cut n k (w ++ unit c) cs
 
-unfoldable pub wordsOf : ℕ → Str → List Str
-wordsOf n s = cut n n [] s
+unfoldable pub cutWords : ℕ → Str → List Str
+cutWords n s = cut n n [] s

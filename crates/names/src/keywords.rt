@@ -2,11 +2,11 @@
 use text::equal;
 ghost use mathlib.Core.Path.{_≡_};
 ghost use lib.ListN.{length};
-ghost use Rattle.names.specs.Keywords.{among, wordsOf, isKeyword};
+ghost use Rattle.names.specs.Keywords.{isOneOf, cutWords, isKeyword};
 
 // Whether a name is one of the words, which have its length and stand one after the other with a space after each.
 fn one_of(name: &[u8], words: &[u8]) -> bool
-    ensures { λ r. ⌜ r ≡ among (now (name .entry)) (wordsOf (length (now (name .entry))) (now (words .entry))) ⌝ }
+    ensures { λ r. ⌜ r ≡ isOneOf (now (name .entry)) (cutWords (length (now (name .entry))) (now (words .entry))) ⌝ }
 {
     let len = name.len();
     let mut at = 0;

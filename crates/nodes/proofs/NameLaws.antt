@@ -15,7 +15,7 @@ use Rattle.row.specs.Line.{lineOf, lineAt, textOf, textAt, asParameter}
 use Rattle.row.specs.declared.Line.{Line}
 use Rattle.row.specs.declared.Line.the-variants.{Root, Node, Parameter, Field, Group, Typ, Scope, Unbound, Value, Word, Bad}
 use Rattle.tree.specs.Reader.{Rows, Reading, got, no, Reader, _then_}
-use Rattle.tree.specs.Read.{paramsOf}
+use Rattle.tree.specs.Read.{readParams}
 use Rattle.tree.specs.Index.{On}
 use Rattle.tree.proofs.OtherLines.{never}
 use Rattle.nodes.specs.Index.{namesOf, nth, rowsAfter}
@@ -55,10 +55,10 @@ names-none (r ∷ rs) h =
     names-by (λ l. l ≡ []) r rs (λ e. let z : true ≡ false = rw e at h in never cc) refl
 
 -- the names of a node's P rows are what the reader of P rows reads
-pub params-names : (rs : Rows) → On (paramsOf rs) (λ ps. ps ≡ namesOf rs)
-unfolding paramsOf namesOf lineAt textAt restOf
+pub params-names : (rs : Rows) → On (readParams rs) (λ ps. ps ≡ namesOf rs)
+unfolding readParams namesOf lineAt textAt restOf
 params-names [] = refl
-params-names (r ∷ rs) = go (lineOf r) (paramsOf rs) (params-names rs)
+params-names (r ∷ rs) = go (lineOf r) (readParams rs) (params-names rs)
   where
     go : (l : Line) (g : Reading (List Str)) → On g (λ ps. ps ≡ namesOf rs)
         → On (asParameter {A = Reader (List Str)} l (λ q. g then λ ps. got (textAt q ∷ ps)) (got []) (r ∷ rs))

@@ -6,7 +6,8 @@ ghost use Prim.Native.Nat.{ℕ, _+_, _≤_, _<_};
 ghost use lib.ListN.{length, drop, set};
 ghost use Rattle.row.specs.Rows.{rows};
 ghost use Rattle.tree.specs.Tree.{Node};
-ghost use Rattle.nodes.specs.Index.{firstMark, entryAt, withEntry, lookup, entryWith, rowsAfter, EntryIs, NameAt};
+ghost use Rattle.nodes.specs.Index.{firstMark, indexSize, entryAt, withEntry, lookup, entryWith, rowsAfter};
+ghost use Rattle.nodes.specs.Index.{EntryIs, NameAt};
 
 // How many numbers are room enough for the index of any sheet: its count, 64 entries of 12, and 256 marks.
 pub const INDEX_SIZE: usize = 1025;
@@ -48,6 +49,18 @@ pub fn first_mark(size: usize) -> usize
         return 769;
     }
     1 + 12 * (size / 151)
+}
+
+// How many numbers the index of a sheet of so many bytes has: after the place of the first mark one for each 256 bytes, of which
+// at most 65,536 are read.
+pub fn index_size(size: usize) -> usize
+    ensures { λ r. ⌜ r ≡ indexSize size ⌝ }
+{
+    let first = first_mark(size);
+    if 65536 <= size {
+        return first + 256;
+    }
+    first + size / 256
 }
 
 // The entry whose numbers stand from a place of the index on.

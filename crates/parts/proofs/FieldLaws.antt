@@ -20,7 +20,7 @@ use Rattle.row.specs.declared.Line.the-variants as line
 use Rattle.tree.specs.Tree as tree
 use Rattle.tree.specs.Tree.{Arm, slot, group}
 use Rattle.tree.specs.Reader.{Rows, Reading, got, no, _then_}
-use Rattle.tree.specs.Read.{slotOf, field, fieldOf}
+use Rattle.tree.specs.Read.{readSlot, field, readField}
 use Rattle.tree.specs.Fields.{FieldsHere, none, more}
 use Rattle.tree.specs.Index.{On}
 use Rattle.field.specs.Slot.{SlotField, SlotHere}
@@ -28,8 +28,8 @@ use Rattle.field.specs.Field.{SlotIn, GroupHere, GroupIn}
 use Rattle.field.specs.declared.Slot as code
 use Rattle.field.specs.declared.Group.{Group}
 use Rattle.field.specs.declared.Field.the-variants as field-is
-use Rattle.parts.specs.Program.{from, partsOf, fieldText}
-use Rattle.parts.specs.Fit.{partMost, unitMost, Fits, PartsPut, FieldPut}
+use Rattle.parts.specs.Program.{partsFrom, partsOf, fieldText}
+use Rattle.parts.specs.Fit.{partMost, unitMost, TakesAtMost, PartsPut, FieldPut}
 use Rattle.parts.specs.declared.Part.the-variants.{GetterReader, Zero}
 use Rattle.parts.specs.declared.Fit.{Fit}
 use Rattle.parts.specs.declared.Fit.the-variants.{Whole, Short}
@@ -44,8 +44,8 @@ name-few t e = go (sized 64 t) refl e
     go true s e = leb-true (length t) 64 (both-true (leb 1 (length t)) (leb (length t) 64) s .1)
     go false s e = let z : _≡_ {A = ℕ} 0 1 = cc in omega arith
 
-read-few : (rs : Rows) → On (fieldOf rs) (λ f. length (f .name) ≤ 64)
-unfolding fieldOf lineAt textAt
+read-few : (rs : Rows) → On (readField rs) (λ f. length (f .name) ≤ 64)
+unfolding readField lineAt textAt
 read-few [] = tt
 read-few (r ∷ rs) = go (lineOf r) refl
   where
@@ -54,11 +54,11 @@ read-few (r ∷ rs) = go (lineOf r) refl
     slots o d e p i (got sl us) = name-few (textOf r) (printed-line r (line.Field o d e p) tt i .fits .4)
     slots o d e p i (no k us) = tt
 
-    go : (l : Line) → lineOf r ≡ l → On (fieldOf (r ∷ rs)) (λ f. length (f .name) ≤ 64)
+    go : (l : Line) → lineOf r ≡ l → On (readField (r ∷ rs)) (λ f. length (f .name) ≤ 64)
     go line.Root i = rw (i, i) tt
     go (line.Node a b c d e f g) i = rw (i, i) tt
     go line.Parameter i = rw (i, i) tt
-    go (line.Field o d e p) i = rw i (slots o d e p i (slotOf o e p (restOf (r ∷ rs))))
+    go (line.Field o d e p) i = rw i (slots o d e p i (readSlot o e p (restOf (r ∷ rs))))
     go (line.Group j d) i = rw (i, i) (name-few (textOf r) (printed-line r (line.Group j d) tt i .fits .2))
     go (line.Typ a b c d) i = rw (i, i) tt
     go (line.Scope a b c) i = rw (i, i) tt
@@ -76,8 +76,8 @@ field-few rs f fs (more e h) = rw e at (read-few rs)
 unit-most : (k n : ℕ) → k ≤ 5 → n ≤ 64 → k * (n + 65554) ≤ unitMost
 unit-most k n h g = le-trans (mul-le-mul-right (n + 65554) h) (omega arith)
 
-fits-unit : (k : ℕ) (l : Str) (name : Str) (r : Fit) → k ≤ 5 → length name ≤ 64 → Fits (k * partMost name) l r
-    → Fits unitMost l r
+fits-unit : (k : ℕ) (l : Str) (name : Str) (r : Fit) → k ≤ 5 → length name ≤ 64 → TakesAtMost (k * partMost name) l r
+    → TakesAtMost unitMost l r
 fits-unit k l name (Whole n) h g f = omega (arith, unit-most k (length name) h g)
 fits-unit k l name Short h g f = omega (arith, unit-most k (length name) h g)
 
@@ -85,7 +85,7 @@ module _ (root s index : List ℕ) (tag : ℕ) (name l l′ : Str) (r : Fit) whe
   -- what is known of a slot's name and of its parts from the first on
   pub slot-unit :
       (sl : code.Slot) → ((f : SlotField) → SlotHere s sl f → name ≡ f .name)
-      → Fits (length (from GetterReader) * partMost name) l r
+      → TakesAtMost (length (partsFrom GetterReader) * partMost name) l r
       → PartsPut root s index tag (field-is.Slot sl) name GetterReader l′ r
       → FieldPut root s index tag (field-is.Slot sl) l l′ r
   unfolding fieldText
@@ -96,14 +96,14 @@ module _ (root s index : List ℕ) (tag : ℕ) (name l l′ : Str) (r : Fit) whe
       )
     where
       go : (arm : Arm) → SlotIn s sl (at .1 .name) (at .1 .discriminant) arm
-          → (name ≡ at .1 .name) × (partsOf arm ≡ from GetterReader)
+          → (name ≡ at .1 .name) × (partsOf arm ≡ partsFrom GetterReader)
       go (slot t) h = (named _ h, refl)
       go (group id) h = absurd h
 
   -- and of a group's
   pub group-unit :
       (g : Group) → ((n : Str) (d id : ℕ) → GroupHere s g n d id → name ≡ n)
-      → Fits (length (from Zero) * partMost name) l r
+      → TakesAtMost (length (partsFrom Zero) * partMost name) l r
       → PartsPut root s index tag (field-is.Group g) name Zero l′ r
       → FieldPut root s index tag (field-is.Group g) l l′ r
   unfolding fieldText
@@ -114,6 +114,6 @@ module _ (root s index : List ℕ) (tag : ℕ) (name l l′ : Str) (r : Fit) whe
       )
     where
       go : (arm : Arm) → GroupIn s g (at .1 .name) (at .1 .discriminant) arm
-          → (name ≡ at .1 .name) × (partsOf arm ≡ from Zero)
+          → (name ≡ at .1 .name) × (partsOf arm ≡ partsFrom Zero)
       go (slot t) h = absurd h
       go (group id) h = (named _ _ _ h, refl)

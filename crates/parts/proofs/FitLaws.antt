@@ -3,23 +3,24 @@
 use mathlib.Core.Path.{_≡_, refl, sym, ap, _∙_}
 use mathlib.Core.Bool.{Bool, true, false}
 use mathlib.Core.List.{_++_}
-use Prim.Native.Nat.{ℕ, _+_, _-_, _^_, _≤_, _<_, min}
+use Prim.Native.Nat.{ℕ, _+_, _^_, _≤_, _<_}
 use native.Mathlib.Omega.{arith}
 use borrow.Author.Tests.{ltb-true, ltb-false}
 use lib.Dec.{ltb}
-use lib.ListN.{length, take, drop, length-append, length-take, length-drop}
+use lib.ListN.{length, take, drop, length-append, length-drop}
 use lib.Seq.{take-at, length-take-le, take-append-add, take-append-le}
 use Rattle.io.specs.Counts.{Counts}
 use Rattle.text.specs.Bytes.{Str, cond}
 use Rattle.text.specs.Decimal.{decimal}
-use Rattle.text.specs.Text.{textAt, Wrote}
+use Rattle.text.specs.Text.{stateAt, Wrote}
 use Rattle.text.specs.Answer.{placed}
 use Rattle.text.specs.declared.Text.{Text}
 use Rattle.text.proofs.Laws.{kept}
-use Rattle.text.proofs.Places.{adv-at, put-placed}
+use Rattle.text.proofs.Places.{put-placed}
 use Rattle.text.proofs.DecimalLaws.{decimal-length}
+pub use Rattle.requests.proofs.LentLaws.{text-end, lent, back, lent-length, before-kept}
 use Rattle.parts.specs.Program.{opening, headerText, refusedText, refusedSheetText}
-use Rattle.parts.specs.Fit.{fitOf, Within, Fits, Puts}
+use Rattle.parts.specs.Fit.{fitOf, Within, TakesAtMost, Puts}
 use Rattle.parts.specs.declared.Part.{Part}
 use Rattle.parts.specs.declared.Part.the-variants.{GetterReader, GetterBuilder, Setter, HaserReader, HaserBuilder, Zero}
 use Rattle.parts.specs.declared.Fit.{Fit}
@@ -64,31 +65,24 @@ taken-within n l r i = rw i (go (ltb (length l) n) refl)
     go true e = tt
     go false e = ltb-false (length l) n e
 
-pub taken-most : (n : ℕ) (l : Str) (r : Fit) (most : ℕ) → n ≤ most → r ≡ fitOf n (length l) → Fits most l r
+pub taken-most : (n : ℕ) (l : Str) (r : Fit) (most : ℕ) → n ≤ most → r ≡ fitOf n (length l) → TakesAtMost most l r
 taken-most n l r most h i = rw i (go (ltb (length l) n) refl)
   where
-    go : (b : Bool) → ltb (length l) n ≡ b → Fits most l (cond b Short (Whole n))
+    go : (b : Bool) → ltb (length l) n ≡ b → TakesAtMost most l (cond b Short (Whole n))
     go true f = omega (arith, ltb-true (length l) n f)
     go false f = h
 
 -- a buffer of the same length is as short
-pub fits-same : (most : ℕ) (l l₁ : Str) (r : Fit) → length l₁ ≡ length l → Fits most l₁ r → Fits most l r
+pub fits-same : (most : ℕ) (l l₁ : Str) (r : Fit) → length l₁ ≡ length l → TakesAtMost most l₁ r → TakesAtMost most l r
 fits-same most l l₁ (Whole n) e f = f
 fits-same most l l₁ Short e f = omega (arith, e, f)
 
 -- the text w, written from the start of l on
-module _ {l w l′ : Str} {t₀ t : Text} (z : t₀ ≡ textAt 0) (e : Wrote l t₀ w l′ t) where
-  -- where the state stands
-  pub text-end : t .at ≡ min (length w) (2 ^ 64 - 1)
-  text-end =
-      let f : t .at ≡ min (0 + length w) (2 ^ 64 - 1)
-      = ap (λ (t : Text). t .at) (e .state ∙ rw z (adv-at (textAt 0) w (omega arith))) in
-      omega arith
-
+module _ {l w l′ : Str} {t₀ t : Text} (z : t₀ ≡ stateAt 0) (e : Wrote l t₀ w l′ t) where
   module _ (b : length l < 2 ^ 63) where
     pub text-whole : t .at ≤ length l → take (t .at) l′ ≡ w
     text-whole h =
-        let g : t .at ≡ length w = omega (arith, text-end) in
+        let g : t .at ≡ length w = omega (arith, text-end z e) in
         rw (g, e .bytes, z, put-placed l 0 w (omega arith) (omega arith)) (placed-first l w)
 
     pub taken-puts : (r : Fit) → r ≡ fitOf (t .at) (length l′) → Puts w l′ r
@@ -98,7 +92,7 @@ module _ {l w l′ : Str} {t₀ t : Text} (z : t₀ ≡ textAt 0) (e : Wrote l t
         go true f = tt
         go false f = text-whole (omega (arith, kept e, ltb-false (length l′) (t .at) f))
 
-  pub taken-fits : (most : ℕ) (r : Fit) → t .at ≤ most → r ≡ fitOf (t .at) (length l′) → Fits most l r
+  pub taken-fits : (most : ℕ) (r : Fit) → t .at ≤ most → r ≡ fitOf (t .at) (length l′) → TakesAtMost most l r
   taken-fits most r h i = fits-same most l l′ r (kept e) (taken-most (t .at) l′ r most h i)
 
 -- so many of a buffer's bytes
@@ -107,24 +101,11 @@ counted n l h = (h, sym (length-take-le n l h))
 
 -- ---- a buffer of which the bytes from n on are lent
 
--- the bytes that are lent, and the buffer once they are back as l′
-abbrev pub lent : Str → ℕ → Str
-lent l n = take (length l - n) (drop n l)
-
-abbrev pub back : Str → ℕ → Str → Str
-back l n l′ = take n l ++ (l′ ++ drop (length l - n) (drop n l))
-
-pub lent-length : (l : Str) (n : ℕ) → length (lent l n) ≡ length l - n
-lent-length l n = length-take (length l - n) (drop n l) ∙ rw (length-drop n l) (omega arith)
-
 module _ (l l′ : Str) (n : ℕ) (h : n ≤ length l) where
   pub back-length : length l′ ≡ length (lent l n) → length (back l n l′) ≡ length l
   back-length e =
       simp (length-append, length-take-le n l h, length-drop)
       (omega (arith, e, lent-length l n))
-
-  pub before-kept : take n (back l n l′) ≡ take n l
-  before-kept = take-at (take n l) _ n (length-take-le n l h)
 
   pub kept-within : n ≤ length (back l n l′)
   kept-within = simp length-append (omega (arith, length-take-le n l h))

@@ -29,7 +29,7 @@ use Rattle.field.specs.Field.{FieldIs, ReadsFirst, nextOf}
 use Rattle.field.specs.declared.Field.{Field}
 use Rattle.field.specs.declared.Field.the-variants as field-is
 use Rattle.parts.specs.Program.{eachText, fieldText, nodeText, refusedSheetText, programText}
-use Rattle.parts.specs.Fit.{unitMost, Fits, Puts, FieldPut}
+use Rattle.parts.specs.Fit.{unitMost, TakesAtMost, Puts, FieldPut}
 use Rattle.parts.specs.Left.{sheetIn, LeftAt, Left, mostLeft, Enters, Goes, Gives, Turns, Filled, Reached, Comes}
 use Rattle.parts.specs.declared.Fit.{Fit}
 use Rattle.parts.specs.declared.Fit.the-variants.{Whole, Short}
@@ -122,7 +122,7 @@ pub end-turn : (s index : List ℕ) (l l′ : Str) → Turns s index End l l′ 
 end-turn s index l l′ = record { goes = λ text left. record { rest = text; left = left; joined = refl } }
 
 pub refused-turn :
-    (s index : List ℕ) (k line : ℕ) (l l′ : Str) (r : Fit) → Fits 65536 l r → Puts (refusedSheetText k line) l′ r
+    (s index : List ℕ) (k line : ℕ) (l l′ : Str) (r : Fit) → TakesAtMost 65536 l r → Puts (refusedSheetText k line) l′ r
     → Turns s index (Refused k line) l l′ r End
 refused-turn s index k line l l′ (Whole n) fits put = record {
   goes = λ text left. record { rest = []; left = refl; joined = append-nil (take n l′) ∙ put ∙ sym left };
@@ -176,7 +176,7 @@ module _ (s index : List ℕ) (k q : ℕ) (l l′ : Str) (r : Field)
     field-there text left = reads s q r (left .fields) (left .here) (first (left .fields) (left .here)) there
 
     unit-put : (text : Str) (left : LeftAt s index k q text)
-        → Fits unitMost l fit
+        → TakesAtMost unitMost l fit
         × Puts (fieldText (sheetIn s (left .nodes)) (left .node) (field-there text left .first)) l′ fit
     unit-put text left =
         let f = field-there text left in

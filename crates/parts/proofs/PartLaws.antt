@@ -7,7 +7,7 @@ use native.Mathlib.Nat.{suc-mul}
 use borrow.Author.Tests.{lt-ltb, le-ltb}
 use lib.ListN.{length, take}
 use Rattle.text.specs.Bytes.{Str}
-use Rattle.text.specs.Text.{textAt, Wrote}
+use Rattle.text.specs.Text.{stateAt, Wrote}
 use Rattle.text.specs.declared.Text.{Text}
 use Rattle.tree.specs.Tree as tree
 use Rattle.tree.specs.Tree.{Node, Sheet}
@@ -19,7 +19,7 @@ use Rattle.codegen_types.specs.declared.Refusal.the-variants.{None, Number}
 use Rattle.nodes.specs.Index.{ForAll, sheetOf}
 use Rattle.field.specs.declared.Field.{Field}
 use Rattle.requests.specs.Requests.{accessorText}
-use Rattle.parts.specs.Program.{from, accessorOf, headerText, refusedText, partText, printedPart, eachText}
+use Rattle.parts.specs.Program.{partsFrom, accessorOf, headerText, refusedText, partText, printedPart, eachText}
 use Rattle.parts.specs.Fit.{partMost, fitOf, Puts, Named, PartPut, PartsPut}
 use Rattle.parts.specs.declared.Part.{Part}
 use Rattle.parts.specs.declared.Part.the-variants.{GetterReader, GetterBuilder, Setter, HaserReader, HaserBuilder, Zero}
@@ -29,7 +29,7 @@ use Rattle.parts.proofs.FitLaws.{text-end, taken-puts, lent, back, lent
 
 -- ---- what stands under a header, over the outcome of the accessor's text, which left l′ and r
 
-module _ {l l′ : Str} {t₀ : Text} {r : Written} (z : t₀ ≡ textAt 0) where
+module _ {l l′ : Str} {t₀ : Text} {r : Written} (z : t₀ ≡ stateAt 0) where
   -- it is refused with a number
   pub refused-part : (o : Out Str) (k : ℕ) → Writes o l t₀ l′ r → r .refusal ≡ Number k → refusedText k ≡ partText o
   unfolding partText
@@ -65,7 +65,7 @@ part-whole sheet at part name l l′ n m i h g header text = taken-on l l′ n h
 -- ---- the parts of a field from one on
 
 -- each field has a part at least
-from-some : (part : Part) → 1 ≤ length (from part)
+from-some : (part : Part) → 1 ≤ length (partsFrom part)
 from-some GetterReader = omega arith
 from-some GetterBuilder = omega arith
 from-some Setter = omega arith
@@ -82,31 +82,31 @@ pub record PartsLeft (root s index : List ℕ) (tag : ℕ) (field : Field) (name
     (left : List Part) : Type 0 where
   pub size : length l ≡ length l₀
   pub within : n ≤ length l
-  pub fits : n + length left * partMost name ≤ length (from first) * partMost name
+  pub fits : n + length left * partMost name ≤ length (partsFrom first) * partMost name
   pub said : ForAll root s index (λ sheet. (at : Node × tree.Field) → Named s tag field name at
-      → take n l ++ eachText (printedPart sheet at) left ≡ eachText (printedPart sheet at) (from first))
+      → take n l ++ eachText (printedPart sheet at) left ≡ eachText (printedPart sheet at) (partsFrom first))
 
 module _ (root s index : List ℕ) (tag : ℕ) (field : Field) (name : Str) (first : Part) (l₀ : Str) where
-  pub parts-none : PartsLeft root s index tag field name first l₀ l₀ 0 (from first)
+  pub parts-none : PartsLeft root s index tag field name first l₀ l₀ 0 (partsFrom first)
   parts-none = record { size = refl; within = omega arith; fits = omega arith; said = λ ns x at named. refl }
 
-  module _ (l : Str) (n : ℕ) (part : Part) (left : PartsLeft root s index tag field name first l₀ l n (from part)) where
+  module _ (l : Str) (n : ℕ) (part : Part) (left : PartsLeft root s index tag field name first l₀ l n (partsFrom part)) where
     -- the next part does not fit behind them
-    pub parts-short : length (lent l n) < partMost name → length l₀ < length (from first) * partMost name
+    pub parts-short : length (lent l n) < partMost name → length l₀ < length (partsFrom first) * partMost name
     parts-short h =
-        let g : partMost name ≤ length (from part) * partMost name = most-of-some _ _ (from-some part) in
+        let g : partMost name ≤ length (partsFrom part) * partMost name = most-of-some _ _ (from-some part) in
         omega (arith, left .size, left .within, left .fits, lent-length l n)
 
     -- it does, and these are left
     pub parts-more :
-        (l′ : Str) (m : ℕ) (parts : List Part) → from part ≡ part ∷ parts → length l′ ≡ length (lent l n) → m ≤ length l′
+        (l′ : Str) (m : ℕ) (parts : List Part) → partsFrom part ≡ part ∷ parts → length l′ ≡ length (lent l n) → m ≤ length l′
         → m ≤ partMost name → PartPut root s index tag field name part l′ (Whole m)
         → PartsLeft root s index tag field name first l₀ (back l n l′) (n + m) parts
     unfolding eachText
     parts-more l′ m parts i k g h put = record {
       size = back-length l l′ n (left .within) k ∙ left .size;
       within = on-within l l′ n (left .within) m g;
-      fits = let e : length (from part) ≡ length parts + 1 = omega (arith, ap length i) in
+      fits = let e : length (partsFrom part) ≡ length parts + 1 = omega (arith, ap length i) in
           omega (arith, h, rw e at (left .fits));
       said = λ ns x at named.
           let each = eachText (printedPart (sheetOf root ns) at) in

@@ -14,8 +14,9 @@ use Rattle.row.specs.Rows.{rows, onto, restOf, newlines, size, lineNo, joined}
 use Rattle.row.specs.Line.{rootLine, nodeLine, fieldLine, typeLine, valueLine}
 use Rattle.row.specs.Line.{mostA, mostB, mostC, mostBits, reader, lineOf, lineAt, textStart, textOf, textAt}
 use Rattle.row.specs.Print.{columns, rowText, printRoot, printNode, printField, printType, printValue}
-use Rattle.tree.specs.Read.{admitted, sheetOf, nodesOf, nodeOf, membersOf, paramsOf, groupIds, fieldsOf, fieldsUpTo, fieldOf}
-use Rattle.tree.specs.Read.{overlap, among, slotOf, wordsOf, valueOf, typeOf, typeFrom}
+use Rattle.tree.specs.Read.{admitted, readSheet, readNodes, readNode, readMembers, readParams, groupIds, readFields, fieldsUpTo}
+use Rattle.tree.specs.Read.{readField}
+use Rattle.tree.specs.Read.{overlap, among, readSlot, readWords, valueOf, readType, typeFrom}
 use Rattle.codegen_types.specs.TypeString.{typeString}
 use Rattle.calls.specs.Calls.{getBoolField, setBoolField}
 use Rattle.codegen.specs.Default.{primDefault, getterMask}
@@ -55,16 +56,19 @@ pub example : programText (admitted isFree) ≡ ended (linesOf (
     ∷ []))
 unfolding programText nodeText fieldText eachText printedPart partText refusedText headerText accessorText setterRequest
     generateSetter haserRequest generateHaser getterRequest getterText getterMask primDefault setBoolField getBoolField
-    typeString typeFrom typeOf valueOf wordsOf slotOf among overlap fieldOf fieldsUpTo fieldsOf groupIds paramsOf membersOf
-    nodeOf nodesOf sheetOf admitted rowText columns textAt textOf textStart lineAt lineOf reader mostBits mostC mostB mostA
+    typeString typeFrom readType valueOf readWords readSlot among overlap readField fieldsUpTo readFields groupIds readParams
+    readMembers
+    readNode readNodes readSheet admitted rowText columns textAt textOf textStart lineAt lineOf reader mostBits mostC mostB mostA
     valueLine typeLine fieldLine nodeLine rootLine joined restOf onto rows endsIn isGraphicText isName all isGraphic isWord
     padded columnOf unpadded digits trimmed camelToSnakeCase snakeFrom taken isAscii ended stringify join flatMap toLines
     decimal
 example = refl
 
 pub torn : programText (admitted (take (length isFree - 1) isFree)) ≡ ascii "refused 2 line 5\n"
-unfolding programText refusedSheetText typeFrom typeOf valueOf wordsOf slotOf fieldOf fieldsUpTo fieldsOf paramsOf membersOf
-    nodeOf nodesOf sheetOf among admitted rowText columns textAt textOf textStart lineAt lineOf reader mostBits mostC mostB mostA
+unfolding programText refusedSheetText typeFrom readType valueOf readWords readSlot readField fieldsUpTo readFields readParams
+    readMembers
+    readNode readNodes readSheet among admitted rowText columns textAt textOf textStart lineAt lineOf reader mostBits mostC
+    mostB mostA
     valueLine typeLine fieldLine nodeLine rootLine joined restOf onto rows lineNo size newlines endsIn isGraphicText isName all
     isGraphic isWord padded columnOf unpadded digits trimmed decimal
 torn = refl

@@ -11,7 +11,7 @@ use Rattle.nodes.specs.Index.{ForAll}
 use Rattle.field.specs.Field.{FieldIs}
 use Rattle.field.specs.declared.Field.{Field}
 use Rattle.requests.specs.Told.{OfField}
-use Rattle.parts.specs.Program.{from, printedPart, eachText, fieldText}
+use Rattle.parts.specs.Program.{partsFrom, printedPart, eachText, fieldText}
 use Rattle.parts.specs.declared.Part.{Part}
 use Rattle.parts.specs.declared.Next.{Next}
 use Rattle.parts.specs.declared.Next.the-variants.{Is, Nothing}
@@ -36,9 +36,9 @@ Within (Whole n) l = n ≤ length l
 Within Short l = Unit {0}
 
 -- so many bytes are taken at most, and a buffer that has so many is not too short
-abbrev pub Fits : ℕ → Str → Fit → Type 0
-Fits most l (Whole n) = n ≤ most
-Fits most l Short = length l < most
+abbrev pub TakesAtMost : ℕ → Str → Fit → Type 0
+TakesAtMost most l (Whole n) = n ≤ most
+TakesAtMost most l Short = length l < most
 
 -- the bytes that are taken are the text
 abbrev pub Puts : Str → Str → Fit → Type 0
@@ -47,7 +47,7 @@ Puts text l Short = Unit {0}
 
 -- the parts of a field after one
 abbrev pub partsAfter : Next → List Part
-partsAfter (Is part) = from part
+partsAfter (Is part) = partsFrom part
 partsAfter Nothing = []
 
 -- a field that was read and its name, against a node and its field in the tree
@@ -67,9 +67,9 @@ module _ (root s index : List ℕ) (tag : ℕ) (field : Field) where
   PartsPut name first l r =
       ForAll root s index
       (λ sheet. (at : Node × tree.Field) → Named s tag field name at
-      → Puts (eachText (printedPart sheet at) (from first)) l r)
+      → Puts (eachText (printedPart sheet at) (partsFrom first)) l r)
 
   abbrev pub FieldPut : Str → Str → Fit → Type 0
   FieldPut l l′ r =
       OfField root s index tag field
-      (λ sheet at. length (at .1 .name) ≤ 64 → Fits unitMost l r × Puts (fieldText sheet (at .0) (at .1)) l′ r)
+      (λ sheet at. length (at .1 .name) ≤ 64 → TakesAtMost unitMost l r × Puts (fieldText sheet (at .0) (at .1)) l′ r)

@@ -17,18 +17,18 @@ use Rattle.parts.specs.declared.Part.{Part}
 use Rattle.parts.specs.declared.Part.the-variants.{GetterReader, GetterBuilder, Setter, HaserReader, HaserBuilder, Zero}
 
 -- the parts of a field from this one on, in their order
-abbrev pub from : Part → List Part
-from GetterReader = GetterReader ∷ GetterBuilder ∷ Setter ∷ HaserReader ∷ HaserBuilder ∷ []
-from GetterBuilder = GetterBuilder ∷ Setter ∷ HaserReader ∷ HaserBuilder ∷ []
-from Setter = Setter ∷ HaserReader ∷ HaserBuilder ∷ []
-from HaserReader = HaserReader ∷ HaserBuilder ∷ []
-from HaserBuilder = HaserBuilder ∷ []
-from Zero = Zero ∷ []
+abbrev pub partsFrom : Part → List Part
+partsFrom GetterReader = GetterReader ∷ GetterBuilder ∷ Setter ∷ HaserReader ∷ HaserBuilder ∷ []
+partsFrom GetterBuilder = GetterBuilder ∷ Setter ∷ HaserReader ∷ HaserBuilder ∷ []
+partsFrom Setter = Setter ∷ HaserReader ∷ HaserBuilder ∷ []
+partsFrom HaserReader = HaserReader ∷ HaserBuilder ∷ []
+partsFrom HaserBuilder = HaserBuilder ∷ []
+partsFrom Zero = Zero ∷ []
 
 -- all parts of an F line, and the one part of a G line
 abbrev pub partsOf : Arm → List Part
-partsOf (slot s) = from GetterReader
-partsOf (group id) = from Zero
+partsOf (slot s) = partsFrom GetterReader
+partsOf (group id) = partsFrom Zero
 
 -- the accessor that is asked for a part: a getter in the form that is not a function
 abbrev pub accessorOf : Part → Accessor

@@ -5,6 +5,7 @@ use field::Field;
 use field::Group;
 use field::Slot;
 use requests::Accessor;
+use terms::refusals;
 use text::Text;
 
 mod print;
@@ -19,9 +20,9 @@ ghost use Rattle.text.specs.Text.{Wrote};
 ghost use Rattle.field.specs.declared.Field.the-variants as field-is;
 ghost use Rattle.requests.specs.Requests.{accessorText};
 ghost use Rattle.requests.specs.Told.{OfField};
-ghost use Rattle.parts.specs.Program.{from, accessorOf, headerText, refusedText, partText};
+ghost use Rattle.parts.specs.Program.{partsFrom, accessorOf, headerText, refusedText, partText};
 ghost use Rattle.parts.specs.Program.{opening as Program·opening};
-ghost use Rattle.parts.specs.Fit.{partMost, fitOf, Within, Fits, Puts, partsAfter, PartPut, PartsPut, FieldPut};
+ghost use Rattle.parts.specs.Fit.{partMost, fitOf, Within, TakesAtMost, Puts, partsAfter, PartPut, PartsPut, FieldPut};
 
 // The bytes that a text has at most; a longer one is refused with 22.
 const TEXT_SIZE: usize = 65536;
@@ -97,7 +98,7 @@ fn asked(part: Part) -> Accessor
 
 // The part after a part.
 fn next_part(part: Part) -> Next
-    ensures { λ r. ⌜ from part ≡ part ∷ partsAfter r ⌝ }
+    ensures { λ r. ⌜ partsFrom part ≡ part ∷ partsAfter r ⌝ }
 {
     match part {
         Part::GetterReader => Next::Is(Part::GetterBuilder),
@@ -146,7 +147,7 @@ fn taken(t: Text, buf: &[u8]) -> Fit
 // What stands under the header of a refused part.
 fn refused(number: u64, buf: &mut [u8]) -> Fit
     ensures within { λ r. ⌜ Within r (now (buf .exit)) ⌝ }
-    ensures fits { λ r. ⌜ Fits 65536 (now (buf .entry)) r ⌝ }
+    ensures fits { λ r. ⌜ TakesAtMost 65536 (now (buf .entry)) r ⌝ }
     ensures said { λ r. ⌜ Puts (refusedText number) (now (buf .exit)) r ⌝ }
 {
     let t = Text::at(0).bytes(buf, b"refused ");
@@ -167,7 +168,7 @@ fn under_header(
     buf: &mut [u8],
 ) -> Fit
     ensures within { λ r. ⌜ Within r (now (buf .exit)) ⌝ }
-    ensures fits { λ r. ⌜ Fits 65536 (now (buf .entry)) r ⌝ }
+    ensures fits { λ r. ⌜ TakesAtMost 65536 (now (buf .entry)) r ⌝ }
     ensures said { λ r. ⌜ OfField (now (root .entry)) (now (s .entry)) (now (index .entry)) tag field
         (λ sheet at. Puts (partText (accessorText sheet at (accessorOf part))) (now (buf .exit)) r) ⌝ }
 {
@@ -175,11 +176,11 @@ fn under_header(
     let written = requests::write_accessor(root, s, index, tag, field, accessor, Text::at(0), buf);
     let refusal = written.refusal;
     if let Refusal::Number(number) = refusal {
-        return refused(number as u64, buf);
+        return refused(number, buf);
     }
     let t = written.text;
     if TEXT_SIZE < t.fill() {
-        return refused(22, buf);
+        return refused(refusals::NO_ROOM, buf);
     }
     taken(t, buf)
 }
@@ -196,7 +197,7 @@ fn write_part(
     out: &mut [u8],
 ) -> Fit
     ensures within { λ r. ⌜ Within r (now (out .exit)) ⌝ }
-    ensures fits { λ r. ⌜ Fits (partMost (now (name .entry))) (now (out .entry)) r ⌝ }
+    ensures fits { λ r. ⌜ TakesAtMost (partMost (now (name .entry))) (now (out .entry)) r ⌝ }
     ensures said { λ r. ⌜ PartPut (now (root .entry)) (now (s .entry)) (now (index .entry)) tag field (now (name .entry)) part
         (now (out .exit)) r ⌝ }
 {
@@ -223,7 +224,7 @@ fn write_parts(
     out: &mut [u8],
 ) -> Fit
     ensures within { λ r. ⌜ Within r (now (out .exit)) ⌝ }
-    ensures fits { λ r. ⌜ Fits (length (from first) * partMost (now (name .entry))) (now (out .entry)) r ⌝ }
+    ensures fits { λ r. ⌜ TakesAtMost (length (partsFrom first) * partMost (now (name .entry))) (now (out .entry)) r ⌝ }
     ensures said { λ r. ⌜ PartsPut (now (root .entry)) (now (s .entry)) (now (index .entry)) tag field (now (name .entry)) first
         (now (out .exit)) r ⌝ }
 {

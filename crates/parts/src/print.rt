@@ -30,7 +30,7 @@ ghost use Rattle.tree.specs.Tree.{Node};
 ghost use Rattle.tree.specs.Read.{admitted};
 ghost use Rattle.nodes.specs.Index.{indexSize, Indexed, nth};
 ghost use Rattle.parts.specs.Program.{refusedSheetText, programText};
-ghost use Rattle.parts.specs.Fit.{unitMost, Within, Fits, Puts};
+ghost use Rattle.parts.specs.Fit.{unitMost, Within, TakesAtMost, Puts};
 ghost use Rattle.parts.specs.Left.{Left, mostLeft, Enters, Turns, Filled, Reached, Comes};
 ghost use Rattle.parts.specs.Pieces.{PiecesHold};
 ghost use Rattle.parts.specs.declared.Place.the-variants.{At, End};
@@ -93,7 +93,7 @@ fn start(s: &[u8], index: &mut [u64]) -> Place
 // What is printed of a refused sheet.
 fn refused_sheet(number: u64, line: usize, buf: &mut [u8]) -> Fit
     ensures within { λ r. ⌜ Within r (now (buf .exit)) ⌝ }
-    ensures fits { λ r. ⌜ Fits 65536 (now (buf .entry)) r ⌝ }
+    ensures fits { λ r. ⌜ TakesAtMost 65536 (now (buf .entry)) r ⌝ }
     ensures said { λ r. ⌜ Puts (refusedSheetText number line) (now (buf .exit)) r ⌝ }
 {
     let t = Text::at(0).bytes(buf, b"refused ");

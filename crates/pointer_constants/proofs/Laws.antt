@@ -18,12 +18,12 @@ use Rattle.row.specs.Line.{lineAt, asWord}
 use Rattle.row.specs.declared.Line.{Line as RowLine}
 use Rattle.row.specs.declared.Line.the-variants as line
 use Rattle.tree.specs.Reader.{Rows, Reading, Reader, got, no, _then_}
-use Rattle.tree.specs.Read.{wordsUpTo, wordsOf}
+use Rattle.tree.specs.Read.{readWordsUpTo, readWords}
 use Rattle.tree.proofs.OtherLines.{not-word}
 use Rattle.tree.specs.Index.{On, Has}
-use Rattle.find.proofs.Laws.{on-map, on-one}
+use Rattle.types.proofs.Laws.{on-map, on-one}
 use Rattle.codegen.specs.WordArray.{bytesFrom, wordBytes, wordsLines, wordArrayDeclaration}
-use Rattle.pointer_constants.specs.Words.{wordsAt, wordLine, wordsText}
+use Rattle.pointer_constants.specs.Words.{wordsAt, wordCode, wordsText}
 
 -- ---- rows
 
@@ -43,22 +43,22 @@ two R (line.Value k b) y z y′ z′ f g = g
 two R (line.Word w) y z y′ z′ f g = f w
 two R line.Bad y z y′ z′ f g = g
 
-words-are : (n : ℕ) (rs : Rows) → On (wordsUpTo n rs) (λ ws. ws ≡ wordsAt n rs)
-unfolding wordsUpTo wordsAt
+words-are : (n : ℕ) (rs : Rows) → On (readWordsUpTo n rs) (λ ws. ws ≡ wordsAt n rs)
+unfolding readWordsUpTo wordsAt
 words-are zero rs = refl
 words-are (suc n) rs =
     two (λ (f : Reader (List ℕ)) (ws : List ℕ). On (f rs) (λ x. x ≡ ws)) (lineAt rs) _ _ _ _
-    (λ w. on-map (λ ws. w ∷ ws) (λ x. x ≡ w ∷ wordsAt n (restOf rs)) (wordsUpTo n (restOf rs))
-    (on-one (λ ws. ws ≡ wordsAt n (restOf rs)) (λ ws. w ∷ ws ≡ w ∷ wordsAt n (restOf rs)) (wordsUpTo n (restOf rs))
+    (λ w. on-map (λ ws. w ∷ ws) (λ x. x ≡ w ∷ wordsAt n (restOf rs)) (readWordsUpTo n (restOf rs))
+    (on-one (λ ws. ws ≡ wordsAt n (restOf rs)) (λ ws. w ∷ ws ≡ w ∷ wordsAt n (restOf rs)) (readWordsUpTo n (restOf rs))
     (λ ws e. ap (λ (x : List ℕ). w ∷ x) e) (words-are n (restOf rs))))
     refl
 
 -- a slot's words
-words-whole : (rs : Rows) (ws : List ℕ) → Has (wordsOf true rs) (λ x. x ≡ ws) → ws ≡ wordsAt 255 rs
-unfolding wordsOf wordsAt
+words-whole : (rs : Rows) (ws : List ℕ) → Has (readWords true rs) (λ x. x ≡ ws) → ws ≡ wordsAt 255 rs
+unfolding readWords wordsAt
 words-whole rs ws =
     two (λ (f : Reader (List ℕ)) (xs : List ℕ). Has (f rs) (λ x. x ≡ ws) → ws ≡ xs) (lineAt rs) _ _ _ _
-    (λ w. go w (wordsUpTo 254 (restOf rs)) (words-are 254 (restOf rs)))
+    (λ w. go w (readWordsUpTo 254 (restOf rs)) (words-are 254 (restOf rs)))
     (λ h. absurd h)
   where
     go : (w : ℕ) (g : Reading (List ℕ)) → On g (λ x. x ≡ wordsAt 254 (restOf rs)) → Has (g then λ x. got (w ∷ x)) (λ x. x ≡ ws)
@@ -86,7 +86,7 @@ words-short (suc n) rs = go (lineAt rs) refl (words-short n (restOf rs))
     go (line.Value k b) e h = refl
     go line.Bad e h = refl
 
-pub words-of : (rs : Rows) (ws : List ℕ) (k : ℕ) → Has (wordsOf true rs) (λ x. x ≡ ws) → k ≡ length ws → wordsAt k rs ≡ ws
+pub words-of : (rs : Rows) (ws : List ℕ) (k : ℕ) → Has (readWords true rs) (λ x. x ≡ ws) → k ≡ length ws → wordsAt k rs ≡ ws
 words-of rs ws k h e =
     let z = words-whole rs ws h in rw (e, z) (words-short 255 rs)
 
@@ -108,7 +108,7 @@ module _ (rs rest : Rows) (l : RowLine) (here : l ≡ lineAt rs) (after : rest �
   words-stop (suc n) h other = rw (← here) (not-word l _ _ other)
 
 -- and of their text
-pub text-more : (root : Str) (xs ws : List ℕ) (w : ℕ) → xs ≡ w ∷ ws → wordsText root xs ≡ wordLine root w ++ wordsText root ws
+pub text-more : (root : Str) (xs ws : List ℕ) (w : ℕ) → xs ≡ w ∷ ws → wordsText root xs ≡ wordCode root w ++ wordsText root ws
 unfolding wordsText
 text-more root xs ws w e = rw e refl
 

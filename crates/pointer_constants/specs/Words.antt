@@ -11,9 +11,9 @@ unfoldable pub wordsAt : ℕ → List Str → List ℕ
 wordsAt zero rs = []
 wordsAt (suc n) rs = asWord (lineAt rs) (λ w. w ∷ wordsAt n (restOf rs)) []
 
-abbrev pub wordLine : Str → ℕ → Str
-wordLine root w = ascii "    " ++ root ++ ascii "::word(" ++ wordBytes w ++ ascii "),\n"
+abbrev pub wordCode : Str → ℕ → Str
+wordCode root w = ascii "    " ++ root ++ ascii "::word(" ++ wordBytes w ++ ascii "),\n"
 
 unfoldable pub wordsText : Str → List ℕ → Str
 wordsText root [] = []
-wordsText root (w ∷ ws) = wordLine root w ++ wordsText root ws
+wordsText root (w ∷ ws) = wordCode root w ++ wordsText root ws

@@ -11,15 +11,15 @@ ghost use lib.ListN.{length, drop};
 ghost use Rattle.text.specs.Lines.{stringify};
 ghost use Rattle.text.specs.Text.{Wrote};
 ghost use Rattle.row.specs.Rows.{rows};
-ghost use Rattle.tree.specs.Read.{wordsOf};
+ghost use Rattle.tree.specs.Read.{readWords};
 ghost use Rattle.names.specs.Names.{defaultName};
 ghost use Rattle.tree.specs.Index.{Has};
 ghost use Rattle.codegen.specs.WordArray.{wordBytes, wordArrayDeclaration};
-ghost use Rattle.pointer_constants.specs.Words.{wordsAt, wordLine, wordsText};
+ghost use Rattle.pointer_constants.specs.Words.{wordsAt, wordCode, wordsText};
 
 // A word's line: its eight bytes, from the lowest on.
 fn word(root: &[u8], w: u64, t: Text, buf: &mut [u8]) -> Text
-    ensures { λ r. ⌜ Wrote (now (buf .entry)) t (wordLine (now (root .entry)) w) (now (buf .exit)) r ⌝ }
+    ensures { λ r. ⌜ Wrote (now (buf .entry)) t (wordCode (now (root .entry)) w) (now (buf .exit)) r ⌝ }
 {
     let t = t.bytes(buf, b"    ");
     let t = t.bytes(buf, root);
@@ -74,7 +74,7 @@ pub fn word_array_declaration(
     t: Text,
     buf: &mut [u8],
 ) -> Text
-    ensures { λ r. ⌜ ((ws : List ℕ) → Has (wordsOf true (rows (drop (slot .words) (now (s .entry))))) (λ x. x ≡ ws)
+    ensures { λ r. ⌜ ((ws : List ℕ) → Has (readWords true (rows (drop (slot .words) (now (s .entry))))) (λ x. x ≡ ws)
         → slot .count ≡ length ws → Wrote (now (buf .entry)) t
         (stringify (wordArrayDeclaration (now (root .entry)) (defaultName (now (name .entry))) ws true)) (now (buf .exit)) r) ⌝ }
 {

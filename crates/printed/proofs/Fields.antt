@@ -17,8 +17,8 @@ use Rattle.row.specs.Print.{printField, printValue, printWord, Fits}
 use Rattle.row.specs.declared.Line.{Line}
 use Rattle.tree.specs.Tree.{Value, Slot, Arm, slot, group, Field}
 use Rattle.tree.specs.Reader.{Rows, got, no, Reader, mapR, onWord, onGroup}
-use Rattle.tree.specs.Read.{valueOf, wordsUpTo, wordsOf, hasWords, slotOf, field, isField, fieldOf}
-use Rattle.tree.specs.Read.{overlap, groupId, groupIds, fieldsUpTo, fieldsOf}
+use Rattle.tree.specs.Read.{valueOf, readWordsUpTo, readWords, hasWords, readSlot, field, isField, readField}
+use Rattle.tree.specs.Read.{overlap, groupId, groupIds, fieldsUpTo, readFields}
 use Rattle.tree.specs.Print.{typeRows, wordRows, armRows, fieldRows}
 use Rattle.tree.specs.WellFormed.{fits, isFlag, every, typeFits, valueFits, wordsFit, slotFits, armFits, fieldFits}
 use Rattle.tree.proofs.FieldLaws.{fields-here}
@@ -63,11 +63,11 @@ words-end {A} f other rs h = go (lineAt rs) h
 -- W lines up to a bound, and 1 to 255 where they belong
 read-words-up-to :
     (n : ℕ) (ws : List ℕ) (rs : Rows) → length ws ≤ n → every (fits 64) ws ≡ true → AfterField (lineAt rs)
-    → Reads (wordRows ws rs) (wordsUpTo n (wordRows ws rs)) ws rs
-unfolding wordsUpTo wordRows every restOf
+    → Reads (wordRows ws rs) (readWordsUpTo n (wordRows ws rs)) ws rs
+unfolding readWordsUpTo wordRows every restOf
 read-words-up-to zero [] rs l e h = reads-none
 read-words-up-to zero (w ∷ ws) rs l e h = let z : ⊥ = omega arith in absurd z
-read-words-up-to (suc n) [] rs l e h = rw (words-end (λ w. mapR (w ∷_) (wordsUpTo n)) (got []) rs h) reads-none
+read-words-up-to (suc n) [] rs l e h = rw (words-end (λ w. mapR (w ∷_) (readWordsUpTo n)) (got []) rs h) reads-none
 read-words-up-to (suc n) (w ∷ ws) rs l e h =
     let (here, more) = both-true _ _ e in
     let f : Fits (line.Word w) [] = (fits-most 64 w here, refl) in
@@ -76,8 +76,8 @@ read-words-up-to (suc n) (w ∷ ws) rs l e h =
 
 read-words :
     (b : Bool) (ws : List ℕ) (rs : Rows) → wordsFit b ws ≡ true → AfterField (lineAt rs)
-    → Reads (wordRows ws rs) (wordsOf b (wordRows ws rs)) ws rs
-unfolding wordsOf wordRows every restOf
+    → Reads (wordRows ws rs) (readWords b (wordRows ws rs)) ws rs
+unfolding readWords wordRows every restOf
 read-words true [] rs e h = let z : _≡_ {A = ℕ} 0 1 = cc in let y : ⊥ = omega arith in absurd y
 read-words true (w ∷ ws) rs e h =
     let n = suc (length ws) in
@@ -106,8 +106,8 @@ slotRows s rs = typeRows (s .ty) (printValue (s .default .kind) (s .default .bit
 
 read-slot :
     (s : Slot) (rs : Rows) → slotFits s ≡ true → AfterField (lineAt rs) → Room (slotRows s rs)
-    → Reads (slotRows s rs) (slotOf (s .offset) (s .explicit) (s .option) (slotRows s rs)) s rs
-unfolding slotOf
+    → Reads (slotRows s rs) (readSlot (s .offset) (s .explicit) (s .option) (slotRows s rs)) s rs
+unfolding readSlot
 read-slot s rs e h room =
     let tests = holds (slotTests s) e in
     reads-then _ (read-type (s .ty) 16 _ room (tests 3))
@@ -146,8 +146,8 @@ room-fields (f ∷ fs) rs room =
 module _ (name : Str) (d : ℕ) where
   read-arm :
       (arm : Arm) (rs : Rows) → isName name ≡ true → fits 16 d ≡ true → armFits arm ≡ true → AfterField (lineAt rs)
-      → Room (armRows name d arm rs) → Reads (armRows name d arm rs) (fieldOf (armRows name d arm rs)) (field name d arm) rs
-  unfolding fieldOf restOf
+      → Room (armRows name d arm rs) → Reads (armRows name d arm rs) (readField (armRows name d arm rs)) (field name d arm) rs
+  unfolding readField restOf
   read-arm (slot s) rs n f e h room =
       let l = armLine d (slot s) in
       let vs = slotRows s rs in
@@ -177,13 +177,13 @@ pub data AfterFields : Line → Type 0 where
 
 -- one turn of the fields
 fields-turn :
-    (seen : List ℕ) (rs mid rest : Rows) (f : Field) (fs : List Field) → isField (lineAt rs) ≡ true → fieldOf rs ≡ got f mid
-    → overlap (groupId (f .arm)) seen ≡ false → fieldsOf (seen ++ groupId (f .arm)) mid ≡ got fs rest
-    → fieldsOf seen rs ≡ got (f ∷ fs) rest
+    (seen : List ℕ) (rs mid rest : Rows) (f : Field) (fs : List Field) → isField (lineAt rs) ≡ true → readField rs ≡ got f mid
+    → overlap (groupId (f .arm)) seen ≡ false → readFields (seen ++ groupId (f .arm)) mid ≡ got fs rest
+    → readFields seen rs ≡ got (f ∷ fs) rest
 fields-turn seen rs mid rest f fs a b c d = fields-here seen rs ∙ rw (a, b, c, d)
 
 -- fields end where another line stands
-fields-end : (seen : List ℕ) (rs : Rows) → AfterFields (lineAt rs) → fieldsOf seen rs ≡ got [] rs
+fields-end : (seen : List ℕ) (rs : Rows) → AfterFields (lineAt rs) → readFields seen rs ≡ got [] rs
 fields-end seen rs h = fields-here seen rs ∙ rw (go (lineAt rs) h)
   where
     go : (l : Line) → AfterFields l → isField l ≡ false
@@ -208,7 +208,7 @@ fields-follow (f ∷ fs) rs e h =
 -- fields printed are read
 pub read-fields :
     (fs : List Field) (seen : List ℕ) (rs : Rows) → every fieldFits fs ≡ true → fresh seen (groupIds fs) ≡ true
-    → AfterFields (lineAt rs) → Room (fieldRows fs rs) → Reads (fieldRows fs rs) (fieldsOf seen (fieldRows fs rs)) fs rs
+    → AfterFields (lineAt rs) → Room (fieldRows fs rs) → Reads (fieldRows fs rs) (readFields seen (fieldRows fs rs)) fs rs
 unfolding every fieldRows groupIds
 read-fields [] seen rs e u h room = rw (fields-end seen rs h) reads-none
 read-fields (f ∷ fs) seen rs e u h room =
@@ -239,19 +239,19 @@ tell-value rs =
 -- W lines up to a bound, and 1 to 255 where they belong
 tell-words-up-to :
     (n : ℕ) (rs : Rows)
-    → Tells (λ ws rest. (rs ≡ wordRows ws rest) × (length ws ≤ n) × (every (fits 64) ws ≡ true)) (wordsUpTo n rs)
-unfolding wordsUpTo wordRows every
+    → Tells (λ ws rest. (rs ≡ wordRows ws rest) × (length ws ≤ n) × (every (fits 64) ws ≡ true)) (readWordsUpTo n rs)
+unfolding readWordsUpTo wordRows every
 tell-words-up-to zero rs = told {a = []} (refl, omega arith, refl)
 tell-words-up-to (suc n) rs =
     let less = tell-words-up-to n in
-    tells-word rs (got []) (told {a = []} (refl, omega arith, refl)) (λ w. mapR (w ∷_) (wordsUpTo n)) (λ w s.
+    tells-word rs (got []) (told {a = []} (refl, omega arith, refl)) (λ w. mapR (w ∷_) (readWordsUpTo n)) (λ w s.
     tells-map (w ∷_) (less (restOf rs)) (λ ws rest p.
     (s .row ∙ ap (λ (rs : Rows). printWord w ∷ rs) (p .0), omega (arith, p .1), most-fits 64 w (s .fits .0) and p .2)))
 
-tell-words : (b : Bool) (rs : Rows) → Tells (λ ws rest. (rs ≡ wordRows ws rest) × (wordsFit b ws ≡ true)) (wordsOf b rs)
-unfolding wordsOf wordRows every
+tell-words : (b : Bool) (rs : Rows) → Tells (λ ws rest. (rs ≡ wordRows ws rest) × (wordsFit b ws ≡ true)) (readWords b rs)
+unfolding readWords wordRows every
 tell-words true rs =
-    tells-word rs (no 2) nothing (λ w. mapR (w ∷_) (wordsUpTo 254)) (λ w s.
+    tells-word rs (no 2) nothing (λ w. mapR (w ∷_) (readWordsUpTo 254)) (λ w s.
     tells-map (w ∷_) (tell-words-up-to 254 (restOf rs)) (λ ws rest p.
     let n = suc (length ws) in
     let few = lt-ltb n 256 (omega (arith, p .1)) in (
@@ -264,8 +264,8 @@ tell-words false rs = told (refl, refl)
 module _ (o d e p : ℕ) (name : Str) (offset : fits 32 o ≡ true) (explicit : isFlag e ≡ true) (option : isFlag p ≡ true) where
   tell-slot :
       (rs : Rows)
-      → Tells (λ s rest. (printField o d e p name ∷ rs ≡ armRows name d (slot s) rest) × (slotFits s ≡ true)) (slotOf o e p rs)
-  unfolding slotOf
+      → Tells (λ s rest. (printField o d e p name ∷ rs ≡ armRows name d (slot s) rest) × (slotFits s ≡ true)) (readSlot o e p rs)
+  unfolding readSlot
   tell-slot rs =
       tells-then _ (tell-type 16 rs) (λ t vs x.
       tells-then _ (tell-value vs) (λ v us y.
@@ -280,13 +280,13 @@ module _ (o d e p : ℕ) (name : Str) (offset : fits 32 o ≡ true) (explicit : 
 abbrev FieldAt : Rows → Field → Rows → Type 0
 FieldAt rs f rest = (rs ≡ armRows (f .name) (f .discriminant) (f .arm) rest) × (fieldFits f ≡ true)
 
-tell-field : (rs : Rows) → Tells (FieldAt rs) (fieldOf rs)
-unfolding fieldOf
+tell-field : (rs : Rows) → Tells (FieldAt rs) (readField rs)
+unfolding readField
 tell-field rs =
     tells-field rs (onGroup (λ i d name. got (field name d (group i))) (no 2))
     (tells-group rs (no 2) nothing (λ i d name. got (field name d (group i))) (λ i d w.
     told (w .row, w .fits .2 and most-fits 16 d (w .fits .1) and most-id i (w .fits .0 .0) (w .fits .0 .1) and refl)))
-    (λ o d e p name. mapR (λ sl. field name d (slot sl)) (slotOf o e p)) (λ o d e p w.
+    (λ o d e p name. mapR (λ sl. field name d (slot sl)) (readSlot o e p)) (λ o d e p w.
     let f = w .fits in
     tells-map (λ sl. field (textAt rs) d (slot sl))
     (tell-slot o d e p (textAt rs) (most-fits 32 o (f .0)) (most-fits 1 e (f .2)) (most-fits 1 p (f .3)) (restOf rs))
@@ -314,6 +314,6 @@ tell-fields-up-to (suc n) seen rs =
     (λ _. told (refl, refl, refl))
 
 -- fields that are read are printed
-pub tell-fields : (seen : List ℕ) (rs : Rows) → Tells (FieldsAt seen rs) (fieldsOf seen rs)
-unfolding fieldsOf
+pub tell-fields : (seen : List ℕ) (rs : Rows) → Tells (FieldsAt seen rs) (readFields seen rs)
+unfolding readFields
 tell-fields seen rs = tell-fields-up-to (length rs) seen rs

@@ -14,7 +14,7 @@ use Rattle.row.specs.Print.{printNode, printParameter, printLine, Fits}
 use Rattle.row.specs.declared.Line.{Line}
 use Rattle.tree.specs.Tree.{Field, Node}
 use Rattle.tree.specs.Reader.{Rows, got, no, Reader, _then_, mapR, atEnd}
-use Rattle.tree.specs.Read.{among, groupIds, paramsOf, membersOf, nodeOf, nodesOf}
+use Rattle.tree.specs.Read.{among, groupIds, readParams, readMembers, readNode, readNodes}
 use Rattle.tree.specs.Print.{fieldRows, paramRows, nodeRows}
 use Rattle.tree.specs.WellFormed.{fits, isId, isFlag, every, fieldFits, nodeFits, nodeIds, allGroupIds}
 use Rattle.printed.proofs.Reading.{line-here, text-here, Reads, reads-none, reads-line, reads-then, reads-map}
@@ -31,14 +31,14 @@ use Rattle.row.specs.declared.Line.the-variants as line
 -- ---- what is printed is read
 
 -- parameters end where no P line stands
-params-end : (rs : Rows) → AfterField (lineAt rs) → paramsOf rs ≡ got [] rs
-unfolding paramsOf lineAt
+params-end : (rs : Rows) → AfterField (lineAt rs) → readParams rs ≡ got [] rs
+unfolding readParams lineAt
 params-end [] h = refl
 params-end (r ∷ rs) h = go (lineOf r) h
   where
     go :
         (l : Line) → AfterField l
-        → asParameter {A = Reader (List Str)} l (λ us. paramsOf rs then λ ps. got (textAt us ∷ ps)) (got []) (r ∷ rs)
+        → asParameter {A = Reader (List Str)} l (λ us. readParams rs then λ ps. got (textAt us ∷ ps)) (got []) (r ∷ rs)
         ≡ got [] (r ∷ rs)
     go l AfterField.a-field = refl
     go l AfterField.a-group = refl
@@ -48,8 +48,8 @@ params-end (r ∷ rs) h = go (lineOf r) h
 -- P lines
 read-params :
     (ps : List Str) (rs : Rows) → every isName ps ≡ true → AfterField (lineAt rs)
-    → Reads (paramRows ps rs) (paramsOf (paramRows ps rs)) ps rs
-unfolding paramsOf paramRows every
+    → Reads (paramRows ps rs) (readParams (paramRows ps rs)) ps rs
+unfolding readParams paramRows every
 read-params [] rs e h = rw (params-end rs h) reads-none
 read-params (p ∷ ps) rs e h =
     let (here, more) = both-true _ _ e in
@@ -94,8 +94,8 @@ read-members :
     (ps : List Str) (fs : List Field) (node : List Str → List Field → Node) (seen : List ℕ) (rs : Rows)
     → every isName ps ≡ true → every fieldFits fs ≡ true → fresh seen (groupIds fs) ≡ true → AfterFields (lineAt rs)
     → Room (paramRows ps (fieldRows fs rs))
-    → Reads (paramRows ps (fieldRows fs rs)) (membersOf seen node (paramRows ps (fieldRows fs rs))) (node ps fs) rs
-unfolding membersOf
+    → Reads (paramRows ps (fieldRows fs rs)) (readMembers seen node (paramRows ps (fieldRows fs rs))) (node ps fs) rs
+unfolding readMembers
 read-members ps fs node seen rs p f u h room =
     reads-then _ (read-params ps (fieldRows fs rs) p (fields-follow fs rs f h))
     (reads-map (node ps) (read-fields fs seen rs f u h (room-params ps (fieldRows fs rs) room)))
@@ -124,8 +124,8 @@ read-node :
     (n : Node) (ids seen : List ℕ) (rs : Rows) → nodeFits n ≡ true → among (n .id) ids ≡ false
     → fresh seen (groupIds (n .fields)) ≡ true → AfterFields (lineAt rs) → Room (memberRows n rs)
     → Reads (printLine (nodeLine n) (n .theMod) ∷ memberRows n rs)
-    (nodeOf ids seen (printLine (nodeLine n) (n .theMod) ∷ memberRows n rs)) n rs
-unfolding nodeOf restOf
+    (readNode ids seen (printLine (nodeLine n) (n .theMod) ∷ memberRows n rs)) n rs
+unfolding readNode restOf
 read-node n ids seen rs e new u h room =
     let fit = node-fits n e in
     let tests = holds (nodeTests n) e in
@@ -172,7 +172,7 @@ first-of {ids} {seen} {n} {ns} f =
 -- the first of some nodes, read
 read-first :
     (n : Node) (ns : List Node) (ids seen : List ℕ) → NodesFit ids seen (n ∷ ns) → Room (nodeRows (n ∷ ns))
-    → Reads (nodeRows (n ∷ ns)) (nodeOf ids seen (nodeRows (n ∷ ns))) n (nodeRows ns)
+    → Reads (nodeRows (n ∷ ns)) (readNode ids seen (nodeRows (n ∷ ns))) n (nodeRows ns)
 unfolding nodeRows
 read-first n ns ids seen f room =
     let h = first-of f in
@@ -182,8 +182,8 @@ read-first n ns ids seen f room =
 pub read-nodes :
     (ns : List Node) (n : Node) (m : ℕ) (ids seen : List ℕ) → length ns < m → NodesFit ids seen (n ∷ ns)
     → Room (nodeRows (n ∷ ns))
-    → Reads (nodeRows (n ∷ ns)) (nodesOf m ids seen (nodeRows (n ∷ ns))) (n ∷ ns) []
-unfolding nodeRows nodesOf
+    → Reads (nodeRows (n ∷ ns)) (readNodes m ids seen (nodeRows (n ∷ ns))) (n ∷ ns) []
+unfolding nodeRows readNodes
 read-nodes ns n zero ids seen l f room = let z : ⊥ = omega arith in absurd z
 read-nodes [] n (suc m) ids seen l f room = reads-then _ (read-first n [] ids seen f room) reads-none
 read-nodes (k ∷ ns) n (suc m) ids seen l f room =
@@ -195,12 +195,12 @@ read-nodes (k ∷ ns) n (suc m) ids seen l f room =
 -- ---- what is read is printed
 
 -- P lines
-tell-params : (rs : Rows) → Tells (λ ps rest. (rs ≡ paramRows ps rest) × (every isName ps ≡ true)) (paramsOf rs)
-unfolding paramsOf paramRows every restOf
+tell-params : (rs : Rows) → Tells (λ ps rest. (rs ≡ paramRows ps rest) × (every isName ps ≡ true)) (readParams rs)
+unfolding readParams paramRows every restOf
 tell-params [] = told (refl, refl)
 tell-params (r ∷ rs) =
     let more = tell-params rs in
-    tells-parameter (r ∷ rs) (got []) (told {a = []} (refl, refl)) (λ name rest. paramsOf rs then λ ps. got (name ∷ ps)) (λ w.
+    tells-parameter (r ∷ rs) (got []) (told {a = []} (refl, refl)) (λ name rest. readParams rs then λ ps. got (name ∷ ps)) (λ w.
     let name = textAt (r ∷ rs) in
     tells-map (name ∷_) more (λ ps rest p. (w .row ∙ ap (λ (rs : Rows). printParameter name ∷ rs) (p .0), w .fits and p .1)))
 
@@ -209,8 +209,8 @@ tell-members :
     (seen : List ℕ) (node : List Str → List Field → Node) (rs : Rows) (P : Node → Rows → Type 0)
     → ((ps : List Str) (fs : List Field) (rest : Rows) → rs ≡ paramRows ps (fieldRows fs rest) → every isName ps ≡ true
     → every fieldFits fs ≡ true → fresh seen (groupIds fs) ≡ true → P (node ps fs) rest)
-    → Tells P (membersOf seen node rs)
-unfolding membersOf
+    → Tells P (readMembers seen node rs)
+unfolding readMembers
 tell-members seen node rs P h =
     tells-then _ (tell-params rs) (λ ps us p.
     tells-map (node ps) (tell-fields seen us) (λ fs rest q. h ps fs rest (p .0 ∙ ap (paramRows ps) (q .0)) (p .1) (q .1) (q .2)))
@@ -223,15 +223,15 @@ record NodeAt (ids seen : List ℕ) (rs : Rows) (n : Node) (rest : Rows) : Type 
   groups : fresh seen (groupIds (n .fields)) ≡ true
 
 -- a node that is read is printed
-tell-node : (ids seen : List ℕ) (rs : Rows) → Tells (NodeAt ids seen rs) (nodeOf ids seen rs)
-unfolding nodeOf
+tell-node : (ids seen : List ℕ) (rs : Rows) → Tells (NodeAt ids seen rs) (readNode ids seen rs)
+unfolding readNode
 tell-node ids seen rs =
     tells-node rs (no 2) nothing
-    (λ i p sc st g tc to theMod. cond (among i ids) (λ rest. no 3 rs) (membersOf seen (nodeFrom i p sc st g tc to theMod)))
+    (λ i p sc st g tc to theMod. cond (among i ids) (λ rest. no 3 rs) (readMembers seen (nodeFrom i p sc st g tc to theMod)))
     (λ i p sc st g tc to w.
     let node = nodeFrom i p sc st g tc to (textAt rs) in
     let f = w .fits in
-    tells-cond (among i ids) (λ rest. no 3 rs) (membersOf seen node) (restOf rs) (λ _. nothing) (λ new.
+    tells-cond (among i ids) (λ rest. no 3 rs) (readMembers seen node) (restOf rs) (λ _. nothing) (λ new.
     tell-members seen node (restOf rs) (NodeAt ids seen rs) (λ ps fs rest is params fields groups.
     record {
       is = w .row ∙ ap (λ (us : Rows). printNode i p sc st g tc to (textAt rs) ∷ us) is;
@@ -264,16 +264,16 @@ unfolding every nodeIds allGroupIds fresh
 nodes-none = record { fit = refl; new = refl; groups = refl }
 
 -- nodes that are read are printed
-pub tell-nodes : (m : ℕ) (ids seen : List ℕ) (rs : Rows) → Tells (NodesAt m ids seen rs) (nodesOf m ids seen rs)
-unfolding nodesOf nodeRows
+pub tell-nodes : (m : ℕ) (ids seen : List ℕ) (rs : Rows) → Tells (NodesAt m ids seen rs) (readNodes m ids seen rs)
+unfolding readNodes nodeRows
 tell-nodes zero ids seen rs = nothing
 tell-nodes (suc m) ids seen rs = tells-then _ (tell-node ids seen rs) (λ n mid h. go (tell-nodes m) n mid h)
   where
     go :
-        ((ids seen : List ℕ) (rs : Rows) → Tells (NodesAt m ids seen rs) (nodesOf m ids seen rs)) → (n : Node) (mid : Rows)
+        ((ids seen : List ℕ) (rs : Rows) → Tells (NodesAt m ids seen rs) (readNodes m ids seen rs)) → (n : Node) (mid : Rows)
         → NodeAt ids seen rs n mid
         → Tells (NodesAt (suc m) ids seen rs)
-        (atEnd (got (n ∷ [])) (mapR (n ∷_) (nodesOf m (ids ++ unit (n .id)) (seen ++ groupIds (n .fields)))) mid)
+        (atEnd (got (n ∷ [])) (mapR (n ∷_) (readNodes m (ids ++ unit (n .id)) (seen ++ groupIds (n .fields)))) mid)
     go more n [] h =
         told {a = n ∷ []} (record { is = h .is; some = omega arith; few = omega arith; nodes = nodes-more h nodes-none })
     go more n (r ∷ us) h =

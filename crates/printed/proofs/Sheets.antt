@@ -16,7 +16,7 @@ use Rattle.row.specs.Print.{printRoot}
 use Rattle.row.proofs.Laws.{joined-rows}
 use Rattle.tree.specs.Tree.{Node, Sheet}
 use Rattle.tree.specs.Reader.{Rows, Reading, no, mapR}
-use Rattle.tree.specs.Read.{nodesOf, sheetOf, Admitted, sheet, refused, numbered, admitted}
+use Rattle.tree.specs.Read.{readNodes, readSheet, Admitted, sheet, refused, numbered, admitted}
 use Rattle.tree.specs.Print.{nodeRows, sheetRows, printed}
 use Rattle.tree.specs.WellFormed.{every, distinct, nodeFits, nodeIds, allGroupIds, wellFormed}
 use Rattle.printed.specs.Claims.{ReadsPrinted, PrintsRead}
@@ -78,8 +78,8 @@ well-formed sh f =
 read-sheet :
     (root : Str) (ns : List Node) → isGraphicText 64 root ≡ true → 0 < length ns → length ns < 65 → NodesFit [] [] ns
     → Room (nodeRows ns)
-    → Reads (printRoot root ∷ nodeRows ns) (sheetOf (printRoot root ∷ nodeRows ns)) (record { root = root; nodes = ns }) []
-unfolding sheetOf restOf
+    → Reads (printRoot root ∷ nodeRows ns) (readSheet (printRoot root ∷ nodeRows ns)) (record { root = root; nodes = ns }) []
+unfolding readSheet restOf
 read-sheet root [] r some few f room = let z : ⊥ = omega arith in absurd z
 read-sheet root (n ∷ ns) r some few f room =
     let us = nodeRows (n ∷ ns) in
@@ -104,10 +104,10 @@ record SheetAt (rs : Rows) (sh : Sheet) (rest : Rows) : Type 0 where
   nodes : NodesAt 64 [] [] (restOf rs) (sh .nodes) rest
 
 -- a sheet that is read is printed
-tell-sheet : (rs : Rows) → Tells (SheetAt rs) (sheetOf rs)
-unfolding sheetOf sheetRows
+tell-sheet : (rs : Rows) → Tells (SheetAt rs) (readSheet rs)
+unfolding readSheet sheetRows
 tell-sheet rs =
-    tells-root rs (no 2) nothing (λ root. mapR (λ ns. record { root = root; nodes = ns }) (nodesOf 64 [] [])) (λ w.
+    tells-root rs (no 2) nothing (λ root. mapR (λ ns. record { root = root; nodes = ns }) (readNodes 64 [] [])) (λ w.
     tells-map (λ ns. record { root = textAt rs; nodes = ns }) (tell-nodes 64 [] [] (restOf rs)) (λ ns rest q.
     record { is = w .row ∙ ap (λ (us : Rows). printRoot (textAt rs) ∷ us) (q .is); root = w .fits; nodes = q }))
 
@@ -141,7 +141,7 @@ prints-read s sh e = by-size (ltb 65536 (length s)) refl e
 
     by-size :
         (b : Bool) → ltb 65536 (length s) ≡ b
-        → (elim b as (λ _. Admitted) [ true ↦ refused 1 0 | false ↦ numbered s (sheetOf (rows s)) ]) ≡ sheet sh
+        → (elim b as (λ _. Admitted) [ true ↦ refused 1 0 | false ↦ numbered s (readSheet (rows s)) ]) ≡ sheet sh
         → (printed sh ≡ s) × (wellFormed sh ≡ true)
     by-size true h e = let z : _≡_ {A = ℕ} 0 1 = cc in let y : ⊥ = omega arith in absurd y
-    by-size false h e = by-reading (ltb-false 65536 (length s) h) (sheetOf (rows s)) (tell-sheet (rows s)) e
+    by-size false h e = by-reading (ltb-false 65536 (length s) h) (readSheet (rows s)) (tell-sheet (rows s)) e

@@ -10,13 +10,13 @@ use lib.Pow.{pow-pos}
 use Rattle.text.specs.Bytes.{cond, both}
 use Rattle.text.proofs.BytesLaws.{both-true}
 use Rattle.column.specs.Number.{most}
-use Rattle.tree.specs.WellFormed.{fits, isId, allOf}
+use Rattle.tree.specs.WellFormed.{fits, isId, everyTest}
 
 -- each of some tests that all hold
-pub holds : (ts : List Bool) → allOf ts ≡ true → (k : ℕ) → getD ts k true ≡ true
+pub holds : (ts : List Bool) → everyTest ts ≡ true → (k : ℕ) → getD ts k true ≡ true
 holds [] e k = refl
-holds (t ∷ ts) e zero = both-true t (allOf ts) e .0
-holds (t ∷ ts) e (suc k) = holds ts (both-true t (allOf ts) e .1) k
+holds (t ∷ ts) e zero = both-true t (everyTest ts) e .0
+holds (t ∷ ts) e (suc k) = holds ts (both-true t (everyTest ts) e .1) k
 
 infixr 50 _and_
 -- and the other way

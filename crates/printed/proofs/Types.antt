@@ -19,7 +19,7 @@ use Rattle.row.specs.declared.Line.the-variants.{Root, Node, Parameter, Field, 
 use Rattle.tree.specs.Tree.{Ty, plain, list, enum, struct, interface, anyPointer, parameter}
 use Rattle.tree.specs.Tree.{Scopes, end, inherit, bind, Binds, stop, unbound, bound}
 use Rattle.tree.specs.Reader.{Rows, got, no, Reader, _then_, mapR, times, onType}
-use Rattle.tree.specs.Read.{bindingOf, scopeOf, branded, pointer, typeFrom, typeOf}
+use Rattle.tree.specs.Read.{readBinding, readScope, branded, pointer, typeFrom, readType}
 use Rattle.tree.specs.Print.{scopeCount, bindCount, typeRows, scopeRows, bindRows}
 use Rattle.tree.specs.WellFormed.{fits, typeFits, scopesFit, bindsFit}
 use Rattle.printed.proofs.Reading.{line-here, Reads, reads-none, reads-line, reads-map, reads-times}
@@ -74,8 +74,8 @@ room-binds bs rs room = record { few = omega (arith, size-binds bs rs, room .few
 -- ---- what is printed is read
 
 -- a type is read where a level is left
-type-turn : (left : ℕ) (rs : Rows) → 0 < left → typeOf left rs ≡ onType (typeFrom (typeOf (left - 1))) (no 2) rs
-unfolding typeOf
+type-turn : (left : ℕ) (rs : Rows) → 0 < left → readType left rs ≡ onType (typeFrom (readType (left - 1))) (no 2) rs
+unfolding readType
 type-turn zero rs h = let z : ⊥ = omega arith in absurd z
 type-turn (suc l) rs h = rw (sub-one (suc l))
 
@@ -83,8 +83,8 @@ type-turn (suc l) rs h = rw (sub-one (suc l))
 module _ (left : ℕ) (some : ltb 0 left ≡ true) where
   on-type :
       (k a b c : ℕ) {t : Ty} {rs rest : Rows} → Fits (Typ k a b c) []
-      → Reads rs (typeFrom (typeOf (left - 1)) k a b c rs) t rest
-      → Reads (printType k a b c ∷ rs) (typeOf left (printType k a b c ∷ rs)) t rest
+      → Reads rs (typeFrom (readType (left - 1)) k a b c rs) t rest
+      → Reads (printType k a b c ∷ rs) (readType left (printType k a b c ∷ rs)) t rest
   unfolding restOf
   on-type k a b c {rs = rs} f r =
       reads-line (Typ k a b c) [] f
@@ -93,7 +93,7 @@ module _ (left : ℕ) (some : ltb 0 left ≡ true) where
   -- kinds 0 to 13
   read-plain :
       (k : ℕ) (rs : Rows) → ltb k 14 ≡ true
-      → Reads (printType k 0 0 0 ∷ rs) (typeOf left (printType k 0 0 0 ∷ rs)) (plain k) rs
+      → Reads (printType k 0 0 0 ∷ rs) (readType left (printType k 0 0 0 ∷ rs)) (plain k) rs
   unfolding typeFrom
   read-plain k rs h =
       on-type k 0 0 0 (omega (arith, ltb-true k 14 h), omega arith, omega arith, omega arith, refl)
@@ -112,9 +112,9 @@ module _ (left k i : ℕ) (lo : 14 < k) (hi : k < 18) (ss : Scopes) (fit : Bool)
   read-brand :
       both (ltb 0 left) (both (fits 64 i) fit) ≡ true
       → (fit ≡ true
-      → Reads (scopeRows ss rs) (times (scopeOf (typeOf (left - 1))) end (scopeCount ss) (scopeRows ss rs)) ss rs)
+      → Reads (scopeRows ss rs) (times (readScope (readType (left - 1))) end (scopeCount ss) (scopeRows ss rs)) ss rs)
       → Reads (printType k i (scopeCount ss) 0 ∷ scopeRows ss rs)
-      (typeOf left (printType k i (scopeCount ss) 0 ∷ scopeRows ss rs)) (branded k i ss) rs
+      (readType left (printType k i (scopeCount ss) 0 ∷ scopeRows ss rs)) (branded k i ss) rs
   unfolding typeFrom
   read-brand e scopes =
       let other : k ≡ 14 → ⊥ = omega arith in
@@ -125,20 +125,20 @@ module _ (left k i : ℕ) (lo : 14 < k) (hi : k < 18) (ss : Scopes) (fit : Bool)
 
 -- a binding that is a type is no U line
 type-binding :
-    (left : ℕ) (rs rest : Rows) (t : Ty) → typeOf left rs ≡ got t rest
-    → bindingOf (typeOf left) rs ≡ (typeOf left rs then λ t. got (λ bs. bound t bs))
-unfolding bindingOf typeOf
+    (left : ℕ) (rs rest : Rows) (t : Ty) → readType left rs ≡ got t rest
+    → readBinding (readType left) rs ≡ (readType left rs then λ t. got (λ bs. bound t bs))
+unfolding readBinding readType
 type-binding left rs rest t e = by-line (lineAt rs) refl
   where
-    refused : (left : ℕ) → lineAt rs ≡ Unbound → typeOf left rs ≡ no 2 rs
+    refused : (left : ℕ) → lineAt rs ≡ Unbound → readType left rs ≡ no 2 rs
     refused zero h = rw h
     refused (suc l) h = rw h
 
     by-line :
         (l : Line) → lineAt rs ≡ l
         → asUnbound {A = Reader (Binds → Binds)} l (λ rs. got (λ bs. unbound bs) (restOf rs))
-        (mapR (λ t bs. bound t bs) (typeOf left)) rs
-        ≡ (typeOf left rs then λ t. got (λ bs. bound t bs))
+        (mapR (λ t bs. bound t bs) (readType left)) rs
+        ≡ (readType left rs then λ t. got (λ bs. bound t bs))
     by-line Root h = refl
     by-line (Node i p s x g c o) h = refl
     by-line Parameter h = refl
@@ -155,29 +155,29 @@ type-binding left rs rest t e = by-line (lineAt rs) refl
 module _ (left : ℕ) where
   read-inherit :
       (i : ℕ) (rs : Rows) → fits 64 i ≡ true
-      → Reads (printScope i 0 0 ∷ rs) (scopeOf (typeOf left) (printScope i 0 0 ∷ rs)) (λ ss. inherit i ss) rs
-  unfolding scopeOf restOf
+      → Reads (printScope i 0 0 ∷ rs) (readScope (readType left) (printScope i 0 0 ∷ rs)) (λ ss. inherit i ss) rs
+  unfolding readScope restOf
   read-inherit i rs e =
       let f : Fits (Scope i 0 0) [] = (fits-most 64 i e, omega arith, omega arith, refl) in
       reads-line (Scope i 0 0) [] f (rw (line-here (Scope i 0 0) [] rs f)) reads-none
 
   read-bind :
       (i n : ℕ) {bs : Binds} {rs rest : Rows} → fits 64 i ≡ true → n ≤ most 64
-      → Reads rs (times (bindingOf (typeOf left)) stop n rs) bs rest
-      → Reads (printScope i 1 n ∷ rs) (scopeOf (typeOf left) (printScope i 1 n ∷ rs)) (λ ss. bind i bs ss) rest
-  unfolding scopeOf restOf mostCount
+      → Reads rs (times (readBinding (readType left)) stop n rs) bs rest
+      → Reads (printScope i 1 n ∷ rs) (readScope (readType left) (printScope i 1 n ∷ rs)) (λ ss. bind i bs ss) rest
+  unfolding readScope restOf mostCount
   read-bind i n {rs = rs} e h r =
       let f : Fits (Scope i 1 n) [] = (fits-most 64 i e, omega arith, h, refl) in
       reads-line (Scope i 1 n) [] f (rw (line-here (Scope i 1 n) [] rs f)) (reads-map (λ bs ss. bind i bs ss) r)
 
   read-unbound :
-      (rs : Rows) → Reads (printUnbound ∷ rs) (bindingOf (typeOf left) (printUnbound ∷ rs)) (λ bs. unbound bs) rs
-  unfolding bindingOf restOf
+      (rs : Rows) → Reads (printUnbound ∷ rs) (readBinding (readType left) (printUnbound ∷ rs)) (λ bs. unbound bs) rs
+  unfolding readBinding restOf
   read-unbound rs = reads-line Unbound [] refl (rw (line-here Unbound [] rs refl)) reads-none
 
   read-bound :
-      {t : Ty} {rs rest : Rows} → Reads rs (typeOf left rs) t rest
-      → Reads rs (bindingOf (typeOf left) rs) (λ bs. bound t bs) rest
+      {t : Ty} {rs rest : Rows} → Reads rs (readType left rs) t rest
+      → Reads rs (readBinding (readType left) rs) (λ bs. bound t bs) rest
   read-bound {t} {rs} {rest} r =
       rw (type-binding left rs rest t (r .gives)) (reads-map (λ t bs. bound t bs) r)
 
@@ -187,7 +187,7 @@ mutual
   -- a type printed is read
   pub read-type :
       (t : Ty) (left : ℕ) (rs : Rows) → Room (typeRows t rs) → typeFits t left ≡ true
-      → Reads (typeRows t rs) (typeOf left (typeRows t rs)) t rs
+      → Reads (typeRows t rs) (readType left (typeRows t rs)) t rs
   read-type (plain k) left rs room e = let (some, low) = both-true _ _ e in read-plain left some k rs low
   read-type (list t) left rs room e =
       let (some, more) = both-true _ _ e in
@@ -212,33 +212,33 @@ mutual
   -- so are the scopes of a brand
   read-scopes :
       (ss : Scopes) (left : ℕ) (rs : Rows) → Room (scopeRows ss rs) → scopesFit ss left ≡ true
-      → Reads (scopeRows ss rs) (times (scopeOf (typeOf left)) end (scopeCount ss) (scopeRows ss rs)) ss rs
+      → Reads (scopeRows ss rs) (times (readScope (readType left)) end (scopeCount ss) (scopeRows ss rs)) ss rs
   read-scopes end left rs room e = reads-none
   read-scopes (inherit i ss) left rs room e =
       let (id, more) = both-true _ _ e in
-      reads-times (scopeOf (typeOf left)) end (scopeCount ss) (read-inherit left i (scopeRows ss rs) id)
+      reads-times (readScope (readType left)) end (scopeCount ss) (read-inherit left i (scopeRows ss rs) id)
       (read-scopes ss left rs (room-rest room) more)
   read-scopes (bind i bs ss) left rs room e =
       let (id, more) = both-true _ _ e in
       let (here, next) = both-true _ _ more in
       let us = scopeRows ss rs in
       let less = room-rest room in
-      reads-times (scopeOf (typeOf left)) end (scopeCount ss)
+      reads-times (readScope (readType left)) end (scopeCount ss)
       (read-bind left i (bindCount bs) id (room-count bs us less) (read-binds bs left us less here))
       (read-scopes ss left rs (room-binds bs us less) next)
 
   -- and the bindings under a scope
   read-binds :
       (bs : Binds) (left : ℕ) (rs : Rows) → Room (bindRows bs rs) → bindsFit bs left ≡ true
-      → Reads (bindRows bs rs) (times (bindingOf (typeOf left)) stop (bindCount bs) (bindRows bs rs)) bs rs
+      → Reads (bindRows bs rs) (times (readBinding (readType left)) stop (bindCount bs) (bindRows bs rs)) bs rs
   read-binds stop left rs room e = reads-none
   read-binds (unbound bs) left rs room e =
-      reads-times (bindingOf (typeOf left)) stop (bindCount bs) (read-unbound left (bindRows bs rs))
+      reads-times (readBinding (readType left)) stop (bindCount bs) (read-unbound left (bindRows bs rs))
       (read-binds bs left rs (room-rest room) e)
   read-binds (bound t bs) left rs room e =
       let (here, next) = both-true _ _ e in
       let us = bindRows bs rs in
-      reads-times (bindingOf (typeOf left)) stop (bindCount bs) (read-bound left (read-type t left us room here))
+      reads-times (readBinding (readType left)) stop (bindCount bs) (read-bound left (read-type t left us room here))
       (read-binds bs left rs (room-type t us room) next)
 
 -- ---- what is read is printed
@@ -279,21 +279,21 @@ bind-row rs i b n m w z q =
     cc
 
 -- scopes and bindings, where types are read with so many levels left
-module _ (left : ℕ) (tell : (rs : Rows) → Tells (TypeAt left rs) (typeOf left rs)) where
+module _ (left : ℕ) (tell : (rs : Rows) → Tells (TypeAt left rs) (readType left rs)) where
   -- a binding in front of others
   tell-binding :
       (rs : Rows)
       → Tells (λ f mid. (n : ℕ) (bs : Binds) (rest : Rows) → BindsAt left n mid bs rest → BindsAt left (suc n) rs (f bs) rest)
-      (bindingOf (typeOf left) rs)
-  unfolding bindingOf typeRows typeFits bindCount
+      (readBinding (readType left) rs)
+  unfolding readBinding typeRows typeFits bindCount
   tell-binding rs =
-      tells-unbound rs (mapR (λ t bs. bound t bs) (typeOf left))
+      tells-unbound rs (mapR (λ t bs. bound t bs) (readType left))
       (tells-map (λ t bs. bound t bs) (tell rs) (λ t mid p n bs rest q.
       (p .0 ∙ ap (typeRows t) (q .0), p .1 and q .1, ap suc (q .2))))
       (got (λ bs. unbound bs))
       (λ w. told (λ n bs rest q. (w .row ∙ ap (λ (rs : Rows). printUnbound ∷ rs) (q .0), q .1, ap suc (q .2))))
 
-  tell-binds : (n : ℕ) (rs : Rows) → Tells (BindsAt left n rs) (times (bindingOf (typeOf left)) stop n rs)
+  tell-binds : (n : ℕ) (rs : Rows) → Tells (BindsAt left n rs) (times (readBinding (readType left)) stop n rs)
   unfolding typeRows typeFits bindCount
   tell-binds = tells-times (BindsAt left) (λ rs. (refl, refl, refl)) tell-binding
 
@@ -301,11 +301,12 @@ module _ (left : ℕ) (tell : (rs : Rows) → Tells (TypeAt left rs) (typeOf lef
   tell-scope :
       (rs : Rows)
       → Tells (λ f mid. (n : ℕ) (ss : Scopes) (rest : Rows) → ScopesAt left n mid ss rest → ScopesAt left (suc n) rs (f ss) rest)
-      (scopeOf (typeOf left) rs)
-  unfolding scopeOf typeRows typeFits scopeCount
+      (readScope (readType left) rs)
+  unfolding readScope typeRows typeFits scopeCount
   tell-scope rs =
       tells-scope rs (no 2) nothing
-      (λ i b n. cond (eqb b 0) (got (λ ss. inherit i ss)) (mapR (λ bs ss. bind i bs ss) (times (bindingOf (typeOf left)) stop n)))
+      (λ i b n. cond (eqb b 0) (got (λ ss. inherit i ss)) (mapR (λ bs ss. bind i bs ss) (times (readBinding
+      (readType left)) stop n)))
       (λ i b n w.
       let id = most-fits 64 i (w .fits .0) in
       tells-cond (eqb b 0) _ _ _
@@ -321,7 +322,7 @@ module _ (left : ℕ) (tell : (rs : Rows) → Tells (TypeAt left rs) (typeOf lef
         ap suc (q .2),
       ))))
 
-  tell-scopes : (n : ℕ) (rs : Rows) → Tells (ScopesAt left n rs) (times (scopeOf (typeOf left)) end n rs)
+  tell-scopes : (n : ℕ) (rs : Rows) → Tells (ScopesAt left n rs) (times (readScope (readType left)) end n rs)
   unfolding typeRows typeFits scopeCount
   tell-scopes = tells-times (ScopesAt left) (λ rs. (refl, refl, refl)) tell-scope
 
@@ -409,7 +410,7 @@ module _ (left : ℕ) (tell : (rs : Rows) → Tells (TypeAt left rs) (typeOf lef
   -- what belongs to a T line
   tell-from :
       (rs : Rows) (k a b c : ℕ) → Says rs (Typ k a b c)
-      → Tells (TypeAt (suc left) rs) (typeFrom (typeOf left) k a b c (restOf rs))
+      → Tells (TypeAt (suc left) rs) (typeFrom (readType left) k a b c (restOf rs))
   unfolding typeFrom
   tell-from rs k a b c w =
       tells-cond (ltb k 14) _ _ _ (λ x. told (tell-plain rs k a b c w x)) (λ x.
@@ -426,8 +427,8 @@ module _ (left : ℕ) (tell : (rs : Rows) → Tells (TypeAt left rs) (typeOf lef
       told (tell-pointer rs a b c (rw k18 at w)))))
 
 -- a type that is read is printed
-pub tell-type : (left : ℕ) (rs : Rows) → Tells (TypeAt left rs) (typeOf left rs)
-unfolding typeOf
+pub tell-type : (left : ℕ) (rs : Rows) → Tells (TypeAt left rs) (readType left rs)
+unfolding readType
 tell-type zero rs = tells-type rs (no 2) nothing (λ k a b c rest. no 4 rs) (λ k a b c w. nothing)
 tell-type (suc l) rs =
-    let less = tell-type l in tells-type rs (no 2) nothing (typeFrom (typeOf l)) (λ k a b c w. tell-from l less rs k a b c w)
+    let less = tell-type l in tells-type rs (no 2) nothing (typeFrom (readType l)) (λ k a b c w. tell-from l less rs k a b c w)

@@ -11,7 +11,7 @@ use lib.Seq.{drop-cons, length-take-le}
 use borrow.Author.Tests.{eq-eqb, ne-eqb, ltb-false, lt-ltb, le-ltb}
 use Rattle.io.specs.Counts.{Counts}
 use Rattle.text.specs.Bytes.{Str}
-use Rattle.programs.specs.Input.{lineLength, lineEnd, digitOf, numberFrom, numberOf, sheetAfter}
+use Rattle.programs.specs.Input.{lineLength, lineEnd, digitOf, numberFrom, decimalOf, sheetAfter}
 
 -- so many of a buffer's bytes
 pub counted : (n : ℕ) (l : Str) → n ≤ length l → Counts n l
@@ -71,7 +71,7 @@ sheet-none s from line e h = let g : length s ≤ lineEnd s from = omega arith i
 
 pub sheet-some :
     (s : Str) (from line size end : ℕ) → line ≡ lineEnd s from → line < length s
-    → size ≡ numberOf (take (line - from) (drop from s)) → end ≡ min (line + 1 + size) (length s)
+    → size ≡ decimalOf (take (line - from) (drop from s)) → end ≡ min (line + 1 + size) (length s)
     → record { start = line + 1; end = end } ≡ sheetAfter s from
 unfolding sheetAfter
 sheet-some s from line size end e h f g =

@@ -1,7 +1,7 @@
 -- Worked input, by computation: its lines, numbers and sheets, and what stands past its end. Assumes nothing.
 use mathlib.Core.Path.{_≡_, refl}
 use Rattle.text.specs.Bytes.{Str, ascii}
-use Rattle.programs.specs.Input.{lineLength, lineEnd, numberFrom, numberOf, sheetAfter}
+use Rattle.programs.specs.Input.{lineLength, lineEnd, numberFrom, decimalOf, sheetAfter}
 
 -- a sheet of three bytes, and one of five of which two are there
 abbrev input : Str
@@ -11,7 +11,7 @@ pub lines : (lineEnd input 0 ≡ 1) × (lineEnd input 2 ≡ 6) × (lineEnd input
 unfolding lineLength
 lines = (refl, refl, refl, refl)
 
-pub numbers : (numberOf (ascii "") ≡ 0) × (numberOf (ascii "1 a5") ≡ 1005) × (numberOf (ascii "123456789") ≡ 3456789)
+pub numbers : (decimalOf (ascii "") ≡ 0) × (decimalOf (ascii "1 a5") ≡ 1005) × (decimalOf (ascii "123456789") ≡ 3456789)
 unfolding numberFrom
 numbers = (refl, refl, refl)
 

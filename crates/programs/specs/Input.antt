@@ -12,9 +12,9 @@ use Rattle.programs.specs.declared.Input.the-variants.{Bytes, Failed}
 use Rattle.programs.specs.declared.Sheet.{Sheet}
 
 -- so many bytes of the buffer were read
-abbrev pub Holds : Input → Str → Type 0
-Holds (Bytes n) l = Counts n l
-Holds Failed l = Unit {0}
+abbrev pub WasRead : Input → Str → Type 0
+WasRead (Bytes n) l = Counts n l
+WasRead Failed l = Unit {0}
 
 -- how many bytes stand in front of the first byte 10, or of the end
 unfoldable pub lineLength : Str → ℕ
@@ -34,14 +34,14 @@ unfoldable pub numberFrom : ℕ → Str → ℕ
 numberFrom n [] = n
 numberFrom n (b ∷ s) = numberFrom (n % 1000000 * 10 + digitOf b) s
 
-abbrev pub numberOf : Str → ℕ
-numberOf = numberFrom 0
+abbrev pub decimalOf : Str → ℕ
+decimalOf = numberFrom 0
 
 -- the bytes after the line at a place, as many as the line says, or all that is left where that is less
 unfoldable pub sheetAfter : Str → ℕ → Sheet
 sheetAfter s from =
     let line = lineEnd s from in
-    let size = numberOf (take (line - from) (drop from s)) in
+    let size = decimalOf (take (line - from) (drop from s)) in
     cond (ltb line (length s))
     (record { start = line + 1; end = min (line + 1 + size) (length s) })
     (record { start = line; end = line })

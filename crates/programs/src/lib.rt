@@ -6,7 +6,7 @@ ghost use mathlib.Core.Path.{_≡_};
 ghost use Prim.Native.Nat.{_+_, _≤_, min, max};
 ghost use lib.ListN.{length};
 ghost use Rattle.io.specs.Counts.{Counts};
-ghost use Rattle.programs.specs.Input.{Holds, lineEnd, digitOf, numberOf, sheetAfter};
+ghost use Rattle.programs.specs.Input.{WasRead, lineEnd, digitOf, decimalOf, sheetAfter};
 
 // How often a read that a signal interrupted is tried again.
 const TRIES: usize = 4096;
@@ -25,7 +25,7 @@ pub struct Sheet {
 
 // Reads standard input to its end, or until the buffer is full.
 pub fn read_input(buf: &mut [u8]) -> Input
-    ensures { λ r. ⌜ Holds r (now (buf .exit)) ⌝ }
+    ensures { λ r. ⌜ WasRead r (now (buf .exit)) ⌝ }
 {
     let mut n: usize = 0;
     let mut tries = TRIES;
@@ -78,7 +78,7 @@ fn digit(b: u8) -> usize
 
 // The number of the last seven digits; a byte that is no digit counts as 0.
 fn number(digits: &[u8]) -> usize
-    ensures { λ r. ⌜ r ≡ numberOf (now (digits .entry)) ⌝ }
+    ensures { λ r. ⌜ r ≡ decimalOf (now (digits .entry)) ⌝ }
 {
     let mut n: usize = 0;
     let mut i = 0;

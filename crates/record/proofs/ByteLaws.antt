@@ -10,7 +10,7 @@ use lib.Dec.{eqb}
 use lib.ListN.{length, take, drop, getD, List·getD-append}
 use lib.Seq.{drop-append-add, take-append-add, drop-nil, take-nil, getD-drop, drop-cons, sets, sets-eq}
 use Rattle.record.specs.Bits.{toBits, ofBits, sectionBits, little, littleBytes, flags}
-use Rattle.record.specs.Offsets.{bytesOf, boolAt, dataAt, from, size}
+use Rattle.record.specs.Offsets.{bytesOf, boolAt, dataAt, from, bitCount}
 use Rattle.record.specs.Record.{read, write}
 use Rattle.record.specs.declared.BitOffset.{BitOffset}
 use Rattle.record.specs.declared.ElementOffset.{ElementOffset}
@@ -116,7 +116,7 @@ of-section (b ∷ bs) h = of-append (toBits 8 b) (sectionBits bs) ∙ rw (of-to 
 
 -- a type of w bytes at o: w bytes, little-endian, the first of them at o times w
 pub number-at : (bs : List ℕ) (w : Width) (o : ElementOffset) → Bytes bs
-    → ofBits (read (from (dataAt w o)) (size (dataAt w o)) (sectionBits bs))
+    → ofBits (read (from (dataAt w o)) (bitCount (dataAt w o)) (sectionBits bs))
     ≡ little (take (bytesOf w) (drop (o .0 * bytesOf w) bs))
 number-at bs w o h =
     let n : ℕ = bytesOf w in

@@ -15,7 +15,7 @@ use lib.Pow.{high, low, pow-pos, pow-add, pow-mono, shr-lt, shl-exact}
 use lib.Seq.{drop-cons, take-at, drop-at, sets, set-split}
 use borrow.Author.Tests.{le-leb, lt-leb, leb-true, leb-false}
 use Rattle.record.specs.Bits.{toBits, bit, withBit, sectionBits, little, littleBytes, flags}
-use Rattle.record.specs.Offsets.{Place, bytesOf, boolAt, dataAt, from, size}
+use Rattle.record.specs.Offsets.{Place, bytesOf, boolAt, dataAt, from, bitCount}
 use Rattle.record.specs.Record.{read, write, mapO, coded, getBits, putBits, tagIs, nullFlag, clearFlag}
 use Rattle.record.specs.Answers.{getAnswer, Put}
 use Rattle.record.specs.declared.BitOffset.{BitOffset}
@@ -144,7 +144,7 @@ module _ (l : List ℕ) (o : BitOffset) (h : o .0 / 8 < length l) where
 -- ---- numbers
 
 module _ (l : List ℕ) (w : Width) (o : ElementOffset) (h : o .0 * bytesOf w + bytesOf w ≤ length l) where
-  data-inside : from (dataAt w o) + size (dataAt w o) ≤ length (sectionBits l)
+  data-inside : from (dataAt w o) + bitCount (dataAt w o) ≤ length (sectionBits l)
   data-inside = rw (length-section l) (omega arith)
 
   pub get-data : Bytes l → (m : ℕ)
@@ -154,7 +154,7 @@ module _ (l : List ℕ) (w : Width) (o : ElementOffset) (h : o .0 * bytesOf w + 
   get-data bytes m =
       let s : List Bool = sectionBits l in
       let a : ℕ = from (dataAt w o) in
-      let n : ℕ = size (dataAt w o) in
+      let n : ℕ = bitCount (dataAt w o) in
       rw (found-inside a n s data-inside, mask-bits n m (read a n s) (length-read a n s data-inside), number-at l w o bytes)
 
   pub put-data : (v m : ℕ)
@@ -192,18 +192,18 @@ tag-none l o n e = go (getBits (dataAt Two o) 0 l) e
 
 -- ---- past the section
 
-module _ (p : Place) (l : List ℕ) (h : length l * 8 < from p + size p) where
+module _ (p : Place) (l : List ℕ) (h : length l * 8 < from p + bitCount p) where
   pub get-past : (m : ℕ) → getBits p m (sectionBits l) ≡ none
   unfolding getBits
-  get-past m = rw (found-past (from p) (size p) (sectionBits l) (rw (length-section l) h))
+  get-past m = rw (found-past (from p) (bitCount p) (sectionBits l) (rw (length-section l) h))
 
   pub put-past : (v m : ℕ) → putBits p v m (sectionBits l) ≡ none
   unfolding putBits
-  put-past v m = stored-past (from p) (coded p v m) (sectionBits l) (rw (length-section l, length-xors (size p) v m) h)
+  put-past v m = stored-past (from p) (coded p v m) (sectionBits l) (rw (length-section l, length-xors (bitCount p) v m) h)
 
 -- ---- what a set leaves and answers
 
-pub put-none : {p : Place} {v m : ℕ} {l : List ℕ} → length l * 8 < from p + size p → Put p v m l l NoMeaning
+pub put-none : {p : Place} {v m : ℕ} {l : List ℕ} → length l * 8 < from p + bitCount p → Put p v m l l NoMeaning
 put-none {p} {v} {m} {l} h = record { answer = rw (put-past p l h v m); left = rw (put-past p l h v m) }
 
 pub put-bool-done : {l : List ℕ} {o : BitOffset} (v m : Bool) → o .0 / 8 < length l
@@ -218,7 +218,7 @@ put-data-done {l} {w} {o} v m h = record { answer = rw (put-data l w o h v m); l
 
 -- an element that doesn't lie inside the bytes doesn't lie inside their bits
 pub data-past : (w : Width) (o : ElementOffset) (n : ℕ) → n < o .0 * bytesOf w + bytesOf w
-    → n * 8 < from (dataAt w o) + size (dataAt w o)
+    → n * 8 < from (dataAt w o) + bitCount (dataAt w o)
 data-past w o n h = omega arith
 
 -- a length test by a difference

@@ -12,9 +12,9 @@ use lib.Dec.{eqb}
 use lib.ListN.{length, getD}
 use lib.Seq.{drop-cons}
 use Rattle.record.specs.Bits.{bit}
-use Rattle.record.specs.Offsets.{Place, from, size, pointerAddress}
-use Rattle.record.specs.Record.{Record, read, write, masked, coded, getBits, putBits, nullFlag, clearFlag, get, put}
-use Rattle.record.specs.Record.{null, clear, Has, Clear, Holds, HoldsPointer, Same}
+use Rattle.record.specs.Offsets.{Place, from, bitCount, pointerAddress}
+use Rattle.record.specs.Record.{Record, read, write, masked, coded, getBits, putBits, nullFlag, clearFlag, get, putValue}
+use Rattle.record.specs.Record.{null, clear, Covers, Clear, Holds, HoldsPointer, Same}
 use Rattle.record.specs.declared.PointerOffset.{PointerOffset}
 use Rattle.record.proofs.BitLaws.{length-xors, of-to, xors-twice, xors-xor}
 use Rattle.record.proofs.SectionLaws.{length-write, read-write, write-at, write-out, found-ext, found-inside}
@@ -24,12 +24,13 @@ use Rattle.record.proofs.SectionLaws.{stored-inside}
 unfoldable pub after : Place → ℕ → ℕ → Record → Record
 after p v m r = record { bits = write (from p) (coded p v m) (r .bits); pointers = r .pointers }
 
-pub coded-size : (p : Place) (v m : ℕ) → length (coded p v m) ≡ size p
-coded-size p v m = length-xors (size p) v m
+pub coded-size : (p : Place) (v m : ℕ) → length (coded p v m) ≡ bitCount p
+coded-size p v m = length-xors (bitCount p) v m
 
-pub get-inside : (p : Place) (k : ℕ) (r : Record) → Holds p r → get p k r ≡ some (masked p k (read (from p) (size p) (r .bits)))
+pub get-inside : (p : Place) (k : ℕ) (r : Record) → Holds p r
+    → get p k r ≡ some (masked p k (read (from p) (bitCount p) (r .bits)))
 unfolding getBits
-get-inside p k r h = rw (found-inside (from p) (size p) (r .bits) h)
+get-inside p k r h = rw (found-inside (from p) (bitCount p) (r .bits) h)
 
 -- ---- one set
 
@@ -37,7 +38,7 @@ module _ (p : Place) (v m : ℕ) (r : Record) (h : Holds p r) where
   fits : from p + length (coded p v m) ≤ length (r .bits)
   fits = rw (coded-size p v m) h
 
-  pub put-inside : put p v m r ≡ some (after p v m r)
+  pub put-inside : putValue p v m r ≡ some (after p v m r)
   unfolding after putBits
   put-inside = rw (stored-inside (from p) (coded p v m) (r .bits) fits)
 
@@ -46,21 +47,21 @@ module _ (p : Place) (v m : ℕ) (r : Record) (h : Holds p r) where
   after-length = length-write (from p) (coded p v m) (r .bits) fits
 
   -- a bit of the place: the same whatever stood in the record
-  pub after-at : (b : ℕ) → Has p b → getD (after p v m r .bits) b false ≡ getD (coded p v m) (b - from p) false
+  pub after-at : (b : ℕ) → Covers p b → getD (after p v m r .bits) b false ≡ getD (coded p v m) (b - from p) false
   unfolding after
   after-at b x = write-at (from p) (coded p v m) (r .bits) fits b (x .0) (rw (coded-size p v m) (x .1))
 
   -- a bit outside the place stays
-  pub after-out : (b : ℕ) → (Has p b → ⊥) → getD (after p v m r .bits) b false ≡ getD (r .bits) b false
+  pub after-out : (b : ℕ) → (Covers p b → ⊥) → getD (after p v m r .bits) b false ≡ getD (r .bits) b false
   unfolding after
   after-out b k = write-out (from p) (coded p v m) (r .bits) fits b (λ x. k (x .0, rw (coded-size p v m) at (x .1)))
 
   -- nothing but the place changes: lengths, pointers and every other bit stay
-  pub after-same : Same (Has p) r (after p v m r)
+  pub after-same : Same (Covers p) r (after p v m r)
   unfolding after
   after-same = record { length-same = after-length; bits-same = after-out; pointers-same = refl }
 
-  after-read : read (from p) (size p) (after p v m r .bits) ≡ coded p v m
+  after-read : read (from p) (bitCount p) (after p v m r .bits) ≡ coded p v m
   unfolding after
   after-read =
       subst (λ (n : ℕ). read (from p) n (write (from p) (coded p v m) (r .bits)) ≡ coded p v m) (coded-size p v m)
@@ -70,23 +71,23 @@ module _ (p : Place) (v m : ℕ) (r : Record) (h : Holds p r) where
   get-coded k = get-inside p k (after p v m r) (rw after-length h) ∙ ap (λ (bs : List Bool). some (masked p k bs)) after-read
 
   -- A SET AND THEN A GET: the value, exclusive or both masks
-  pub get-after : (k : ℕ) → v < 2 ^ size p → m < 2 ^ size p → k < 2 ^ size p
+  pub get-after : (k : ℕ) → v < 2 ^ bitCount p → m < 2 ^ bitCount p → k < 2 ^ bitCount p
       → get p k (after p v m r) ≡ some (bitXor (bitXor v m) k)
   get-after k hv hm hk =
-      let n : ℕ = size p in
+      let n : ℕ = bitCount p in
       get-coded k
       ∙ ap some (rw (xors-xor n v m, xors-xor n (bitXor v m) k)
       (of-to n (bitXor (bitXor v m) k) (xor-lt n (bitXor v m) k (xor-lt n v m hv hm) hk)))
 
   -- the masks agree: the value
-  pub get-set : v < 2 ^ size p → get p m (after p v m r) ≡ some v
-  get-set l = get-coded m ∙ ap some (rw (xors-twice (size p) v m) (of-to (size p) v l))
+  pub get-set : v < 2 ^ bitCount p → get p m (after p v m r) ≡ some v
+  get-set l = get-coded m ∙ ap some (rw (xors-twice (bitCount p) v m) (of-to (bitCount p) v l))
 
 -- two sections that agree on a place's bits give it the same value, if any
 pub get-ext : (p : Place) (k : ℕ) (r s : Record) → length (s .bits) ≡ length (r .bits)
-    → ((b : ℕ) → Has p b → getD (s .bits) b false ≡ getD (r .bits) b false) → get p k s ≡ get p k r
+    → ((b : ℕ) → Covers p b → getD (s .bits) b false ≡ getD (r .bits) b false) → get p k s ≡ get p k r
 unfolding getBits
-get-ext p k r s e f = rw (found-ext (from p) (size p) (r .bits) (s .bits) e f)
+get-ext p k r s e f = rw (found-ext (from p) (bitCount p) (r .bits) (s .bits) e f)
 
 -- a set does not disturb the get of a place with no bit in common
 pub get-other : (p : Place) (v m : ℕ) (r : Record) → Holds p r → (q : Place) (k : ℕ) → Clear p q

@@ -6,7 +6,7 @@ use mathlib.Core.Option.{Option, none, some}
 use Prim.Native.Nat.{ℕ}
 use Rattle.text.specs.Bytes.{Str, ascii, unit}
 use Rattle.text.specs.Lines.{FormattedTexts, Indent, Branch, Line, none as noMore, _&_, stringify}
-use Rattle.record.specs.Types.{nameOf, Kind, bool, num, enum}
+use Rattle.record.specs.Types.{typeNameOf, Kind, bool, num, enum}
 use Rattle.calls.specs.Calls.{getBoolField, getDataField, getEnumField, setBoolField, setDataField, setTag, zeroBool}
 use Rattle.calls.specs.Calls.{zeroData, zeroTag, clearPointer, notNull, tagTest}
 
@@ -14,18 +14,18 @@ use Rattle.calls.specs.Calls.{zeroData, zeroTag, clearPointer, notNull, tagTest
 
 abbrev pub getLine : Bool → Kind → ℕ → Option Str → Str
 getLine isReader bool o mask = getBoolField isReader o mask
-getLine isReader (num t) o mask = getDataField isReader (nameOf t) o mask
+getLine isReader (num t) o mask = getDataField isReader (typeNameOf t) o mask
 getLine isReader enum o mask = getEnumField isReader o mask
 
 abbrev pub setLine : Kind → ℕ → Option Str → Str
 setLine bool o mask = setBoolField o (ascii "value") mask
-setLine (num t) o mask = setDataField (nameOf t) o (ascii "value") mask
+setLine (num t) o mask = setDataField (typeNameOf t) o (ascii "value") mask
 setLine enum o mask = setDataField (ascii "u16") o (ascii "value as u16") mask
 
-abbrev pub zeroLine : Kind → ℕ → Str
-zeroLine bool o = zeroBool o
-zeroLine (num t) o = zeroData (nameOf t) o
-zeroLine enum o = zeroData (ascii "u16") o
+abbrev pub zeroCall : Kind → ℕ → Str
+zeroCall bool o = zeroBool o
+zeroCall (num t) o = zeroData (typeNameOf t) o
+zeroCall enum o = zeroData (ascii "u16") o
 
 -- what a zeroing line is of: a slot with bits, a node's tag, a pointer slot
 pub data Zero : Type 0 where
@@ -33,10 +33,10 @@ pub data Zero : Type 0 where
   ofTag : ℕ → Zero
   ofPointer : ℕ → Zero
 
-abbrev pub zeroText : Zero → Str
-zeroText (ofSlot k o) = zeroLine k o
-zeroText (ofTag o) = zeroTag o
-zeroText (ofPointer i) = clearPointer i
+abbrev pub zeroingLine : Zero → Str
+zeroingLine (ofSlot k o) = zeroCall k o
+zeroingLine (ofTag o) = zeroTag o
+zeroingLine (ofPointer i) = clearPointer i
 
 -- ---- texts, as `stringify` makes them
 
@@ -61,8 +61,8 @@ abbrev pub voidSetterText : Str → Option Tag → Str
 voidSetterText opening tag = functionText opening (tagThen tag noMore)
 
 -- A getter: the result type, a newline, then `stringify` of the line of its get.
-unfoldable pub getterText : Str → Str → Str
-getterText typ line = typ ++ unit 10 ++ stringify (Line line)
+unfoldable pub getterLines : Str → Str → Str
+getterLines typ line = typ ++ unit 10 ++ stringify (Line line)
 
 -- a haser's body: the test of the tag where there is one, then that the pointer is not null
 abbrev pub haserBody : Bool → Option Tag → ℕ → FormattedTexts
@@ -75,4 +75,4 @@ haserText opening isReader tag i = functionText opening (haserBody isReader tag 
 -- the lines of a zeroing
 abbrev pub zeroTexts : List Zero → List Str
 zeroTexts [] = []
-zeroTexts (z ∷ zs) = zeroText z ∷ zeroTexts zs
+zeroTexts (z ∷ zs) = zeroingLine z ∷ zeroTexts zs

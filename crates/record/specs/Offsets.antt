@@ -36,6 +36,6 @@ abbrev pub from : Place → ℕ
 from (boolAt o) = bitAddress o .byte * 8 + bitAddress o .bit
 from (dataAt w o) = elementAddress w o * 8
 
-abbrev pub size : Place → ℕ
-size (boolAt o) = 1
-size (dataAt w o) = bytesOf w * 8
+abbrev pub bitCount : Place → ℕ
+bitCount (boolAt o) = 1
+bitCount (dataAt w o) = bytesOf w * 8

@@ -8,7 +8,7 @@ use mathlib.Core.List.{List, [], _∷_, _++_}
 use lib.Dec.{eqb, leb}
 use lib.ListN.{length, take, drop, getD}
 use Rattle.record.specs.Bits.{toBits, ofBits, xors}
-use Rattle.record.specs.Offsets.{Place, dataAt, from, size, pointerAddress}
+use Rattle.record.specs.Offsets.{Place, dataAt, from, bitCount, pointerAddress}
 use Rattle.record.specs.declared.ElementOffset.{ElementOffset}
 use Rattle.record.specs.declared.PointerOffset.{PointerOffset}
 use Rattle.record.specs.declared.Width.the-variants.{Two}
@@ -43,16 +43,16 @@ stored a vs l = only (inside a (length vs) l) (write a vs l)
 
 -- exclusive or with the mask, on the way out and on the way in
 abbrev pub masked : Place → ℕ → List Bool → ℕ
-masked p m bs = ofBits (xors bs (toBits (size p) m))
+masked p m bs = ofBits (xors bs (toBits (bitCount p) m))
 
 abbrev pub coded : Place → ℕ → ℕ → List Bool
-coded p v m = xors (toBits (size p) v) (toBits (size p) m)
+coded p v m = xors (toBits (bitCount p) v) (toBits (bitCount p) m)
 
 -- ---- on a section
 
 -- get with mask m, which is 0 where the call has none
 unfoldable pub getBits : Place → ℕ → List Bool → Option ℕ
-getBits p m l = mapO (masked p m) (found (from p) (size p) l)
+getBits p m l = mapO (masked p m) (found (from p) (bitCount p) l)
 
 -- set value v with mask m
 unfoldable pub putBits : Place → ℕ → ℕ → List Bool → Option (List Bool)
@@ -79,8 +79,8 @@ pub record Record : Type 0 where
 abbrev pub get : Place → ℕ → Record → Option ℕ
 get p m r = getBits p m (r .bits)
 
-abbrev pub put : Place → ℕ → ℕ → Record → Option Record
-put p v m r = mapO (λ bs. record { bits = bs; pointers = r .pointers }) (putBits p v m (r .bits))
+abbrev pub putValue : Place → ℕ → ℕ → Record → Option Record
+putValue p v m r = mapO (λ bs. record { bits = bs; pointers = r .pointers }) (putBits p v m (r .bits))
 
 abbrev pub null : PointerOffset → Record → Option Bool
 null i r = nullFlag i (r .pointers)
@@ -91,16 +91,16 @@ clear i r = mapO (λ ps. record { bits = r .bits; pointers = ps }) (clearFlag i 
 -- ---- what the statements say of records
 
 -- bit b of the data section is one of the place's
-abbrev pub Has : Place → ℕ → Type 0
-Has p b = (from p ≤ b) × (b < from p + size p)
+abbrev pub Covers : Place → ℕ → Type 0
+Covers p b = (from p ≤ b) × (b < from p + bitCount p)
 
 -- no bit in common
 abbrev pub Clear : Place → Place → Type 0
-Clear p q = (b : ℕ) → Has p b → Has q b → ⊥
+Clear p q = (b : ℕ) → Covers p b → Covers q b → ⊥
 
 -- long enough: the section holds the place whole; the record has the pointer
 abbrev pub Holds : Place → Record → Type 0
-Holds p r = from p + size p ≤ length (r .bits)
+Holds p r = from p + bitCount p ≤ length (r .bits)
 
 abbrev pub HoldsPointer : PointerOffset → Record → Type 0
 HoldsPointer i r = pointerAddress i < length (r .pointers)

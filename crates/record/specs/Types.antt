@@ -25,17 +25,17 @@ abbrev pub bitsOf : Num → ℕ
 bitsOf t = bytesOf (widthOf t) * 8
 
 -- a type's text: type_string of a number, for every leaf
-abbrev pub nameOf : Num → Str
-nameOf (int One) = ascii "i8"
-nameOf (int Two) = ascii "i16"
-nameOf (int Four) = ascii "i32"
-nameOf (int Eight) = ascii "i64"
-nameOf (uint One) = ascii "u8"
-nameOf (uint Two) = ascii "u16"
-nameOf (uint Four) = ascii "u32"
-nameOf (uint Eight) = ascii "u64"
-nameOf float32 = ascii "f32"
-nameOf float64 = ascii "f64"
+abbrev pub typeNameOf : Num → Str
+typeNameOf (int One) = ascii "i8"
+typeNameOf (int Two) = ascii "i16"
+typeNameOf (int Four) = ascii "i32"
+typeNameOf (int Eight) = ascii "i64"
+typeNameOf (uint One) = ascii "u8"
+typeNameOf (uint Two) = ascii "u16"
+typeNameOf (uint Four) = ascii "u32"
+typeNameOf (uint Eight) = ascii "u64"
+typeNameOf float32 = ascii "f32"
+typeNameOf float64 = ascii "f64"
 
 -- what a slot with bits is; an enum is taken and given as its 16-bit number
 pub data Kind : Type 0 where

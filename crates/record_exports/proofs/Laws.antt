@@ -15,7 +15,7 @@ use Rattle.record.specs.declared.PointerOffset.{PointerOffset}
 use Rattle.record.specs.declared.Set.{Set}
 use Rattle.record.specs.declared.Test.{Test}
 use Rattle.record.specs.declared.Width.{Width}
-use Rattle.record_exports.specs.Boundary.{widthOf, getOf, putOf, any, Gave, Left, isDone, numberOf, testNumber}
+use Rattle.record_exports.specs.Boundary.{asWidth, getOf, putOf, any, Gave, SetLeft, isDone, testSaid, testNumber}
 use Rattle.record_exports.specs.declared.Bytes.{Bytes}
 use Rattle.record_exports.specs.declared.Bytes.the-variants.{Are, No}
 
@@ -39,20 +39,20 @@ pub gave-nothing : {old : ℕ} → Gave none old old false
 gave-nothing = record { answer = refl; value = refl }
 
 -- a width's get is the place's, and of no width there is none
-pub of-width : (n : ℕ) (w : Width) (o : ElementOffset) (m : ℕ) (l : List Bool) {b : Bytes} → b ≡ widthOf n → b ≡ Are w
-    → getOf (widthOf n) o m l ≡ getBits (dataAt w o) m l
+pub of-width : (n : ℕ) (w : Width) (o : ElementOffset) (m : ℕ) (l : List Bool) {b : Bytes} → b ≡ asWidth n → b ≡ Are w
+    → getOf (asWidth n) o m l ≡ getBits (dataAt w o) m l
 of-width n w o m l e f = ap (λ (x : Bytes). getOf x o m l) (sym e ∙ f)
 
-pub of-none : (n : ℕ) (o : ElementOffset) (m : ℕ) (l : List Bool) {b : Bytes} → b ≡ widthOf n → b ≡ No
-    → getOf (widthOf n) o m l ≡ none
+pub of-none : (n : ℕ) (o : ElementOffset) (m : ℕ) (l : List Bool) {b : Bytes} → b ≡ asWidth n → b ≡ No
+    → getOf (asWidth n) o m l ≡ none
 of-none n o m l e f = ap (λ (x : Bytes). getOf x o m l) (sym e ∙ f)
 
-pub put-width : (n : ℕ) (w : Width) (o : ElementOffset) (v m : ℕ) (l : List Bool) {b : Bytes} → b ≡ widthOf n → b ≡ Are w
-    → putOf (widthOf n) o v m l ≡ putBits (dataAt w o) v m l
+pub put-width : (n : ℕ) (w : Width) (o : ElementOffset) (v m : ℕ) (l : List Bool) {b : Bytes} → b ≡ asWidth n → b ≡ Are w
+    → putOf (asWidth n) o v m l ≡ putBits (dataAt w o) v m l
 put-width n w o v m l e f = ap (λ (x : Bytes). putOf x o v m l) (sym e ∙ f)
 
-pub put-no-width : (n : ℕ) (o : ElementOffset) (v m : ℕ) (l : List Bool) {b : Bytes} → b ≡ widthOf n → b ≡ No
-    → putOf (widthOf n) o v m l ≡ none
+pub put-no-width : (n : ℕ) (o : ElementOffset) (v m : ℕ) (l : List Bool) {b : Bytes} → b ≡ asWidth n → b ≡ No
+    → putOf (asWidth n) o v m l ≡ none
 put-no-width n o v m l e f = ap (λ (x : Bytes). putOf x o v m l) (sym e ∙ f)
 
 -- ---- sets and clears
@@ -62,23 +62,23 @@ done-any none = refl
 done-any (some l) = refl
 
 pub left-put : {p : Place} {v m : ℕ} {l l′ : List ℕ} {s : Set} {r : Bool} → Put p v m l l′ s → r ≡ isDone s
-    → Left (putBits p v m (sectionBits l)) (sectionBits l) (sectionBits l′) r
+    → SetLeft (putBits p v m (sectionBits l)) (sectionBits l) (sectionBits l′) r
 left-put {p} {v} {m} {l} h e =
     record { answer = e ∙ ap isDone (h .answer) ∙ done-any (putBits p v m (sectionBits l)); left = h .left }
 
 pub left-cleared : {i : PointerOffset} {l l′ : List ℕ} {s : Set} {r : Bool} → Cleared i l l′ s → r ≡ isDone s
-    → Left (clearFlag i (flags l)) (flags l) (flags l′) r
+    → SetLeft (clearFlag i (flags l)) (flags l) (flags l′) r
 left-cleared {i} {l} h e = record { answer = e ∙ ap isDone (h .answer) ∙ done-any (clearFlag i (flags l)); left = h .left }
 
-pub left-none : {l : List Bool} → Left none l l false
+pub left-none : {l : List Bool} → SetLeft none l l false
 left-none = record { answer = refl; left = refl }
 
 -- ---- tests
 
-number-test : (o : Option Bool) → numberOf (testAnswer o) ≡ testNumber o
+number-test : (o : Option Bool) → testSaid (testAnswer o) ≡ testNumber o
 number-test none = refl
 number-test (some true) = refl
 number-test (some false) = refl
 
-pub tested : (o : Option Bool) {t : Test} {r : ℕ} → r ≡ numberOf t → t ≡ testAnswer o → r ≡ testNumber o
-tested o e f = e ∙ ap numberOf f ∙ number-test o
+pub tested : (o : Option Bool) {t : Test} {r : ℕ} → r ≡ testSaid t → t ≡ testAnswer o → r ≡ testNumber o
+tested o e f = e ∙ ap testSaid f ∙ number-test o

@@ -32,12 +32,12 @@ abbrev pub pointerAt : ℕ → PointerOffset
 pointerAt n = record { 0 = n }
 
 -- a number of bytes as a width
-abbrev pub widthOf : ℕ → Bytes
-widthOf n = cond (eqb n 1) (Are One) (cond (eqb n 2) (Are Two) (cond (eqb n 4) (Are Four) (cond (eqb n 8) (Are Eight) No)))
+abbrev pub asWidth : ℕ → Bytes
+asWidth n = cond (eqb n 1) (Are One) (cond (eqb n 2) (Are Two) (cond (eqb n 4) (Are Four) (cond (eqb n 8) (Are Eight) No)))
 
 -- a get and a set of a Bool
-abbrev pub getBool : ℕ → ℕ → List ℕ → Option ℕ
-getBool o m l = getBits (boolAt (bits o)) m (sectionBits l)
+abbrev pub getsBool : ℕ → ℕ → List ℕ → Option ℕ
+getsBool o m l = getBits (boolAt (bits o)) m (sectionBits l)
 
 abbrev pub putBool : ℕ → ℕ → ℕ → List ℕ → Option (List Bool)
 putBool o v m l = putBits (boolAt (bits o)) v m (sectionBits l)
@@ -65,7 +65,7 @@ pub record Gave (found : Option ℕ) (old new : ℕ) (r : Bool) : Type 0 where
   pub value : new ≡ or found old
 
 -- what a set answers and leaves of the section's bits
-pub record Left (stored : Option (List Bool)) (old new : List Bool) (r : Bool) : Type 0 where
+pub record SetLeft (stored : Option (List Bool)) (old new : List Bool) (r : Bool) : Type 0 where
   pub answer : r ≡ any stored
   pub left : new ≡ leaves stored old
 
@@ -74,10 +74,10 @@ abbrev pub isDone : Set → Bool
 isDone Done = true
 isDone NoMeaning = false
 
-abbrev pub numberOf : Test → ℕ
-numberOf True = 1
-numberOf False = 0
-numberOf None = 2
+abbrev pub testSaid : Test → ℕ
+testSaid True = 1
+testSaid False = 0
+testSaid None = 2
 
 abbrev pub testNumber : Option Bool → ℕ
 testNumber none = 2

@@ -1,20 +1,5 @@
-// The static library's boundary for records, on numbers and byte slices. A slice passes as pointer then length:
-//
-//     bool kitlubas_get_bool(const uint8_t *section, size_t len, uint32_t offset, uint64_t *value);
-//     bool kitlubas_get_bool_mask(const uint8_t *section, size_t len, uint32_t offset, bool mask, uint64_t *value);
-//     bool kitlubas_set_bool(uint8_t *section, size_t len, uint32_t offset, bool value);
-//     bool kitlubas_set_bool_mask(uint8_t *section, size_t len, uint32_t offset, bool value, bool mask);
-//     bool kitlubas_get_data(const uint8_t *section, size_t len, uint32_t width, uint32_t offset, uint64_t *value);
-//     bool kitlubas_get_data_mask(const uint8_t *section, size_t len, uint32_t width, uint32_t offset, uint64_t mask,
-//                                 uint64_t *value);
-//     bool kitlubas_set_data(uint8_t *section, size_t len, uint32_t width, uint32_t offset, uint64_t value);
-//     bool kitlubas_set_data_mask(uint8_t *section, size_t len, uint32_t width, uint32_t offset, uint64_t value, uint64_t mask);
-//     uint8_t kitlubas_tag_is(const uint8_t *section, size_t len, uint32_t offset, uint16_t member);
-//     uint8_t kitlubas_is_pointer_null(const uint8_t *pointers, size_t len, uint32_t offset);
-//     bool kitlubas_clear(uint8_t *pointers, size_t len, uint32_t offset);
-//
-// A get says whether it found a value, and puts it into `value`. A set or a clear says whether it has a meaning. A width is 1, 2,
-// 4 or 8 bytes; of any other nothing is found or set. A test answers 0 for false, 1 for true, 2 past the section.
+// The static library's boundary for records, on numbers and byte slices; kitlubas_record.h beside src declares it for C and says
+// what each function answers and leaves. A slice passes as pointer then length.
 use record::BitOffset;
 use record::ElementOffset;
 use record::Get;
@@ -26,8 +11,8 @@ ghost use mathlib.Core.Path.{_≡_};
 ghost use lib.ListN.{set};
 ghost use Rattle.record.specs.Bits.{bit, sectionBits, flags};
 ghost use Rattle.record.specs.Record.{tagIs, nullFlag, clearFlag};
-ghost use Rattle.record_exports.specs.Boundary.{getBool, putBool, elements, pointerAt, widthOf, getOf};
-ghost use Rattle.record_exports.specs.Boundary.{isDone, numberOf, Gave, Left};
+ghost use Rattle.record_exports.specs.Boundary.{getsBool, putBool, elements, pointerAt, asWidth, getOf};
+ghost use Rattle.record_exports.specs.Boundary.{isDone, testSaid, Gave, SetLeft};
 ghost use Rattle.record_exports.specs.Boundary.{putOf, testNumber};
 
 // What a number of bytes is as a width.
@@ -38,7 +23,7 @@ enum Bytes {
 
 // The width of so many bytes, if there is one.
 fn width_of(width: u32) -> Bytes
-    ensures { λ r. ⌜ r ≡ widthOf width ⌝ }
+    ensures { λ r. ⌜ r ≡ asWidth width ⌝ }
 {
     match width {
         1 => Bytes::Are(Width::One),
@@ -61,7 +46,7 @@ fn done(s: Set) -> bool
 
 // What a test found, as a number.
 fn number(t: Test) -> u8
-    ensures { λ r. ⌜ r ≡ numberOf t ⌝ }
+    ensures { λ r. ⌜ r ≡ testSaid t ⌝ }
 {
     match t {
         Test::True => 1,
@@ -78,7 +63,7 @@ pub extern "C" fn kitlubas_get_bool_mask(
     mask: bool,
     value: &mut u64,
 ) -> bool
-    ensures { λ r. ⌜ Gave (getBool offset (bit mask) (now (section .entry))) (now (value .entry)) (now (value .exit)) r ⌝ }
+    ensures { λ r. ⌜ Gave (getsBool offset (bit mask) (now (section .entry))) (now (value .entry)) (now (value .exit)) r ⌝ }
 {
     match record::get_bool_field_mask(section, BitOffset(offset), mask) {
         Get::Value(v) => {
@@ -91,7 +76,7 @@ pub extern "C" fn kitlubas_get_bool_mask(
 
 #[no_mangle]
 pub extern "C" fn kitlubas_get_bool(section: &[u8], offset: u32, value: &mut u64) -> bool
-    ensures { λ r. ⌜ Gave (getBool offset 0 (now (section .entry))) (now (value .entry)) (now (value .exit)) r ⌝ }
+    ensures { λ r. ⌜ Gave (getsBool offset 0 (now (section .entry))) (now (value .entry)) (now (value .exit)) r ⌝ }
 {
     match record::get_bool_field(section, BitOffset(offset)) {
         Get::Value(v) => {
@@ -109,7 +94,7 @@ pub extern "C" fn kitlubas_set_bool_mask(
     value: bool,
     mask: bool,
 ) -> bool
-    ensures { λ r. ⌜ Left (putBool offset (bit value) (bit mask) (now (section .entry)))
+    ensures { λ r. ⌜ SetLeft (putBool offset (bit value) (bit mask) (now (section .entry)))
         (sectionBits (now (section .entry))) (sectionBits (now (section .exit))) r ⌝ }
 {
     done(record::set_bool_field_mask(section, BitOffset(offset), value, mask))
@@ -117,7 +102,7 @@ pub extern "C" fn kitlubas_set_bool_mask(
 
 #[no_mangle]
 pub extern "C" fn kitlubas_set_bool(section: &mut [u8], offset: u32, value: bool) -> bool
-    ensures { λ r. ⌜ Left (putBool offset (bit value) 0 (now (section .entry)))
+    ensures { λ r. ⌜ SetLeft (putBool offset (bit value) 0 (now (section .entry)))
         (sectionBits (now (section .entry))) (sectionBits (now (section .exit))) r ⌝ }
 {
     done(record::set_bool_field(section, BitOffset(offset), value))
@@ -132,7 +117,7 @@ pub extern "C" fn kitlubas_get_data_mask(
     mask: u64,
     value: &mut u64,
 ) -> bool
-    ensures { λ r. ⌜ Gave (getOf (widthOf width) (elements offset) mask (sectionBits (now (section .entry))))
+    ensures { λ r. ⌜ Gave (getOf (asWidth width) (elements offset) mask (sectionBits (now (section .entry))))
         (now (value .entry)) (now (value .exit)) r ⌝ }
 {
     let Bytes::Are(w) = width_of(width) else {
@@ -154,7 +139,7 @@ pub extern "C" fn kitlubas_get_data(
     offset: u32,
     value: &mut u64,
 ) -> bool
-    ensures { λ r. ⌜ Gave (getOf (widthOf width) (elements offset) 0 (sectionBits (now (section .entry))))
+    ensures { λ r. ⌜ Gave (getOf (asWidth width) (elements offset) 0 (sectionBits (now (section .entry))))
         (now (value .entry)) (now (value .exit)) r ⌝ }
 {
     let Bytes::Are(w) = width_of(width) else {
@@ -177,7 +162,7 @@ pub extern "C" fn kitlubas_set_data_mask(
     value: u64,
     mask: u64,
 ) -> bool
-    ensures { λ r. ⌜ Left (putOf (widthOf width) (elements offset) value mask (sectionBits (now (section .entry))))
+    ensures { λ r. ⌜ SetLeft (putOf (asWidth width) (elements offset) value mask (sectionBits (now (section .entry))))
         (sectionBits (now (section .entry))) (sectionBits (now (section .exit))) r ⌝ }
 {
     let Bytes::Are(w) = width_of(width) else {
@@ -188,7 +173,7 @@ pub extern "C" fn kitlubas_set_data_mask(
 
 #[no_mangle]
 pub extern "C" fn kitlubas_set_data(section: &mut [u8], width: u32, offset: u32, value: u64) -> bool
-    ensures { λ r. ⌜ Left (putOf (widthOf width) (elements offset) value 0 (sectionBits (now (section .entry))))
+    ensures { λ r. ⌜ SetLeft (putOf (asWidth width) (elements offset) value 0 (sectionBits (now (section .entry))))
         (sectionBits (now (section .entry))) (sectionBits (now (section .exit))) r ⌝ }
 {
     let Bytes::Are(w) = width_of(width) else {
@@ -216,7 +201,7 @@ pub extern "C" fn kitlubas_is_pointer_null(pointers: &[u8], offset: u32) -> u8
 // Makes a pointer null.
 #[no_mangle]
 pub extern "C" fn kitlubas_clear(pointers: &mut [u8], offset: u32) -> bool
-    ensures answer { λ r. ⌜ Left (clearFlag (pointerAt offset) (flags (now (pointers .entry))))
+    ensures answer { λ r. ⌜ SetLeft (clearFlag (pointerAt offset) (flags (now (pointers .entry))))
         (flags (now (pointers .entry))) (flags (now (pointers .exit))) r ⌝ }
     ensures bytes { λ r. ⌜ now (pointers .exit) ≡ set (now (pointers .entry)) offset 0 ⌝ }
 {

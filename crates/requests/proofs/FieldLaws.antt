@@ -14,7 +14,7 @@ use Rattle.row.specs.Rows.{rows}
 use Rattle.tree.specs.Tree as tree
 use Rattle.tree.specs.Tree.{Ty, Arm, slot, group, Node, Sheet}
 use Rattle.tree.specs.Fields.{FieldsHere}
-use Rattle.tree.specs.Read.{typeOf}
+use Rattle.tree.specs.Read.{readType}
 use Rattle.tree.specs.Reader.{Reading, got, no}
 use Rattle.tree.specs.Index.{On, Has}
 use Rattle.tree.proofs.OtherLines.{never}
@@ -39,7 +39,7 @@ use Rattle.field.proofs.Field.{the-type}
 use Rattle.codegen.specs.Zeroing.{Zeroing, zeroFieldsOfGroup, zeroingRequest}
 use Rattle.zeroing.specs.Told.{Zeroes}
 use Rattle.zeroing.specs.declared.Zeroed.{Zeroed}
-use Rattle.requests.specs.Requests.{there, leafOf, fieldOf, typeText, slotNamed, slotField, groupOf}
+use Rattle.requests.specs.Requests.{there, leafOf, fieldAt, typeText, slotNamed, slotField, groupOf}
 use Rattle.requests.specs.Told.{Locates}
 use Rattle.requests.specs.declared.Located.{Located}
 
@@ -48,8 +48,8 @@ use Rattle.requests.specs.declared.Located.{Located}
 module _ (s : Str) (index : List ℕ) (nodes : List Node) (id place : ℕ) where
   pub located : (e : Entry) (f : Field) → Indexed s nodes index → found.At e ≡ lookup index id
       → ((fs : List tree.Field) → FieldsHere (rows (drop (e .fields) s)) fs → FindsField s f (nth place fs))
-      → Locates s (record { tag = e .«tag_offset»; field = f }) (fieldOf nodes id place)
-  unfolding fieldOf
+      → Locates s (record { tag = e .«tag_offset»; field = f }) (fieldAt nodes id place)
+  unfolding fieldAt
   located e f x i at-place = go (byId id nodes) (rw (← i) at (found-is s nodes index id x))
     where
       by-field : (n : Node) (o : Option tree.Field) → n .tagOffset ≡ e .«tag_offset» → FindsField s f o
@@ -64,8 +64,8 @@ module _ (s : Str) (index : List ℕ) (nodes : List Node) (id place : ℕ) where
       go none h = absurd h
 
   pub unlocated : Indexed s nodes index → found.Nothing ≡ lookup index id
-      → Locates s (record { tag = 0; field = field.Nothing }) (fieldOf nodes id place)
-  unfolding fieldOf
+      → Locates s (record { tag = 0; field = field.Nothing }) (fieldAt nodes id place)
+  unfolding fieldAt
   unlocated x i = go (byId id nodes) (rw (← i) at (found-is s nodes index id x))
     where
       go : (o : Option Node) → Finds s index found.Nothing o
@@ -124,14 +124,15 @@ module _ (s : Str) (f : tree.Field) {l : List ℕ} {t : Text} {l′ : List ℕ} 
       go (group id) h = rw (h .id-is) k
 
   pub slot-type : (sheet : Sheet) (r : code.Slot) (leaf : ℕ) (lf : Leaf) → FieldIs s (field.Slot r) f → leafOf leaf ≡ ok lf
-      → On (typeOf 16 (rows (drop (r .typ) s))) (λ ty. Writes (typeString ty sheet lf) l t l′ q)
+      → On (readType 16 (rows (drop (r .typ) s))) (λ ty. Writes (typeString ty sheet lf) l t l′ q)
       → Writes (typeText sheet (f .arm) leaf) l t l′ q
   unfolding typeText
   slot-type sheet r leaf lf h e k = go (f .arm) h
     where
       go : (a : Arm) → SlotIn s r (f .name) (f .discriminant) a → Writes (typeText sheet a leaf) l t l′ q
       go (slot sl) h =
-          rw e (on-has (λ ty. Writes (typeString ty sheet lf) l t l′ q) (typeOf 16 (rows (drop (r .typ) s))) (sl .ty) k (h .typ))
+          rw e (on-has (λ ty. Writes (typeString ty sheet lf) l t l′ q) (readType 16 (rows (drop (r .typ) s))) (sl .ty) k
+          (h .typ))
       go (group id) h = absurd h
 
   pub slot-no-leaf : (sheet : Sheet) (r : code.Slot) (leaf : ℕ) → FieldIs s (field.Slot r) f → leafOf leaf ≡ refused 15

@@ -1,22 +1,15 @@
 -- Laws of a leaf's number: ten numbers have a leaf, no other has. Assumes nothing.
 use mathlib.Core.Path.{_≡_, refl}
-use mathlib.Core.List.{List, [], _∷_}
 use mathlib.Core.Option.{Option, none, some}
-use Prim.Native.Nat.{ℕ, zero, suc, _≤_}
+use Prim.Native.Nat.{ℕ, suc, _≤_}
 use native.Mathlib.Omega.{arith}
-use lib.ListN.{length}
 use Rattle.tree.proofs.OtherLines.{never}
 use Rattle.codegen_types.specs.Out.{ok, refused}
 use Rattle.codegen_types.specs.declared.Leaf.{Leaf}
 use Rattle.nodes.specs.Index.{nth}
-use Rattle.requests.specs.Requests.{there, leaves, leafOf, leafSaid}
+use Rattle.nodes.proofs.NameLaws.{names-out}
+use Rattle.requests.specs.Requests.{there, leafNumbers, leafOf, leafSaid}
 use Rattle.requests.specs.declared.LeafNumber.the-variants.{Is, Nothing}
-
-nth-past : {A : Type 0} (k : ℕ) (xs : List A) → length xs ≤ k → nth k xs ≡ none
-unfolding nth
-nth-past k [] h = refl
-nth-past zero (x ∷ xs) h = let z : ⊥ = omega arith in absurd z
-nth-past (suc k) (x ∷ xs) h = nth-past k xs (omega arith)
 
 -- n is past k, where it is not below it and not k
 pub more : (n k : ℕ) → k ≤ n → (n ≡ k → ⊥) → suc k ≤ n
@@ -30,12 +23,12 @@ unfolding leafOf
 no-leaf n a b c d e f g h i j =
     let z : 10 ≤ n = more n 9 (more n 8 (more n 7 (more n 6 (more n 5 (more n 4 (more n 3 (more n 2 (more n 1 (more n 0
     (omega arith) a) b) c) d) e) f) g) h) i) j in
-    rw (nth-past n leaves z)
+    rw (names-out n leafNumbers z)
 
 -- what the number says is what it has
 pub leaf-is : (n : ℕ) (leaf : Leaf) → Is leaf ≡ leafSaid (leafOf n) → leafOf n ≡ ok leaf
 unfolding leafOf
-leaf-is n leaf e = go (nth n leaves) e
+leaf-is n leaf e = go (nth n leafNumbers) e
   where
     go : (o : Option Leaf) → Is leaf ≡ leafSaid (there o) → there o ≡ ok leaf
     go none e = never cc
@@ -43,7 +36,7 @@ leaf-is n leaf e = go (nth n leaves) e
 
 pub leaf-none : (n : ℕ) → Nothing ≡ leafSaid (leafOf n) → leafOf n ≡ refused 15
 unfolding leafOf
-leaf-none n e = go (nth n leaves) e
+leaf-none n e = go (nth n leafNumbers) e
   where
     go : (o : Option Leaf) → Nothing ≡ leafSaid (there o) → there o ≡ refused 15
     go none e = refl

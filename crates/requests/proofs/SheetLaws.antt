@@ -13,7 +13,7 @@ use Rattle.row.specs.declared.Line.{Line}
 use Rattle.row.specs.declared.Line.the-variants as line
 use Rattle.tree.specs.Tree.{Node, Sheet}
 use Rattle.tree.specs.Reader.{Rows, Reading, got, no, _then_}
-use Rattle.tree.specs.Read.{nodesOf, Admitted, sheet, refused, numbered, admitted}
+use Rattle.tree.specs.Read.{readNodes, Admitted, sheet, refused, numbered, admitted}
 use Rattle.tree.specs.Read as read
 use Rattle.tree.specs.Index.{On}
 use Rattle.tree.proofs.OtherLines.{never}
@@ -28,16 +28,16 @@ use Rattle.requests.specs.declared.Answer.{Answer}
 use Rattle.requests.specs.declared.Answer.the-variants.{Refused}
 use Rattle.requests.proofs.AnswerLaws.{refuses-so}
 
-root-read : (rs : Rows) → On (read.sheetOf rs) (λ sh. sh .root ≡ textAt rs)
-unfolding read.sheetOf
+root-read : (rs : Rows) → On (read.readSheet rs) (λ sh. sh .root ≡ textAt rs)
+unfolding read.readSheet
 root-read rs = go (lineAt rs) refl
   where
     nodes : (g : Reading (List Node)) → On (g then λ ns. got (sheetOf (textAt rs) ns)) (λ sh. sh .root ≡ textAt rs)
     nodes (got ns us) = refl
     nodes (no k us) = tt
 
-    go : (l : Line) → lineAt rs ≡ l → On (read.sheetOf rs) (λ sh. sh .root ≡ textAt rs)
-    go line.Root e = rw e (nodes (nodesOf 64 [] [] (restOf rs)))
+    go : (l : Line) → lineAt rs ≡ l → On (read.readSheet rs) (λ sh. sh .root ≡ textAt rs)
+    go line.Root e = rw e (nodes (readNodes 64 [] [] (restOf rs)))
     go (line.Node i p sc st g tc to) e = rw e tt
     go line.Parameter e = rw e tt
     go (line.Field a b c d) e = rw e tt
@@ -63,9 +63,9 @@ admitted-root s = by-length (ltb 65536 (length s))
     by-reading (no k us) e = tt
 
     by-length : (b : Bool)
-        → HasRoot (textAt (rows s)) (elim b [ true ↦ refused 1 0 | false ↦ numbered s (read.sheetOf (rows s)) ])
+        → HasRoot (textAt (rows s)) (elim b [ true ↦ refused 1 0 | false ↦ numbered s (read.readSheet (rows s)) ])
     by-length true = tt
-    by-length false = by-reading (read.sheetOf (rows s)) (root-read (rows s))
+    by-length false = by-reading (read.readSheet (rows s)) (root-read (rows s))
 
 -- the answer r and the index x of the sheet s
 module _ (s : Str) (r : verdicts.Answer) (x : List ℕ) (told : r ≡ verdict (admitted s)) where

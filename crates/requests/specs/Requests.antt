@@ -23,9 +23,8 @@ use Rattle.codegen.specs.Haser.{haserRequest}
 use Rattle.codegen.specs.Zeroing.{zeroingRequest}
 use Rattle.nodes.specs.Index.{byId, nth}
 use Rattle.requests.specs.declared.Accessor.{Accessor}
-use Rattle.requests.specs.declared.Accessor.the-variants.{Getter, Setter, Haser, Zeroing}
+use Rattle.requests.specs.declared.Accessor.the-variants.{TypeText, Getter, Setter, Haser, Zeroing}
 use Rattle.requests.specs.declared.Request.{Request}
-use Rattle.requests.specs.declared.Request.the-variants as request
 use Rattle.requests.specs.declared.LeafNumber.{LeafNumber}
 use Rattle.requests.specs.declared.LeafNumber.the-variants as number
 
@@ -35,14 +34,14 @@ there none = refused 15
 there (some a) = ok a
 
 -- the leaves by their numbers
-abbrev pub leaves : List Leaf
-leaves =
+abbrev pub leafNumbers : List Leaf
+leafNumbers =
     Reader A ∷ Builder A ∷ Reader Anonymous ∷ Builder Anonymous
     ∷ Owned ∷ Client ∷ Server ∷ ServerDispatch ∷ Pipeline ∷ GetType ∷ []
 
 -- no other number is a leaf's
 unfoldable pub leafOf : ℕ → Out Leaf
-leafOf k = there (nth k leaves)
+leafOf k = there (nth k leafNumbers)
 
 -- the code's answer for it
 abbrev pub leafSaid : Out Leaf → LeafNumber
@@ -50,8 +49,8 @@ leafSaid (ok leaf) = number.Is leaf
 leafSaid (refused k) = number.Nothing
 
 -- the node with an id and its field at a place, from 0, among its F and G lines
-unfoldable pub fieldOf : List Node → ℕ → ℕ → Out (Node × Field)
-fieldOf nodes id place = there (byId id nodes) then λ n. there (nth place (n .fields)) then λ f. ok (n, f)
+unfoldable pub fieldAt : List Node → ℕ → ℕ → Out (Node × Field)
+fieldAt nodes id place = there (byId id nodes) then λ n. there (nth place (n .fields)) then λ f. ok (n, f)
 
 -- a type's text, of a slot alone: `type_string`
 unfoldable pub typeText : Sheet → Arm → ℕ → Out Str
@@ -72,26 +71,31 @@ groupOf (slot s) = refused 15
 groupOf (group id) = ok id
 
 -- the accessors of a slot; `tag` is the offset of its node's tag
-abbrev pub getterOf : Sheet → Bool → Bool → SlotField → Out Str
-getterOf sheet isReader isFn f = getterRequest sheet (f .name) (f .slot) isReader isFn
+abbrev pub slotGetter : Sheet → Bool → Bool → SlotField → Out Str
+slotGetter sheet isReader isFn f = getterRequest sheet (f .name) (f .slot) isReader isFn
 
-abbrev pub setterOf : Sheet → ℕ → SlotField → Out Str
-setterOf sheet tag f = setterRequest sheet tag (f .name) (f .discriminant) (f .slot)
+abbrev pub slotSetter : Sheet → ℕ → SlotField → Out Str
+slotSetter sheet tag f = setterRequest sheet tag (f .name) (f .discriminant) (f .slot)
 
-abbrev pub haserOf : ℕ → Bool → SlotField → Out Str
-haserOf tag isReader f = ok (haserRequest tag (f .name) (f .discriminant) (f .slot) isReader)
+abbrev pub slotHaser : ℕ → Bool → SlotField → Out Str
+slotHaser tag isReader f = ok (haserRequest tag (f .name) (f .discriminant) (f .slot) isReader)
 
--- the text of a field's accessor
+-- what is asked of a field: its type's text, or an accessor
 unfoldable pub accessorText : Sheet → Node × Field → Accessor → Out Str
-accessorText sheet at (Getter isReader isFn) = slotField (at .1) then getterOf sheet isReader isFn
-accessorText sheet at Setter = slotField (at .1) then setterOf sheet (at .0 .tagOffset)
-accessorText sheet at (Haser isReader) = slotField (at .1) then haserOf (at .0 .tagOffset) isReader
+accessorText sheet at (TypeText leaf) = typeText sheet (at .1 .arm) leaf
+accessorText sheet at (Getter isReader isFn) = slotField (at .1) then slotGetter sheet isReader isFn
+accessorText sheet at Setter = slotField (at .1) then slotSetter sheet (at .0 .tagOffset)
+accessorText sheet at (Haser isReader) = slotField (at .1) then slotHaser (at .0 .tagOffset) isReader
 accessorText sheet at Zeroing = groupOf (at .1 .arm) then zeroingRequest sheet
 
+-- the request for a text of the field at a place
+abbrev pub ofField : ℕ → Accessor → Request
+ofField place accessor = record { place = place; accessor = accessor }
+
 -- the text of a request of the node with an id, or the number of its refusal
-abbrev pub textOf : Sheet → ℕ → Request → Out Str
-textOf sheet id (request.TypeText place leaf) = fieldOf (sheet .nodes) id place then λ at. typeText sheet (at .1 .arm) leaf
-textOf sheet id (request.Field place accessor) = fieldOf (sheet .nodes) id place then λ at. accessorText sheet at accessor
+abbrev pub requestText : Sheet → ℕ → Request → Out Str
+requestText sheet id request =
+    fieldAt (sheet .nodes) id (request .place) then λ at. accessorText sheet at (request .accessor)
 
 -- ---- the answer
 
@@ -101,20 +105,20 @@ pub data Outcome : Type 0 where
   refuses : ℕ → ℕ → Outcome
 
 -- a refusal after the sheet was read names no line
-abbrev pub given : Out Str → Outcome
-given (ok s) = gives s
-given (refused k) = refuses k 0
+abbrev pub outcome : Out Str → Outcome
+outcome (ok s) = gives s
+outcome (refused k) = refuses k 0
 
 abbrev pub outcomeOf : Admitted → ℕ → Request → Outcome
 outcomeOf (read.refused k line) id request = refuses k line
-outcomeOf (read.sheet sheet) id request = given (textOf sheet id request)
+outcomeOf (read.sheet sheet) id request = outcome (requestText sheet id request)
 
 -- over the buffer l and a fill count: 21 comes first, 22 last
-abbrev pub answerOf : Str → ℕ → Outcome → text.Answer
-answerOf l fill (gives s) = text.answerOf l fill s
-answerOf l fill (refuses k line) = cond (ltb (length l) fill) (text.refused 21 0) (text.refused k line)
+abbrev pub entryAnswer : Str → ℕ → Outcome → text.Answer
+entryAnswer l fill (gives s) = text.answerOf l fill s
+entryAnswer l fill (refuses k line) = cond (ltb (length l) fill) (text.refused 21 0) (text.refused k line)
 
 -- the buffer afterwards
-abbrev pub bufferOf : Str → ℕ → Outcome → Str
-bufferOf l fill (gives s) = text.bufferOf l fill s
-bufferOf l fill (refuses k line) = l
+abbrev pub entryBuffer : Str → ℕ → Outcome → Str
+entryBuffer l fill (gives s) = text.bufferOf l fill s
+entryBuffer l fill (refuses k line) = l

@@ -1,38 +1,56 @@
 -- What the entry answers, and what its parts tell of every sheet that has these bytes and this index. Assumes nothing.
 use mathlib.Core.Path.{_≡_}
 use mathlib.Core.List.{List}
-use Prim.Native.Nat.{ℕ}
-use Rattle.text.specs.Bytes.{Str}
+use Prim.Native.Nat.{ℕ, _-_, _^_, _≤_, min}
+use lib.Dec.{ltb}
+use lib.ListN.{length, drop}
+use Rattle.text.specs.Bytes.{Str, cond}
 use Rattle.row.specs.Rows.{rows}
 use Rattle.row.specs.Line.{textAt}
 use Rattle.text.specs.Answer as text
 use Rattle.text.specs.declared.Text.{Text}
 use Rattle.tree.specs.Tree as tree
 use Rattle.tree.specs.Tree.{Node, Sheet}
+use Rattle.tree.specs.Fields.{FieldsHere}
 use Rattle.codegen_types.specs.Out.{Out, ok, refused, _then_}
 use Rattle.codegen_types.specs.Written.{Writes}
 use Rattle.codegen_types.specs.declared.Written.{Written}
-use Rattle.nodes.specs.Index.{Indexed, ForAll}
+use Rattle.nodes.specs.Index.{nth, Indexed, ForAll}
 use Rattle.field.specs.Field.{FieldIs}
 use Rattle.field.specs.declared.Field.{Field}
 use Rattle.field.specs.declared.Field.the-variants as field
-use Rattle.requests.specs.Requests.{fieldOf, typeText, accessorText, textOf, Outcome, given, answerOf, bufferOf}
+use Rattle.requests.specs.Requests.{there, fieldAt, accessorText, requestText, Outcome, outcome, entryAnswer, entryBuffer}
 use Rattle.requests.specs.declared.Accessor.{Accessor}
 use Rattle.requests.specs.declared.Request.{Request}
-use Rattle.requests.specs.declared.Request.the-variants as request
+use Rattle.requests.specs.declared.Pass.{Pass}
+use Rattle.requests.specs.declared.Pass.the-variants as pass
 use Rattle.requests.specs.declared.Located.{Located}
 use Rattle.requests.specs.declared.Answer.{Answer}
 use Rattle.requests.specs.declared.Answer.the-variants.{Done, Refused}
 
 -- the entry's answer as document 01's numbers
-abbrev pub told : Answer → text.Answer
-told (Done t) = text.done (t .at)
-told (Refused k line) = text.refused k line
+abbrev pub inNumbers : Answer → text.Answer
+inNumbers (Done t) = text.done (t .at)
+inNumbers (Refused k line) = text.refused k line
 
 -- the whole contract of the entry: a request that comes to o, over the buffer l at the state t, leaves l′ and answers r
 pub record Answered (l : Str) (t : Text) (o : Outcome) (l′ : Str) (r : Answer) : Type 0 where
-  pub answer : told r ≡ answerOf l (t .at) o
-  pub buffer : l′ ≡ bufferOf l (t .at) o
+  pub answer : inNumbers r ≡ entryAnswer l (t .at) o
+  pub buffer : l′ ≡ entryBuffer l (t .at) o
+
+-- what one pass over a text says, where there is room for so many bytes. A count stops at the largest usize
+abbrev pub passOf : ℕ → Out Str → Pass
+passOf room (ok w) = cond (ltb room (length w)) (pass.Longer (min (length w) (2 ^ 64 - 1))) (pass.Whole (length w))
+passOf room (refused k) = pass.Refused k
+
+-- a text that comes to o, written in one pass from the start of l on, leaves l′ and answers r: after a refusal l′ may be any
+pub record Passed (o : Out Str) (l l′ : Str) (r : Pass) : Type 0 where
+  pub says : r ≡ passOf (length l) o
+  pub text : (w : Str) → o ≡ ok w → length w ≤ length l → l′ ≡ text.placed l 0 w
+
+-- the node with a number, from 0, and the first of some fields; 15 where there is none
+abbrev pub firstOf : List Node → ℕ → List tree.Field → Out (Node × tree.Field)
+firstOf nodes number fields = there (nth number nodes) then λ n. there (nth 0 fields) then λ f. ok (n, f)
 
 -- a field that was found and the offset of its node's tag; nothing where there is none, which is 15
 abbrev pub Locates : Str → Located → Out (Node × tree.Field) → Type 0
@@ -44,38 +62,36 @@ abbrev pub OfField : (root s index : List ℕ) → ℕ → Field → (Sheet → 
 OfField root s index tag f P =
     ForAll root s index (λ sheet. (at : Node × tree.Field) → at .0 .tagOffset ≡ tag → FieldIs s f (at .1) → P sheet at)
 
--- the text of a request for a field that was found
-abbrev pub fieldText : Sheet → Node × tree.Field → Request → Out Str
-fieldText sheet at (request.TypeText place leaf) = typeText sheet (at .1 .arm) leaf
-fieldText sheet at (request.Field place accessor) = accessorText sheet at accessor
-
 -- the contracts, over the sheet's bytes and its index
 module _ (s index : List ℕ) where
   abbrev pub LocatedIn : ℕ → ℕ → Located → Type 0
-  LocatedIn id place r = (nodes : List Node) → Indexed s nodes index → Locates s r (fieldOf nodes id place)
-
-  abbrev pub TypeTextWritten : Str → ℕ → Field → ℕ → List ℕ → Text → List ℕ → Written → Type 0
-  TypeTextWritten root tag f leaf l t l′ r =
-      OfField root s index tag f (λ sheet at. Writes (typeText sheet (at .1 .arm) leaf) l t l′ r)
+  LocatedIn id place r = (nodes : List Node) → Indexed s nodes index → Locates s r (fieldAt nodes id place)
 
   abbrev pub AccessorWritten : Str → ℕ → Field → Accessor → List ℕ → Text → List ℕ → Written → Type 0
   AccessorWritten root tag f accessor l t l′ r =
       OfField root s index tag f (λ sheet at. Writes (accessorText sheet at accessor) l t l′ r)
 
-  abbrev pub RequestWritten : Str → ℕ → Field → Request → List ℕ → Text → List ℕ → Written → Type 0
-  RequestWritten root tag f request l t l′ r =
-      OfField root s index tag f (λ sheet at. Writes (fieldText sheet at request) l t l′ r)
+  -- the answer for a field that was found, for a field by its place, and to any request of a node
+  abbrev pub FieldAnswered : ℕ → Field → Accessor → List ℕ → Text → List ℕ → Answer → Type 0
+  FieldAnswered tag f accessor l t l′ r =
+      OfField (textAt (rows s)) s index tag f (λ sheet at. Answered l t (outcome (accessorText sheet at accessor)) l′ r)
 
-  -- the answer to a request for a field that was found, for a field by its place, and to any request of a node
-  abbrev pub FieldAnswered : ℕ → Field → Request → List ℕ → Text → List ℕ → Answer → Type 0
-  FieldAnswered tag f request l t l′ r =
-      OfField (textAt (rows s)) s index tag f (λ sheet at. Answered l t (given (fieldText sheet at request)) l′ r)
-
-  abbrev pub PlaceAnswered : ℕ → ℕ → Request → List ℕ → Text → List ℕ → Answer → Type 0
-  PlaceAnswered id place request l t l′ r =
+  abbrev pub PlaceAnswered : ℕ → ℕ → Accessor → List ℕ → Text → List ℕ → Answer → Type 0
+  PlaceAnswered id place accessor l t l′ r =
       ForAll (textAt (rows s)) s index
-      (λ sheet. Answered l t (given (fieldOf (sheet .nodes) id place then λ at. fieldText sheet at request)) l′ r)
+      (λ sheet. Answered l t (outcome (fieldAt (sheet .nodes) id place then λ at. accessorText sheet at accessor)) l′ r)
 
   abbrev pub RequestAnswered : ℕ → Request → List ℕ → Text → List ℕ → Answer → Type 0
   RequestAnswered id request l t l′ r =
-      ForAll (textAt (rows s)) s index (λ sheet. Answered l t (given (textOf sheet id request)) l′ r)
+      ForAll (textAt (rows s)) s index (λ sheet. Answered l t (outcome (requestText sheet id request)) l′ r)
+
+  -- one pass for a field that was read, and for the first of the fields at a position, in the node with a number
+  abbrev pub FieldPassed : ℕ → Field → Accessor → Str → Str → Pass → Type 0
+  FieldPassed tag f accessor l l′ r =
+      OfField (textAt (rows s)) s index tag f (λ sheet at. Passed (accessorText sheet at accessor) l l′ r)
+
+  abbrev pub FirstPassed : ℕ → ℕ → Accessor → Str → Str → Pass → Type 0
+  FirstPassed number at accessor l l′ r =
+      ForAll (textAt (rows s)) s index
+      (λ sheet. (fields : List tree.Field) → FieldsHere (rows (drop at s)) fields
+      → Passed (firstOf (sheet .nodes) number fields then λ at. accessorText sheet at accessor) l l′ r)

@@ -1,6 +1,7 @@
-// The public entry: a request of a node of a sheet, over any bytes, any text state and any buffer. The answer is the whole text, or
-// one refusal of document 01 that changes nothing. A request is measured over an empty buffer, which finds its refusal or its
-// length, before the first byte is written.
+// The public entry: a request of a node of a sheet, over any bytes, any text state and any buffer. The answer is the whole
+// text, or one refusal of document 01 that changes nothing. A request is measured over an empty buffer, which finds its refusal
+// or its length, before the first byte is written. Whoever holds a sheet's index asks over it, and has the text of a field that
+// stands at a position in one pass.
 use codegen_types::Leaf;
 use codegen_types::Lifetime;
 use codegen_types::Refusal;
@@ -9,41 +10,52 @@ use field::Field;
 use field::Group;
 use field::Slot;
 use nodes::Found;
+use terms::refusals;
 use text::Text;
 ghost use mathlib.Core.Path.{_≡_};
 ghost use mathlib.Core.List.{List};
 ghost use Prim.Native.Nat.{ℕ, _≤_};
-ghost use lib.ListN.{length};
+ghost use lib.ListN.{length, take};
 ghost use Rattle.text.specs.Bytes.{Str};
 ghost use Rattle.tree.specs.Read.{admitted};
 ghost use Rattle.nodes.specs.Index.{indexSize};
 ghost use Rattle.field.specs.declared.Field.the-variants as field-is;
 ghost use Rattle.requests.specs.Requests.{leafOf, leafSaid, outcomeOf};
-ghost use Rattle.requests.specs.Told.{LocatedIn, TypeTextWritten, AccessorWritten, RequestWritten};
-ghost use Rattle.requests.specs.Told.{FieldAnswered, PlaceAnswered, RequestAnswered, Answered};
-ghost use Rattle.requests.specs.declared.Accessor.the-variants.{Haser};
+ghost use Rattle.requests.specs.Told.{LocatedIn, AccessorWritten, FieldAnswered, PlaceAnswered, RequestAnswered, Answered};
+ghost use Rattle.requests.specs.Told.{FieldPassed, FirstPassed};
+ghost use Rattle.requests.specs.declared.Accessor.the-variants.{TypeText, Haser};
 
 // How many numbers are room enough for the index of a sheet of at most 3,072 bytes.
 const SHORT_INDEX: usize = 253;
 
-// An accessor of a field: of a slot its getters, its setter and its hasers; of a group its zeroing.
+// A text of a field: of a slot its type's text for a leaf, by document 01's number, its getters, its setter and its hasers; of a
+// group its zeroing.
 pub enum Accessor {
+    TypeText { leaf: u64 },
     Getter { is_reader: bool, is_fn: bool },
     Setter,
     Haser { is_reader: bool },
     Zeroing,
 }
 
-// What can be requested of a node: of its field at a place the type's text for a leaf, by document 01's number, or an accessor.
-pub enum Request {
-    TypeText { place: u64, leaf: u64 },
-    Field { place: u64, accessor: Accessor },
+// What can be requested of a node: a text of its field at a place.
+pub struct Request {
+    pub place: u64,
+    pub accessor: Accessor,
 }
 
 // The state past the text, or document 01's number of a refusal and its line, 0 where it names none.
 pub enum Answer {
     Done(Text),
     Refused { number: u64, line: usize },
+}
+
+// What one pass over a text says: the whole text is there, and so long; it is longer than the buffer, and so long; or it is
+// refused with a number of document 01.
+pub enum Pass {
+    Whole(usize),
+    Longer(usize),
+    Refused(u64),
 }
 
 // A field that was found, and the offset of its node's tag.
@@ -93,28 +105,22 @@ fn locate(s: &[u8], index: &[u64], id: u64, place: u64) -> Located
     }
 }
 
-// The text of a slot's type for the leaf with a number; a group has none.
+// The text of a slot's type for the leaf with a number.
 fn type_text(
     root: &[u8],
     s: &[u8],
     index: &[u64],
-    field: Field,
+    slot: Slot,
     leaf: u64,
     t: Text,
     buf: &mut [u8],
 ) -> Written
-    ensures { λ r. ⌜ ((tag : ℕ) → TypeTextWritten (now (s .entry)) (now (index .entry)) (now (root .entry)) tag field leaf
-        (now (buf .entry)) t (now (buf .exit)) r) ⌝ }
+    ensures { λ r. ⌜ ((tag : ℕ) → AccessorWritten (now (s .entry)) (now (index .entry)) (now (root .entry)) tag
+        (field-is.Slot slot) (TypeText leaf) (now (buf .entry)) t (now (buf .exit)) r) ⌝ }
 {
-    match field {
-        Field::Slot(slot) => match leaf_of(leaf) {
-            LeafNumber::Is(leaf) => {
-                type_string::type_string(root, s, index, slot.typ, leaf, t, buf)
-            }
-            LeafNumber::Nothing => codegen_types::refused(t, 15),
-        },
-        Field::Group(_) => codegen_types::refused(t, 15),
-        Field::Nothing => codegen_types::refused(t, 15),
+    match leaf_of(leaf) {
+        LeafNumber::Is(leaf) => type_string::type_string(root, s, index, slot.typ, leaf, t, buf),
+        LeafNumber::Nothing => codegen_types::refused(t, refusals::NOT_THERE),
     }
 }
 
@@ -142,12 +148,13 @@ fn slot_accessor(
         (now (buf .entry)) t (now (buf .exit)) r ⌝ }
 {
     match accessor {
+        Accessor::TypeText { leaf } => type_text(root, s, index, slot, leaf, t, buf),
         Accessor::Getter { is_reader, is_fn } => {
             getter::getter(root, s, index, slot, is_reader, is_fn, t, buf)
         }
         Accessor::Setter => setter::setter(root, s, index, slot, tag, t, buf),
         Accessor::Haser { is_reader } => haser(s, tag, slot, is_reader, t, buf),
-        Accessor::Zeroing => codegen_types::refused(t, 15),
+        Accessor::Zeroing => codegen_types::refused(t, refusals::NOT_THERE),
     }
 }
 
@@ -164,12 +171,13 @@ fn group_accessor(
         (field-is.Group group) accessor (now (buf .entry)) t (now (buf .exit)) r) ⌝ }
 {
     match accessor {
+        Accessor::TypeText { leaf: _ } => codegen_types::refused(t, refusals::NOT_THERE),
         Accessor::Getter {
             is_reader: _,
             is_fn: _,
-        } => codegen_types::refused(t, 15),
-        Accessor::Setter => codegen_types::refused(t, 15),
-        Accessor::Haser { is_reader: _ } => codegen_types::refused(t, 15),
+        } => codegen_types::refused(t, refusals::NOT_THERE),
+        Accessor::Setter => codegen_types::refused(t, refusals::NOT_THERE),
+        Accessor::Haser { is_reader: _ } => codegen_types::refused(t, refusals::NOT_THERE),
         Accessor::Zeroing => {
             let z = zeroing::zeroing(s, index, group.id, t, buf);
             let text = z.text;
@@ -196,106 +204,104 @@ pub fn write_accessor(
     match field {
         Field::Slot(slot) => slot_accessor(root, s, index, tag, slot, accessor, t, buf),
         Field::Group(group) => group_accessor(s, index, group, accessor, t, buf),
-        Field::Nothing => codegen_types::refused(t, 15),
+        Field::Nothing => codegen_types::refused(t, refusals::NOT_THERE),
     }
 }
 
-// The text of a request for a field that was found, or its refusal.
-fn write(
-    root: &[u8],
-    s: &[u8],
-    index: &[u64],
-    tag: u64,
-    field: Field,
-    request: Request,
-    t: Text,
-    buf: &mut [u8],
-) -> Written
-    ensures { λ r. ⌜ RequestWritten (now (s .entry)) (now (index .entry)) (now (root .entry)) tag field request
-        (now (buf .entry)) t (now (buf .exit)) r ⌝ }
-{
-    match request {
-        Request::TypeText { place: _, leaf } => type_text(root, s, index, field, leaf, t, buf),
-        Request::Field {
-            place: _,
-            accessor: asked,
-        } => write_accessor(root, s, index, tag, field, asked, t, buf),
-    }
-}
-
-// The answer to a request for a field that was found: its refusal, 22, or its text.
+// The answer for a field that was found: its refusal, 22, or its text. What is written is written into the free part of the
+// buffer, so that no byte before the fill count can change.
 fn answer_found(
     s: &[u8],
     index: &[u64],
     tag: u64,
     field: Field,
-    request: Request,
+    accessor: Accessor,
     t: Text,
     buf: &mut [u8],
 ) -> Answer
     requires { ⌜ t .at ≤ length (now buf) ⌝ }
-    ensures { λ r. ⌜ FieldAnswered (now (s .entry)) (now (index .entry)) tag field request
+    ensures indexed { λ r. ⌜ FieldAnswered (now (s .entry)) (now (index .entry)) tag field accessor
         (now (buf .entry)) t (now (buf .exit)) r ⌝ }
+    ensures before { λ r. ⌜ take (t .at) (now (buf .exit)) ≡ take (t .at) (now (buf .entry)) ⌝ }
 {
     let root = row::text(s, 0);
+    let start = Text::at(0);
     let mut empty = [0u8; 0];
-    let measured = write(root, s, index, tag, field, request, t, &mut empty);
+    let measured = write_accessor(root, s, index, tag, field, accessor, start, &mut empty);
     let refusal = measured.refusal;
     if let Refusal::Number(number) = refusal {
-        return Answer::Refused {
-            number: number as u64,
-            line: 0,
-        };
+        return Answer::Refused { number, line: 0 };
     }
     let end = measured.text;
-    if buf.len() < end.fill() {
+    let n = end.fill();
+    let fill = t.fill();
+    if buf.len() - fill < n {
         return Answer::Refused {
-            number: 22,
+            number: refusals::NO_ROOM,
             line: 0,
         };
     }
-    let written = write(root, s, index, tag, field, request, t, buf);
-    let text = written.text;
-    Answer::Done(text)
+    write_accessor(
+        root,
+        s,
+        index,
+        tag,
+        field,
+        accessor,
+        start,
+        &mut buf[fill..],
+    );
+    Answer::Done(Text::at(fill + n))
 }
 
-// The answer to a request for the field at a place of the node with an id: 15 where there is none.
+// The answer for the field at a place of the node with an id: 15 where there is none.
 fn answer_field(
     s: &[u8],
     index: &[u64],
     id: u64,
     place: u64,
-    request: Request,
+    accessor: Accessor,
     t: Text,
     buf: &mut [u8],
 ) -> Answer
     requires { ⌜ t .at ≤ length (now buf) ⌝ }
-    ensures { λ r. ⌜ PlaceAnswered (now (s .entry)) (now (index .entry)) id place request
+    ensures indexed { λ r. ⌜ PlaceAnswered (now (s .entry)) (now (index .entry)) id place accessor
         (now (buf .entry)) t (now (buf .exit)) r ⌝ }
+    ensures before { λ r. ⌜ take (t .at) (now (buf .exit)) ≡ take (t .at) (now (buf .entry)) ⌝ }
 {
     let located = locate(s, index, id, place);
     let field = located.field;
     match field {
         Field::Nothing => Answer::Refused {
-            number: 15,
+            number: refusals::NOT_THERE,
             line: 0,
         },
-        _ => answer_found(s, index, located.tag, field, request, t, buf),
+        _ => answer_found(s, index, located.tag, field, accessor, t, buf),
     }
 }
 
-// The answer to a request of the node with an id, in the sheet with this index.
-fn answer_in(s: &[u8], index: &[u64], id: u64, request: Request, t: Text, buf: &mut [u8]) -> Answer
-    requires { ⌜ t .at ≤ length (now buf) ⌝ }
-    ensures { λ r. ⌜ RequestAnswered (now (s .entry)) (now (index .entry)) id request
+// The answer to a request of the node with an id, in the sheet with this index: 21 before anything is looked at. Over any bytes
+// and any index no byte before the fill count changes.
+pub fn answer_in(
+    s: &[u8],
+    index: &[u64],
+    id: u64,
+    request: Request,
+    t: Text,
+    buf: &mut [u8],
+) -> Answer
+    ensures indexed { λ r. ⌜ RequestAnswered (now (s .entry)) (now (index .entry)) id request
         (now (buf .entry)) t (now (buf .exit)) r ⌝ }
+    ensures before { λ r. ⌜ take (t .at) (now (buf .exit)) ≡ take (t .at) (now (buf .entry)) ⌝ }
 {
-    match request {
-        Request::TypeText { place, leaf: _ } => answer_field(s, index, id, place, request, t, buf),
-        Request::Field { place, accessor: _ } => {
-            answer_field(s, index, id, place, request, t, buf)
-        }
+    if buf.len() < t.fill() {
+        return Answer::Refused {
+            number: refusals::FILL_PAST_END,
+            line: 0,
+        };
     }
+    let Request { place, accessor } = request;
+    answer_field(s, index, id, place, accessor, t, buf)
 }
 
 // The answer to a request of the node with an id, over an index that has room for the sheet's nodes: the sheet's own refusal,
@@ -347,7 +353,7 @@ pub fn answer_request(s: &[u8], id: u64, request: Request, t: Text, buf: &mut [u
 {
     if buf.len() < t.fill() {
         return Answer::Refused {
-            number: 21,
+            number: refusals::FILL_PAST_END,
             line: 0,
         };
     }
@@ -355,4 +361,56 @@ pub fn answer_request(s: &[u8], id: u64, request: Request, t: Text, buf: &mut [u
         return answer_short(s, id, request, t, buf);
     }
     answer_long(s, id, request, t, buf)
+}
+
+// The text of a field that was read, whose node's tag is at this offset, in one pass from the start of the buffer on.
+fn pass_field(
+    s: &[u8],
+    index: &[u64],
+    tag: u64,
+    field: Field,
+    accessor: Accessor,
+    buf: &mut [u8],
+) -> Pass
+    ensures { λ r. ⌜ FieldPassed (now (s .entry)) (now (index .entry)) tag field accessor
+        (now (buf .entry)) (now (buf .exit)) r ⌝ }
+{
+    let root = row::text(s, 0);
+    let written = write_accessor(root, s, index, tag, field, accessor, Text::at(0), buf);
+    let refusal = written.refusal;
+    if let Refusal::Number(number) = refusal {
+        return Pass::Refused(number);
+    }
+    let end = written.text;
+    let n = end.fill();
+    if buf.len() < n {
+        return Pass::Longer(n);
+    }
+    Pass::Whole(n)
+}
+
+// The text of the field that stands at a position, in the node with a number, from 0, in one pass from the start of the buffer
+// on: 15 where there is no such node or no field. There are at most 64 nodes.
+pub fn text_at(
+    s: &[u8],
+    index: &[u64],
+    node: usize,
+    at: usize,
+    accessor: Accessor,
+    buf: &mut [u8],
+) -> Pass
+    ensures { λ r. ⌜ FirstPassed (now (s .entry)) (now (index .entry)) node at accessor
+        (now (buf .entry)) (now (buf .exit)) r ⌝ }
+{
+    if 64 <= node {
+        return Pass::Refused(refusals::NOT_THERE);
+    }
+    let Found::At(entry) = nodes::nth(index, node) else {
+        return Pass::Refused(refusals::NOT_THERE);
+    };
+    let field = field::read(s, at);
+    match field {
+        Field::Nothing => Pass::Refused(refusals::NOT_THERE),
+        _ => pass_field(s, index, entry.tag_offset, field, accessor, buf),
+    }
 }

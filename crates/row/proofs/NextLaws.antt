@@ -13,18 +13,16 @@ use borrow.Author.Tests.{ne-eqb}
 use types.Run.{OneOf, miss}
 use denote.Enum.Declared.{tagOf}
 use Rattle.text.specs.Bytes.{Str, cond}
-use Rattle.column.specs.Number.{columnOf}
 use Rattle.column.specs.Texts.{endsIn, isName, isGraphicText}
-use Rattle.column.specs.declared.Number.{Number}
-use Rattle.column.specs.declared.Number.the-variants.{Is, Not}
 use Rattle.row.specs.Rows.{rowLen, rows, restOf}
 use Rattle.row.specs.Line.{rootLine, nodeLine, parameterLine, fieldLine, groupLine}
 use Rattle.row.specs.Line.{typeLine, scopeLine, unboundLine, valueLine, wordLine}
-use Rattle.row.specs.Line.{given, reader, badLine, lineOf, lineAt, textOf}
+use Rattle.row.specs.Line.{reader, badLine, lineOf, lineAt, textOf}
 use Rattle.row.specs.declared.Line.{Line}
 use Rattle.row.specs.declared.Line.the-variants.{Root, Node, Parameter, Field, Group, Typ, Scope, Unbound, Value, Word, Bad}
 use Rattle.row.proofs.Line.{the-type}
 use Rattle.row.proofs.Laws.{row-bounds, rows-at, line-row}
+use Rattle.row.proofs.ColumnLaws.{given-bad}
 use Rattle.row.proofs.PrintLaws.{rows-printed}
 use Rattle.row.proofs.ReadLaws.{Good, printed-line}
 
@@ -35,74 +33,58 @@ cond-false true = refl
 cond-false false = refl
 
 module _ (t : Str) where
-  -- a line that goes on with a number is bad if it is bad with each
-  on-column : (a least most : ℕ) (f : ℕ → Line) → ((v : ℕ) → f v ≡ Bad) → given (columnOf t a least most) f ≡ Bad
-  on-column a least most f h = go (columnOf t a least most)
-    where
-      go : (n : Number) → given n f ≡ Bad
-      go (Is v) = h v
-      go Not = refl
-
   ends-short : (ok : Str → Bool) (a : ℕ) → ok [] ≡ false → length t < a + 2 → endsIn ok t a ≡ false
   unfolding endsIn
   ends-short ok a e h =
       let l : length t ≤ a + 1 = omega arith in
       rw (drop-of-length-le t l, e) (cond-false (eqb (getD t a 0) 32))
 
-  name-short : (l : Line) (a : ℕ) → length t < a + 2 → cond (endsIn isName t a) l Bad ≡ Bad
+  name-short : (a : ℕ) → length t < a + 2 → endsIn isName t a ≡ false
   unfolding isName
-  name-short l a h = rw (ends-short isName a refl h)
+  name-short a h = ends-short isName a refl h
 
-  graphic-short : (l : Line) (most a : ℕ) → isGraphicText most [] ≡ false → length t < a + 2
-      → cond (endsIn (isGraphicText most) t a) l Bad ≡ Bad
-  graphic-short l most a e h = rw (ends-short (isGraphicText most) a e h)
-
-  length-short : (l : Line) (n : ℕ) → length t < n → cond (eqb (length t) n) l Bad ≡ Bad
-  length-short l n h = let d : length t ≡ n → ⊥ = λ e. omega arith in rw (ne-eqb (length t) n d)
+  length-short : (n : ℕ) → length t < n → eqb (length t) n ≡ false
+  length-short n h = ne-eqb (length t) n λ e. omega arith
 
   pub root-short : length t < 3 → rootLine t ≡ Bad
   unfolding rootLine isGraphicText
-  root-short h = graphic-short _ 64 1 refl h
+  root-short h = rw (ends-short (isGraphicText 64) 1 refl h)
 
   pub node-short : length t < 150 → nodeLine t ≡ Bad
   unfolding nodeLine isGraphicText
-  node-short h =
-      on-column _ _ _ _ λ i. on-column _ _ _ _ λ p. on-column _ _ _ _ λ s. on-column _ _ _ _ λ x.
-      on-column _ _ _ _ λ g. on-column _ _ _ _ λ c. on-column _ _ _ _ λ o. graphic-short _ 128 148 refl h
+  node-short h = simp (ends-short (isGraphicText 128) 148 refl h, given-bad)
 
   pub parameter-short : length t < 3 → parameterLine t ≡ Bad
   unfolding parameterLine
-  parameter-short h = name-short _ 1 h
+  parameter-short h = rw (name-short 1 h)
 
   pub field-short : length t < 87 → fieldLine t ≡ Bad
   unfolding fieldLine
-  field-short h =
-      on-column _ _ _ _ λ o. on-column _ _ _ _ λ d. on-column _ _ _ _ λ e. on-column _ _ _ _ λ p. name-short _ 85 h
+  field-short h = simp (name-short 85 h, given-bad)
 
   pub group-short : length t < 45 → groupLine t ≡ Bad
   unfolding groupLine
-  group-short h = on-column _ _ _ _ λ i. on-column _ _ _ _ λ d. name-short _ 43 h
+  group-short h = simp (name-short 43 h, given-bad)
 
   pub type-short : length t < 85 → typeLine t ≡ Bad
   unfolding typeLine
-  type-short h =
-      on-column _ _ _ _ λ k. on-column _ _ _ _ λ a. on-column _ _ _ _ λ b. on-column _ _ _ _ λ c. length-short _ 85 h
+  type-short h = simp (length-short 85 h, given-bad)
 
   pub scope-short : length t < 64 → scopeLine t ≡ Bad
   unfolding scopeLine
-  scope-short h = on-column _ _ _ _ λ i. on-column _ _ _ _ λ b. on-column _ _ _ _ λ n. length-short _ 64 h
+  scope-short h = simp (length-short 64 h, given-bad)
 
   pub unbound-short : length t < 1 → unboundLine t ≡ Bad
   unfolding unboundLine
-  unbound-short h = length-short _ 1 h
+  unbound-short h = rw (length-short 1 h)
 
   pub value-short : length t < 43 → valueLine t ≡ Bad
   unfolding valueLine
-  value-short h = on-column _ _ _ _ λ k. on-column _ _ _ _ λ b. length-short _ 43 h
+  value-short h = simp (length-short 43 h, given-bad)
 
   pub word-short : length t < 22 → wordLine t ≡ Bad
   unfolding wordLine
-  word-short h = on-column _ _ _ _ λ v. length-short _ 22 h
+  word-short h = simp (length-short 22 h, given-bad)
 
 -- ---- where a line that says something ends, its row ends
 

@@ -12,8 +12,6 @@ use borrow.Author.Tests.{eqb-true}
 use Rattle.text.specs.Bytes.{Str, cond, unit}
 use Rattle.column.specs.Number.{columnOf, padded}
 use Rattle.column.specs.Texts.{isName, isGraphicText}
-use Rattle.column.specs.declared.Number.{Number}
-use Rattle.column.specs.declared.Number.the-variants.{Is, Not}
 use Rattle.column.proofs.PaddedLaws.{Stands, column-stands, Ends, ends-stands}
 use Rattle.row.specs.Line.{rootLine, nodeLine, parameterLine, fieldLine, groupLine}
 use Rattle.row.specs.Line.{typeLine, scopeLine, unboundLine, valueLine, wordLine}
@@ -21,6 +19,7 @@ use Rattle.row.specs.Line.{given, reader, badLine, lineOf, textStart, te
 use Rattle.row.specs.Print.{columns, rowText, printLine, Fits}
 use Rattle.row.specs.declared.Line.{Line}
 use Rattle.row.specs.declared.Line.the-variants.{Root, Node, Parameter, Field, Group, Typ, Scope, Unbound, Value, Word, Bad}
+use Rattle.row.proofs.ColumnLaws.{by-number}
 use Rattle.row.proofs.PrintLaws.{row-is, line-read, text-read}
 
 -- any line but the bad one
@@ -53,11 +52,7 @@ module _ (r : Str) where
   on-column :
       (t : Str) (a least most : ℕ) (f : ℕ → Line) → ((v : ℕ) → Stands t a least most v → Told r (f v))
       → Told r (given (columnOf t a least most) f)
-  on-column t a least most f g = go (columnOf t a least most) refl
-    where
-      go : (n : Number) → columnOf t a least most ≡ n → Told r (given n f)
-      go (Is v) e = g v (column-stands t a least most v e)
-      go Not e = told-bad r
+  on-column t a least most f g = by-number (Told r) _ f (told-bad r) λ v e. g v (column-stands t a least most v e)
 
   on-test : (b : Bool) (l : Line) → (b ≡ true → Told r l) → Told r (cond b l Bad)
   on-test true l g = g refl

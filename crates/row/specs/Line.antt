@@ -1,7 +1,7 @@
 -- What a row says: a letter, its numbers in 21 columns each, one space and a text where one belongs, then byte 10.
 -- Assumes nothing.
 use mathlib.Core.List.{List, [], _∷_}
-use Prim.Native.Nat.{ℕ, _-_}
+use Prim.Native.Nat.{ℕ, _-_, _≤_}
 use Prim.Native.Char.{code}
 use Prim.Native.String as S
 use lib.Dec.{eqb, ltb}
@@ -12,6 +12,7 @@ use Rattle.column.specs.Texts.{endsIn, isName, isGraphicText}
 use Rattle.column.specs.declared.Number.{Number}
 use Rattle.column.specs.declared.Number.the-variants.{Is, Not}
 use Rattle.row.specs.declared.Line.{Line}
+use Rattle.row.specs.declared.Span.{Span}
 use Rattle.row.specs.declared.Line.the-variants.{Root, Node, Parameter, Field, Group, Typ, Scope, Unbound, Value, Word, Bad}
 
 -- the byte of a letter
@@ -164,6 +165,13 @@ textOf r = cond (eqb (textStart (getD r 0 0)) 0) [] (drop (textStart (getD r 0 0
 unfoldable pub textAt : List Str → Str
 textAt [] = []
 textAt (r ∷ rs) = textOf r
+
+-- a span lies within s, and the bytes that it spans
+abbrev pub Within : Str → Span → Type 0
+Within s p = (p .start ≤ p .end) × (p .end ≤ length s)
+
+abbrev pub spanned : Str → Span → Str
+spanned s p = take (p .end - p .start) (drop (p .start) s)
 
 -- by what a line says
 abbrev pub cases :

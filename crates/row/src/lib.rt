@@ -3,6 +3,7 @@ mod ends;
 
 use crate::ends::row_end;
 use column::Number;
+use terms::kinds;
 ghost use mathlib.Core.Path.{_≡_};
 ghost use mathlib.Core.List.{_++_};
 ghost use Prim.Native.Nat.{_+_, _-_, _*_, _≤_, _<_};
@@ -11,6 +12,7 @@ ghost use Rattle.row.specs.Rows.{rowLen, rows, joined, restOf, lineNo, u
 ghost use Rattle.row.specs.Line.{rootLine, nodeLine, parameterLine, fieldLine, groupLine};
 ghost use Rattle.row.specs.Line.{typeLine, scopeLine, unboundLine, valueLine, wordLine};
 ghost use Rattle.row.specs.Line.{mostA, mostB, mostC, mostCount, mostBits, reader, lineOf, lineAt, textStart, textAt};
+ghost use Rattle.row.specs.Line.{Within, spanned};
 ghost use Rattle.row.specs.declared.Line.the-variants.{Bad};
 ghost use Rattle.text.specs.Bytes.{Str};
 
@@ -44,6 +46,9 @@ const MOST_BITS: [u64; 19] = [
     0,
     0,
 ];
+
+// The bytes of two U rows as one number, the first lowest.
+const TWO_UNBOUND: u64 = 0x0a55_0a55;
 
 // What a row says.
 pub enum Line {
@@ -105,6 +110,12 @@ pub enum Line {
 pub struct Got {
     pub line: Line,
     pub next: usize,
+}
+
+// Where a text stands: from a position up to another.
+pub struct Span {
+    pub start: usize,
+    pub end: usize,
 }
 
 // R: the root, 1 to 64 graphic bytes.
@@ -213,42 +224,38 @@ fn group_line(t: &[u8]) -> Line
 fn most_a(kind: u64) -> u64
     ensures { λ r. ⌜ r ≡ mostA kind ⌝ }
 {
-    if kind < 15 {
-        return 0;
+    match kind {
+        kinds::VOID..=kinds::LIST => 0,
+        kinds::ENUM..=kinds::INTERFACE => MOST_64,
+        _ => 1,
     }
-    if kind < 18 {
-        return MOST_64;
-    }
-    1
 }
 
 // T's b: a number of scopes for kinds 15 to 17, a scope id for a parameter, otherwise 0.
 fn most_b(kind: u64, a: u64) -> u64
     ensures { λ r. ⌜ r ≡ mostB kind a ⌝ }
 {
-    if kind < 15 {
-        return 0;
+    match kind {
+        kinds::VOID..=kinds::LIST => 0,
+        kinds::ENUM..=kinds::INTERFACE => MOST_64,
+        _ => match a {
+            0 => 0,
+            _ => MOST_64,
+        },
     }
-    if kind < 18 {
-        return MOST_64;
-    }
-    if a == 0 {
-        return 0;
-    }
-    MOST_64
 }
 
 // T's c: a parameter's index, otherwise 0.
 fn most_c(kind: u64, a: u64) -> u64
     ensures { λ r. ⌜ r ≡ mostC kind a ⌝ }
 {
-    if kind < 18 {
-        return 0;
+    match kind {
+        kinds::VOID..=kinds::INTERFACE => 0,
+        _ => match a {
+            0 => 0,
+            _ => MOST_16,
+        },
     }
-    if a == 0 {
-        return 0;
-    }
-    MOST_16
 }
 
 // T: the kind, and what it allows for a, b and c.
@@ -356,37 +363,19 @@ fn word_line(t: &[u8]) -> Line
 fn read(letter: u8, t: &[u8]) -> Line
     ensures { λ r. ⌜ r ≡ reader letter (now (t .entry)) ⌝ }
 {
-    if letter == b'R' {
-        return root_line(t);
+    match letter {
+        b'R' => root_line(t),
+        b'N' => node_line(t),
+        b'P' => parameter_line(t),
+        b'F' => field_line(t),
+        b'G' => group_line(t),
+        b'T' => type_line(t),
+        b'S' => scope_line(t),
+        b'U' => unbound_line(t),
+        b'V' => value_line(t),
+        b'W' => word_line(t),
+        _ => Line::Bad,
     }
-    if letter == b'N' {
-        return node_line(t);
-    }
-    if letter == b'P' {
-        return parameter_line(t);
-    }
-    if letter == b'F' {
-        return field_line(t);
-    }
-    if letter == b'G' {
-        return group_line(t);
-    }
-    if letter == b'T' {
-        return type_line(t);
-    }
-    if letter == b'S' {
-        return scope_line(t);
-    }
-    if letter == b'U' {
-        return unbound_line(t);
-    }
-    if letter == b'V' {
-        return value_line(t);
-    }
-    if letter == b'W' {
-        return word_line(t);
-    }
-    Line::Bad
 }
 
 // The least bytes that a line with a letter has.
@@ -454,39 +443,35 @@ pub fn next(s: &[u8], at: usize) -> Got
 fn text_start(letter: u8) -> usize
     ensures { λ r. ⌜ r ≡ textStart letter ⌝ }
 {
-    if letter == b'R' {
-        return 2;
+    match letter {
+        b'R' => 2,
+        b'N' => 149,
+        b'P' => 2,
+        b'F' => 86,
+        b'G' => 44,
+        _ => 0,
     }
-    if letter == b'N' {
-        return 149;
-    }
-    if letter == b'P' {
-        return 2;
-    }
-    if letter == b'F' {
-        return 86;
-    }
-    if letter == b'G' {
-        return 44;
-    }
-    0
 }
 
-// The text of the row from `at` to `e`.
-fn text_to(s: &[u8], at: usize, e: usize) -> &[u8]
+// Where the text of the row from `at` to `e` stands.
+fn span_to(s: &[u8], at: usize, e: usize) -> Span
     requires { ⌜ (at < e) × (e ≤ length (now s)) ⌝ }
-    ensures { λ r. ⌜ (e ≡ at + rowLen (drop at (now (s .entry))) → now r ≡ textAt (rows (drop at (now (s .entry))))) ⌝ }
+    ensures within { λ r. ⌜ Within (now (s .entry)) r ⌝ }
+    ensures text { λ r. ⌜ (e ≡ at + rowLen (drop at (now (s .entry)))
+        → spanned (now (s .entry)) r ≡ textAt (rows (drop at (now (s .entry))))) ⌝ }
 {
     let k = text_start(s[at]);
     if k == 0 {
-        return &s[..0];
+        return Span { start: 0, end: 0 };
     }
     let z = e - 1;
     if z - at < k {
-        return &s[..0];
+        return Span { start: 0, end: 0 };
     }
-    let a = at + k;
-    &s[a..z]
+    Span {
+        start: at + k,
+        end: z,
+    }
 }
 
 // The root, module, parameter or field name of the row at a position: the caller's own bytes.
@@ -496,24 +481,35 @@ pub fn text(s: &[u8], at: usize) -> &[u8]
     if s.len() <= at {
         return &s[..0];
     }
-    text_to(s, at, row_end(s, at))
+    let Span { start, end } = span_to(s, at, row_end(s, at));
+    &s[start..end]
 }
 
-// The text of the row at a position, for whoever knows where the next row begins: no end is sought.
+// Where the text of the row at a position stands, for whoever knows where the next row begins: no end is sought.
+pub fn text_span(s: &[u8], at: usize, next: usize) -> Span
+    ensures within { λ r. ⌜ Within (now (s .entry)) r ⌝ }
+    ensures text { λ r. ⌜ (rows (drop next (now (s .entry))) ≡ restOf (rows (drop at (now (s .entry))))
+        → spanned (now (s .entry)) r ≡ textAt (rows (drop at (now (s .entry))))) ⌝ }
+{
+    if s.len() <= at {
+        return Span { start: 0, end: 0 };
+    }
+    if next <= at {
+        return Span { start: 0, end: 0 };
+    }
+    if s.len() < next {
+        return span_to(s, at, s.len());
+    }
+    span_to(s, at, next)
+}
+
+// That text: the caller's own bytes.
 pub fn text_before(s: &[u8], at: usize, next: usize) -> &[u8]
     ensures { λ r. ⌜ (rows (drop next (now (s .entry))) ≡ restOf (rows (drop at (now (s .entry))))
         → now r ≡ textAt (rows (drop at (now (s .entry))))) ⌝ }
 {
-    if s.len() <= at {
-        return &s[..0];
-    }
-    if next <= at {
-        return &s[..0];
-    }
-    if s.len() < next {
-        return text_to(s, at, s.len());
-    }
-    text_to(s, at, next)
+    let Span { start, end } = text_span(s, at, next);
+    &s[start..end]
 }
 
 // How many U rows stand in front: two rows are compared as one number of four bytes, and a last one singly.
@@ -522,7 +518,7 @@ fn unbound_front(t: &[u8]) -> usize
     ensures rows { λ r. ⌜ take (2 * r) (now (t .entry)) ≡ joined (unboundRows r) ⌝ }
 {
     let mut n = 0;
-    while column::four_bytes(t, 2 * n) == 0x0a55_0a55 {
+    while column::four_bytes(t, 2 * n) == TWO_UNBOUND {
         n += 2;
     }
     let i = 2 * n;

@@ -23,10 +23,10 @@ use Rattle.names.proofs.Laws.{name-of}
 use Rattle.tree.specs.Tree as tree
 use Rattle.tree.specs.Tree.{Ty, plain, list, kind, Sheet, Value}
 use Rattle.tree.specs.Reader.{Rows, Reading}
-use Rattle.tree.specs.Read.{typeOf}
+use Rattle.tree.specs.Read.{readType}
 use Rattle.tree.specs.Index.{On}
-use Rattle.find.specs.Find.{kindAt}
-use Rattle.find.proofs.Laws.{on-one, on-two, on-has}
+use Rattle.types.specs.Find.{kindAt}
+use Rattle.types.proofs.Laws.{on-one, on-two, on-has}
 use Rattle.codegen_types.specs.Out.{Out, ok, refused, _then_, refusalOf}
 use Rattle.codegen_types.specs.TypeString.{typeString, getQualifiedModule}
 use Rattle.codegen_types.specs.Primitive.{primitiveText}
@@ -41,11 +41,11 @@ use Rattle.field.specs.declared.Slot.{Slot}
 use Rattle.calls.specs.Calls.{setBoolField, setDataField}
 use Rattle.codegen.specs.Given.{Given}
 use Rattle.codegen.specs.Default.{value, primDefault}
-use Rattle.codegen.specs.Setter.{Parts, setterOf, setterOnly, only, initPointer, newPointer, reborrowed}
-use Rattle.codegen.specs.Setter.{partsOf, primParts, textParts, dataParts, pointerParts, listReaderType, enumMask}
+use Rattle.codegen.specs.Setter.{Parts, setterFunctions, setterOnly, oneLine, initPointer, newPointer, reborrowed}
+use Rattle.codegen.specs.Setter.{setterParts, primParts, textParts, dataParts, pointerParts, listReaderType, enumMask}
 use Rattle.codegen.specs.Setter.{generateSetter, setterRequest}
-use Rattle.codegen_setter.specs.Parts.{setOpen, initOpen, initnOpen}
-use Rattle.setter.specs.Typed.{inputType, setEnd, initEnd, textOf}
+use Rattle.setter_code.specs.Parts.{setOpen, initOpen, initnOpen}
+use Rattle.setter.specs.Typed.{inputType, setEnd, initEnd, setterTextOf}
 use Rattle.setter.proofs.TypeLaws.{ElementIs, of-list, element-at}
 use Rattle.setter.proofs.TypeLaws.{at-list, at-enum, at-struct, at-interface, at-any, at-parameter, plain-is}
 use Rattle.setter.proofs.Laws.{made, onlyEnd, only-writes, both-writes, three-writes, masked-writes}
@@ -78,14 +78,14 @@ module _ (bytes : Str) (r : Slot) (f : SlotField) (here : SlotHere bytes r f) (s
 
   -- what is read at the slot's type
   abbrev Typed : (Ty → Type 0) → Type 0
-  Typed P = On (typeOf 16 (rows (drop (r .typ) bytes))) P
+  Typed P = On (readType 16 (rows (drop (r .typ) bytes))) P
 
   typed : (P : Ty → Type 0) → Typed P → P (s .ty)
-  typed P x = on-has P (typeOf 16 (rows (drop (r .typ) bytes))) (s .ty) x (here .typ)
+  typed P x = on-has P (readType 16 (rows (drop (r .typ) bytes))) (s .ty) x (here .typ)
 
   -- the text from what the match gives for a type
   abbrev from : Ty → Out Str
-  from ty = made root tag name d (partsOf sheet s ty)
+  from ty = made root tag name d (setterParts sheet s ty)
 
   module _ {l l₁ l₂ l₃ l₄ l₅ l₆ : List ℕ} {t t₁ t₃ t₄ t₆ : Text} (v w : Written) {q : Written} where
     pub struct-here : r .kind ≡ 16
@@ -93,7 +93,7 @@ module _ (bytes : Str) (r : Slot) (f : SlotField) (here : SlotHere bytes r f) (s
         → Wrote l₂ (v .text) (setEnd root tag d (r .offset)) l₃ t₃
         → Wrote l₃ t₃ (initOpen name false) l₄ t₄ → Typed (λ ty. Writes (typeString ty sheet (Builder A)) l₄ t₄ l₅ w)
         → Wrote l₅ (w .text) (initEnd tag d (initPointer root (r .offset) (ascii "0"))) l₆ t₆
-        → q .text ≡ t₆ → q .refusal ≡ firstOf (v .refusal) (w .refusal) → Writes (textOf sheet tag name d s) l t l₆ q
+        → q .text ≡ t₆ → q .refusal ≡ firstOf (v .refusal) (w .refusal) → Writes (setterTextOf sheet tag name d s) l t l₆ q
     unfolding generateSetter
     struct-here k a x b c y e i n =
         at-struct (λ ty. Writes (from ty) l t l₆ q) (s .ty) (r .id) (is .id) (is .kind ∙ k)
@@ -108,7 +108,7 @@ module _ (bytes : Str) (r : Slot) (f : SlotField) (here : SlotHere bytes r f) (s
         → Wrote l₂ (v .text) (setEnd root tag d (r .offset)) l₃ t₃
         → Wrote l₃ t₃ (initOpen name true) l₄ t₄ → Typed (λ ty. Writes (typeString ty sheet (Builder A)) l₄ t₄ l₅ w)
         → Wrote l₅ (w .text) (initEnd tag d (initPointer root (r .offset) (ascii "size"))) l₆ t₆
-        → q .text ≡ t₆ → q .refusal ≡ firstOf (v .refusal) (w .refusal) → Writes (textOf sheet tag name d s) l t l₆ q
+        → q .text ≡ t₆ → q .refusal ≡ firstOf (v .refusal) (w .refusal) → Writes (setterTextOf sheet tag name d s) l t l₆ q
     unfolding generateSetter
     list-here k a x b c y e i n =
         at-list (λ ty. s .ty ≡ ty → Writes (from ty) l t l₆ q) (s .ty) (r .id) (is .id) (is .kind ∙ k)
@@ -125,7 +125,7 @@ module _ (bytes : Str) (r : Slot) (f : SlotField) (here : SlotHere bytes r f) (s
       → Wrote l₅ (v .text) (setEnd root tag d (r .offset)) l₆ t₆
       → Wrote l₆ t₆ (initOpen name false) l₇ t₇ → Typed (λ ty. Writes (typeString ty sheet (Builder A)) l₇ t₇ l₈ w)
       → Wrote l₈ (w .text) (initEnd tag d (newPointer root (r .offset) ++ ascii ".init_as()")) l₉ t₉
-      → q .text ≡ t₉ → q .refusal ≡ firstOf (u .refusal) (v .refusal) → Writes (textOf sheet tag name d s) l t l₉ q
+      → q .text ≡ t₉ → q .refusal ≡ firstOf (u .refusal) (v .refusal) → Writes (setterTextOf sheet tag name d s) l t l₉ q
   unfolding generateSetter
   parameter-here {l} {l₁} {l₂} {l₃} {l₄} {l₅} {l₆} {l₇} {l₈} {l₉} {t} {t₁} {t₃} {t₄} {t₆} {t₇} {t₉} u v w {q}
       k j a x b c y e g z h i n =
@@ -141,7 +141,7 @@ module _ (bytes : Str) (r : Slot) (f : SlotField) (here : SlotHere bytes r f) (s
     pub interface-here : r .kind ≡ 17
         → Wrote l t (setOpen name) l₁ t₁ → Typed (λ ty. Writes (typeString ty sheet Client) l₁ t₁ l₂ w)
         → Wrote l₂ (w .text) (onlyEnd tag d (reborrowed (r .offset) ++ ascii ".set_capability(value.client.hook);")) l₃ t₃
-        → q .text ≡ t₃ → q .refusal ≡ w .refusal → Writes (textOf sheet tag name d s) l t l₃ q
+        → q .text ≡ t₃ → q .refusal ≡ w .refusal → Writes (setterTextOf sheet tag name d s) l t l₃ q
     unfolding generateSetter
     interface-here k a x b i n =
         at-interface (λ ty. Writes (from ty) l t l₃ q) (s .ty) (r .id) (is .id) (is .kind ∙ k)
@@ -153,7 +153,8 @@ module _ (bytes : Str) (r : Slot) (f : SlotField) (here : SlotHere bytes r f) (s
         → Wrote l t (setOpen name) l₁ t₁ → Writes (getQualifiedModule sheet (r .id)) l₁ t₁ l₂ w
         → Wrote l₂ (w .text) (onlyEnd tag d (setDataField (ascii "u16") (r .offset) (ascii "value as u16") mask)) l₃ t₃
         → Given (enumMask s) (λ x. mask ≡ x)
-        → q .text ≡ t₃ → q .refusal ≡ firstOf (w .refusal) (refusalOf (enumMask s)) → Writes (textOf sheet tag name d s) l t l₃ q
+        → q .text ≡ t₃ → q .refusal ≡ firstOf (w .refusal) (refusalOf (enumMask s))
+        → Writes (setterTextOf sheet tag name d s) l t l₃ q
     unfolding generateSetter
     enum-here mask k a x b m i n =
         at-enum (λ ty. Writes (from ty) l t l₃ q) (s .ty) (r .id) (is .id) (is .kind ∙ k)
@@ -185,16 +186,16 @@ module _ (rs : Rows) (sheet : Sheet) (j : ℕ) (several : Bool) (e : j ≡ kindA
     abbrev Takes : Ty → Type 0
     Takes ty = (el : Ty) → ty ≡ list el → Writes (listReaderType sheet el ty) l t l′ q
 
-    pub on-several : several ≡ true → On (typeOf 16 rs) (λ ty. Writes (inputType sheet ty) l t l′ q) → On (typeOf 16 rs) Takes
+    pub on-several : several ≡ true → On (readType 16 rs) (λ ty. Writes (inputType sheet ty) l t l′ q) → On (readType 16 rs) Takes
     on-several h x =
         on-two (λ ty. ElementIs ty (kindAt (restOf rs))) (λ ty. Writes (inputType sheet ty) l t l′ q) Takes
-        (typeOf 16 rs) (λ ty i w el z. rw (chosen ty el true h i z) w) (element-at 16 rs) x
+        (readType 16 rs) (λ ty i w el z. rw (chosen ty el true h i z) w) (element-at 16 rs) x
 
-    pub on-one-input : several ≡ false → On (typeOf 16 rs) (λ ty. Writes (typeString ty sheet (Reader Anonymous)) l t l′ q)
-        → On (typeOf 16 rs) Takes
+    pub on-one-input : several ≡ false → On (readType 16 rs) (λ ty. Writes (typeString ty sheet (Reader Anonymous)) l t l′ q)
+        → On (readType 16 rs) Takes
     on-one-input h x =
         on-two (λ ty. ElementIs ty (kindAt (restOf rs))) (λ ty. Writes (typeString ty sheet (Reader Anonymous)) l t l′ q) Takes
-        (typeOf 16 rs) (λ ty i w el z. rw (chosen ty el false h i z) w) (element-at 16 rs) x
+        (readType 16 rs) (λ ty i w el z. rw (chosen ty el false h i z) w) (element-at 16 rs) x
 
 -- ---- an enum's mask
 
@@ -232,13 +233,13 @@ default-is : (v : Value) (k b : ℕ) → v .kind ≡ k → v .bits ≡ b → v �
 default-is v k b e f = rw (← e, ← f) refl
 
 module _ (sheet : Sheet) (s : tree.Slot) (r : Slot) (is : SlotIs r s) (tag : ℕ) (name : Str) (d : ℕ) where
-  parts-at : (k : ℕ) → r .kind ≡ k → k ≤ 13 → partsOf sheet s (s .ty) ≡ partsOf sheet s (plain k)
-  parts-at k e le = ap (partsOf sheet s) (plain-is (s .ty) (r .id) k (is .id) (is .kind ∙ e) le)
+  parts-at : (k : ℕ) → r .kind ≡ k → k ≤ 13 → setterParts sheet s (s .ty) ≡ setterParts sheet s (plain k)
+  parts-at k e le = ap (setterParts sheet s) (plain-is (s .ty) (r .id) k (is .id) (is .kind ∙ e) le)
 
   typ-at : r .kind ≤ 11 → typeString (s .ty) sheet (Reader A) ≡ ok (primitiveText (r .kind))
   typ-at le = rw (plain-is (s .ty) (r .id) (r .kind) (is .id) (is .kind) (omega arith)) (prim-text sheet (r .kind) le)
 
-  prim-at : (k : ℕ) → r .kind ≡ k → (k ≡ 0 → ⊥) → k ≤ 11 → partsOf sheet s (s .ty) ≡ primParts sheet s
+  prim-at : (k : ℕ) → r .kind ≡ k → (k ≡ 0 → ⊥) → k ≤ 11 → setterParts sheet s (s .ty) ≡ primParts sheet s
   prim-at k e n0 le =
       parts-at k e (omega arith)
       ∙ rw (
@@ -249,56 +250,57 @@ module _ (sheet : Sheet) (s : tree.Slot) (r : Slot) (is : SlotIs r s) (tag : ℕ
 
   -- these parts are written whole; or those of a Bool or a number, with the default's mask
   abbrev Whole : List ℕ → Text → List ℕ → Text → Parts → Type 0
-  Whole l t l′ t′ p = Wrote l t (stringify (setterOf (sheet .root) tag name d p)) l′ t′
+  Whole l t l′ t′ p = Wrote l t (stringify (setterFunctions (sheet .root) tag name d p)) l′ t′
 
   abbrev Masked : List ℕ → Text → List ℕ → Text → (Option Str → Parts) → Type 0
   Masked l t l′ t′ parts = Given (primDefault (value (r .default) (r .bits))) (λ mask. Whole l t l′ t′ (parts mask))
 
   abbrev boolParts : Option Str → Parts
-  boolParts mask = setterOnly (ascii "value") (only (setBoolField (r .offset) (ascii "value") mask)) (ascii "bool")
+  boolParts mask = setterOnly (ascii "value") (oneLine (setBoolField (r .offset) (ascii "value") mask)) (ascii "bool")
 
   abbrev numberParts : Option Str → Parts
   numberParts mask =
-      setterOnly (ascii "value") (only (setDataField (primitiveText (r .kind)) (r .offset) (ascii "value") mask))
+      setterOnly (ascii "value") (oneLine (setDataField (primitiveText (r .kind)) (r .offset) (ascii "value") mask))
       (primitiveText (r .kind))
 
   default-here : s .default ≡ value (r .default) (r .bits)
   default-here = default-is (s .default) (r .default) (r .bits) (is .default) (is .bits)
 
   module _ {l l′ : List ℕ} {t t′ : Text} {q : Written} where
-    whole-here : (p : Parts) → partsOf sheet s (s .ty) ≡ ok p → Whole l t l′ t′ p → (q .text ≡ t′) × (q .refusal ≡ None)
-        → Writes (textOf sheet tag name d s) l t l′ q
+    whole-here : (p : Parts) → setterParts sheet s (s .ty) ≡ ok p → Whole l t l′ t′ p → (q .text ≡ t′) × (q .refusal ≡ None)
+        → Writes (setterTextOf sheet tag name d s) l t l′ q
     unfolding generateSetter
     whole-here p e w h = rw e (whole-writes (sheet .root) tag name d p w h)
 
     given-here : (m : Out (Option Str)) (parts : Option Str → Parts)
-        → partsOf sheet s (s .ty) ≡ (m then λ mask. ok (parts mask)) → Given m (λ mask. Whole l t l′ t′ (parts mask))
-        → q .text ≡ t′ → q .refusal ≡ refusalOf m → Writes (textOf sheet tag name d s) l t l′ q
+        → setterParts sheet s (s .ty) ≡ (m then λ mask. ok (parts mask)) → Given m (λ mask. Whole l t l′ t′ (parts mask))
+        → q .text ≡ t′ → q .refusal ≡ refusalOf m → Writes (setterTextOf sheet tag name d s) l t l′ q
     unfolding generateSetter
     given-here m parts e w i n = rw e (given-writes (sheet .root) tag name d m parts w i n)
 
     pub void-here : r .kind ≡ 0 → Whole l t l′ t′ (setterOnly (ascii "_value") lines.none (ascii "()"))
-        → (q .text ≡ t′) × (q .refusal ≡ None) → Writes (textOf sheet tag name d s) l t l′ q
+        → (q .text ≡ t′) × (q .refusal ≡ None) → Writes (setterTextOf sheet tag name d s) l t l′ q
     void-here e w h = whole-here _ (parts-at 0 e (omega arith)) w h
 
     pub text-here : r .kind ≡ 12 → Whole l t l′ t′ (textParts (sheet .root) (r .offset))
-        → (q .text ≡ t′) × (q .refusal ≡ None) → Writes (textOf sheet tag name d s) l t l′ q
+        → (q .text ≡ t′) × (q .refusal ≡ None) → Writes (setterTextOf sheet tag name d s) l t l′ q
     text-here e w h = whole-here (textParts (sheet .root) (r .offset)) (parts-at 12 e (omega arith) ∙ rw (is .offset) refl) w h
 
     pub data-here : r .kind ≡ 13 → Whole l t l′ t′ (dataParts (sheet .root) (r .offset))
-        → (q .text ≡ t′) × (q .refusal ≡ None) → Writes (textOf sheet tag name d s) l t l′ q
+        → (q .text ≡ t′) × (q .refusal ≡ None) → Writes (setterTextOf sheet tag name d s) l t l′ q
     data-here e w h = whole-here (dataParts (sheet .root) (r .offset)) (parts-at 13 e (omega arith) ∙ rw (is .offset) refl) w h
 
     pub any-here : r .kind ≡ 18 → r .id ≡ 0 → Whole l t l′ t′ (pointerParts (sheet .root) (r .offset))
-        → (q .text ≡ t′) × (q .refusal ≡ None) → Writes (textOf sheet tag name d s) l t l′ q
+        → (q .text ≡ t′) × (q .refusal ≡ None) → Writes (setterTextOf sheet tag name d s) l t l′ q
     any-here e i w h =
         whole-here (pointerParts (sheet .root) (r .offset))
-        (at-any (λ ty. partsOf sheet s ty ≡ ok (pointerParts (sheet .root) (r .offset))) (s .ty) (r .id) (is .id) (is .kind ∙ e) i
+        (at-any (λ ty. setterParts sheet s ty ≡ ok (pointerParts (sheet .root) (r .offset))) (s .ty) (r .id) (is .id)
+        (is .kind ∙ e) i
         (rw (is .offset) refl)) w h
 
     pub bool-here : r .kind ≡ 1 → Masked l t l′ t′ boolParts
         → q .text ≡ t′ → q .refusal ≡ refusalOf (primDefault (value (r .default) (r .bits)))
-        → Writes (textOf sheet tag name d s) l t l′ q
+        → Writes (setterTextOf sheet tag name d s) l t l′ q
     bool-here e w i n =
         given-here (primDefault (value (r .default) (r .bits))) boolParts
         (prim-at 1 e (λ z. let w : ⊥ = omega arith in absurd w) (omega arith) ∙ rw (is .kind ∙ e, is .offset, default-here) refl)
@@ -306,7 +308,7 @@ module _ (sheet : Sheet) (s : tree.Slot) (r : Slot) (is : SlotIs r s) (tag : ℕ
 
     pub number-here : (r .kind ≡ 0 → ⊥) → (r .kind ≡ 1 → ⊥) → r .kind ≤ 11 → Masked l t l′ t′ numberParts
         → q .text ≡ t′ → q .refusal ≡ refusalOf (primDefault (value (r .default) (r .bits)))
-        → Writes (textOf sheet tag name d s) l t l′ q
+        → Writes (setterTextOf sheet tag name d s) l t l′ q
     number-here n0 n1 le w i n =
         given-here (primDefault (value (r .default) (r .bits))) numberParts
         (prim-at (r .kind) refl n0 le
@@ -317,7 +319,7 @@ module _ (sheet : Sheet) (s : tree.Slot) (r : Slot) (is : SlotIs r s) (tag : ℕ
 
 pub setter-here : {l l′ : List ℕ} {t : Text} {q : Written} (bytes : Str) (r : Slot) (f : SlotField) → SlotHere bytes r f
     → (sheet : Sheet) (tag : ℕ) (name : Str) (snake : Snake) → name ≡ f .name → snake ≡ held (camelToSnakeCase name)
-    → Writes (textOf sheet tag (nameOf snake) (r .discriminant) (f .slot)) l t l′ q
+    → Writes (setterTextOf sheet tag (nameOf snake) (r .discriminant) (f .slot)) l t l′ q
     → Writes (setterRequest sheet tag (f .name) (f .discriminant) (f .slot)) l t l′ q
 unfolding setterRequest
 setter-here bytes r f here sheet tag name snake text held-is x =

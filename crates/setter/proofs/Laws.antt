@@ -23,9 +23,9 @@ use Rattle.codegen_types.proofs.WrittenLaws as written
 use Rattle.codegen_types.proofs.WrittenLaws.{around}
 use Rattle.codegen.specs.Given.{Given}
 use Rattle.codegen.specs.Default.{value, primDefault}
-use Rattle.codegen.specs.Setter.{Parts, setterOf, setterOnly, setterAndInitter, only, setPointer, setterInput}
-use Rattle.codegen_setter.specs.Parts.{tagLine, setOpen, setClose, sizeParam, initOpen, initnOpen}
-use Rattle.codegen_setter.proofs.Laws.{only-text, both-text, parameter-text}
+use Rattle.codegen.specs.Setter.{Parts, setterFunctions, setterOnly, setterAndInitter, oneLine, setPointer, setterInput}
+use Rattle.setter_code.specs.Parts.{tagLine, setOpen, setClose, sizeParam, initOpen, initnOpen}
+use Rattle.setter_code.proofs.Laws.{only-text, both-text, parameter-text}
 use Rattle.setter.specs.Typed.{setEnd, initEnd}
 
 -- ---- refusals
@@ -54,12 +54,12 @@ onlyEnd tag d line = ascii ")  {\n" ++ tagLine tag d ++ ascii "    " ++ line ++ 
 module _ (root : Str) (tag : ℕ) (name : Str) (d : ℕ) where
   -- the text of the parts that the match gives
   abbrev pub made : Out Parts → Out Str
-  made o = o then (λ p. ok (setterOf root tag name d p)) then λ ft. ok (stringify ft)
+  made o = o then (λ p. ok (setterFunctions root tag name d p)) then λ ft. ok (stringify ft)
 
   -- a setter of one line
   only-out : (line : Str) (o : Out Str)
       → (o then λ typ. ok (setOpen name ++ typ ++ onlyEnd tag d line))
-      ≡ made (o then λ typ. ok (setterOnly (ascii "value") (only line) typ))
+      ≡ made (o then λ typ. ok (setterOnly (ascii "value") (oneLine line) typ))
   only-out line (ok typ) =
       ap ok (joined (setOpen name) typ (ascii ")  {\n") (tagLine tag d) (ascii "    ") line (ascii "\n}\n")
       ∙ only-text root tag name d line typ)
@@ -71,7 +71,7 @@ module _ (root : Str) (tag : ℕ) (name : Str) (d : ℕ) where
   -- a setter and an initializer
   abbrev bothParts : ℕ → Bool → Str → Str → Str → Parts
   bothParts offset sized line readerType builderType =
-      setterAndInitter (only (setPointer root offset)) readerType true (sizeParam sized) (only line) builderType option.none
+      setterAndInitter (oneLine (setPointer root offset)) readerType true (sizeParam sized) (oneLine line) builderType option.none
 
   both-out : (offset : ℕ) (sized : Bool) (line : Str) (o o′ : Out Str)
       → ((o then λ a. ok (setOpen name ++ a ++ setEnd root tag d offset)) then λ x.
@@ -92,7 +92,7 @@ module _ (root : Str) (tag : ℕ) (name : Str) (d : ℕ) where
   -- a parameter's functions
   abbrev threeParts : ℕ → Str → Str → Str → Str → Parts
   threeParts offset initn initter builderType owned =
-      setterAndInitter (only (setPointer root offset)) (setterInput root owned) true [] (only initter) builderType
+      setterAndInitter (oneLine (setPointer root offset)) (setterInput root owned) true [] (oneLine initter) builderType
       (some (builderType, initn))
 
   three-out : (offset : ℕ) (initn initter : Str) (o o′ : Out Str)
@@ -117,7 +117,7 @@ module _ (root : Str) (tag : ℕ) (name : Str) (d : ℕ) where
   pub only-writes : {l l₁ l₂ l₃ : List ℕ} {t t₁ t₃ : Text} {w q : Written} (line : Str) (o : Out Str)
       → Wrote l t (setOpen name) l₁ t₁ → Writes o l₁ t₁ l₂ w → Wrote l₂ (w .text) (onlyEnd tag d line) l₃ t₃
       → q .text ≡ t₃ → q .refusal ≡ w .refusal
-      → Writes (made (o then λ typ. ok (setterOnly (ascii "value") (only line) typ))) l t l₃ q
+      → Writes (made (o then λ typ. ok (setterOnly (ascii "value") (oneLine line) typ))) l t l₃ q
   only-writes {l} {l₁} {l₂} {l₃} {t} {t₁} {t₃} {w} {q} line o a x b i n =
       subst (λ (z : Out Str). Writes z l t l₃ q) (only-out line o) (around o a x b i n)
 
@@ -154,7 +154,7 @@ module _ (root : Str) (tag : ℕ) (name : Str) (d : ℕ) where
       (m : Out (Option Str)) (mask : Option Str)
       → Wrote l t (setOpen name) l₁ t₁ → Writes o l₁ t₁ l₂ w → Wrote l₂ (w .text) (onlyEnd tag d (line mask)) l₃ t₃
       → Given m (λ x. mask ≡ x) → q .text ≡ t₃ → q .refusal ≡ firstOf (w .refusal) (refusalOf m)
-      → Writes (made (o then λ typ. m then λ x. ok (setterOnly (ascii "value") (only (line x)) typ))) l t l₃ q
+      → Writes (made (o then λ typ. m then λ x. ok (setterOnly (ascii "value") (oneLine (line x)) typ))) l t l₃ q
   masked-writes {l} {l₁} {l₂} {l₃} {t} {t₁} {t₃} {w} {q} line (ok typ) (ok x) mask a h b e i n =
       only-writes (line x) (ok typ) a h (rw e at b) i (n ∙ first-none (w .refusal))
   masked-writes {w = w} line (ok typ) (refused k) mask a h b e i n =
@@ -164,13 +164,13 @@ module _ (root : Str) (tag : ℕ) (name : Str) (d : ℕ) where
 
   -- a setter that is not refused, and one whose mask may be
   pub whole-writes : {l l′ : List ℕ} {t t′ : Text} {q : Written} (p : Parts)
-      → Wrote l t (stringify (setterOf root tag name d p)) l′ t′ → (q .text ≡ t′) × (q .refusal ≡ None)
+      → Wrote l t (stringify (setterFunctions root tag name d p)) l′ t′ → (q .text ≡ t′) × (q .refusal ≡ None)
       → Writes (made (ok p)) l t l′ q
   whole-writes {l} {l′} {t} {t′} {q} p w e =
-      written.whole (subst (λ (x : Text). Wrote l t (stringify (setterOf root tag name d p)) l′ x) (sym (e .0)) w) (e .1)
+      written.whole (subst (λ (x : Text). Wrote l t (stringify (setterFunctions root tag name d p)) l′ x) (sym (e .0)) w) (e .1)
 
   pub given-writes : {l l′ : List ℕ} {t t′ : Text} {q : Written} (m : Out (Option Str)) (parts : Option Str → Parts)
-      → Given m (λ mask. Wrote l t (stringify (setterOf root tag name d (parts mask))) l′ t′)
+      → Given m (λ mask. Wrote l t (stringify (setterFunctions root tag name d (parts mask))) l′ t′)
       → q .text ≡ t′ → q .refusal ≡ refusalOf m
       → Writes (made (m then λ mask. ok (parts mask))) l t l′ q
   given-writes (ok mask) parts w i n = whole-writes (parts mask) w (i, n)

@@ -11,11 +11,11 @@ use Rattle.tree.specs.Tree as tree
 use Rattle.tree.specs.Tree.{Ty, plain, list, enum, struct, interface, anyPointer, parameter, kind, Scopes, end}
 use Rattle.tree.specs.Reader.{Rows, Reader, got, mapR, times}
 use Rattle.tree.specs.Read as read
-use Rattle.tree.specs.Read.{typeOf, typeFrom, branded}
+use Rattle.tree.specs.Read.{readType, typeFrom, branded}
 use Rattle.tree.specs.Index.{On}
-use Rattle.find.specs.Find.{kindAt}
-use Rattle.find.proofs.TypeLaws.{type-kind}
-use Rattle.find.proofs.Laws.{on-map, on-all, as-type}
+use Rattle.types.specs.Find.{kindAt}
+use Rattle.types.proofs.TypeLaws.{type-kind}
+use Rattle.types.proofs.Laws.{on-map, on-all, as-type}
 use Rattle.field.specs.Slot.{HasId, SlotIs}
 use Rattle.field.specs.declared.Slot.{Slot}
 
@@ -121,8 +121,8 @@ branded-element k a ss j = go (eqb k 15) (eqb k 16)
     go false true = tt
     go false false = tt
 
-pub element-at : (left : ℕ) (rs : Rows) → On (typeOf left rs) (λ ty. ElementIs ty (kindAt (restOf rs)))
-unfolding typeOf typeFrom
+pub element-at : (left : ℕ) (rs : Rows) → On (readType left rs) (λ ty. ElementIs ty (kindAt (restOf rs)))
+unfolding readType typeFrom
 element-at zero rs =
     as-type (λ (f : Reader Ty). On (f rs) (λ ty. ElementIs ty (kindAt (restOf rs)))) (lineAt rs) _ _ (λ k a b c e. tt) tt
 element-at (suc n) rs =
@@ -130,15 +130,15 @@ element-at (suc n) rs =
     (λ k a b c e. go k a b c (ltb k 14) (eqb k 14) (ltb k 18) (eqb a 0)) tt
   where
     go : (k a b c : ℕ) (x y z w : Bool)
-        → On (cond x (got (plain k)) (cond y (mapR (λ t. list t) (typeOf n)) (cond z
-        (mapR (branded k a) (times (read.scopeOf (typeOf n)) end b)) (got (cond w anyPointer (parameter b c))))) (restOf rs))
+        → On (cond x (got (plain k)) (cond y (mapR (λ t. list t) (readType n)) (cond z
+        (mapR (branded k a) (times (read.readScope (readType n)) end b)) (got (cond w anyPointer (parameter b c))))) (restOf rs))
         (λ ty. ElementIs ty (kindAt (restOf rs)))
     go k a b c true y z w = tt
     go k a b c false true z w =
-        on-map (λ t. list t) (λ ty. ElementIs ty (kindAt (restOf rs))) (typeOf n (restOf rs)) (type-kind n (restOf rs))
+        on-map (λ t. list t) (λ ty. ElementIs ty (kindAt (restOf rs))) (readType n (restOf rs)) (type-kind n (restOf rs))
     go k a b c false false true w =
-        on-map (branded k a) (λ ty. ElementIs ty (kindAt (restOf rs))) (times (read.scopeOf (typeOf n)) end b (restOf rs))
+        on-map (branded k a) (λ ty. ElementIs ty (kindAt (restOf rs))) (times (read.readScope (readType n)) end b (restOf rs))
         (on-all {P = λ ss. ElementIs (branded k a ss) (kindAt (restOf rs))} (λ ss. branded-element k a ss (kindAt (restOf rs)))
-        (times (read.scopeOf (typeOf n)) end b (restOf rs)))
+        (times (read.readScope (readType n)) end b (restOf rs)))
     go k a b c false false false true = tt
     go k a b c false false false false = tt

@@ -9,7 +9,7 @@ use Rattle.text.specs.declared.Text.{Text}
 use Rattle.row.specs.Rows.{rows}
 use Rattle.tree.specs.Tree as tree
 use Rattle.tree.specs.Tree.{Ty, Sheet}
-use Rattle.tree.specs.Read.{typeOf}
+use Rattle.tree.specs.Read.{readType}
 use Rattle.tree.specs.Index.{On}
 use Rattle.codegen_types.specs.Out.{Out, ok, _then_}
 use Rattle.codegen_types.specs.TypeString.{typeString}
@@ -18,12 +18,12 @@ use Rattle.codegen_types.specs.Written.{Writes}
 use Rattle.codegen_types.specs.declared.Written.{Written}
 use Rattle.nodes.specs.Index.{ForAll}
 use Rattle.codegen.specs.Setter.{setPointer, setterInput, generateSetter}
-use Rattle.codegen_setter.specs.Parts.{tagLine, setClose}
+use Rattle.setter_code.specs.Parts.{tagLine, setClose}
 
 -- what is made of the type at a position, in every sheet that the index has, is written
 abbrev pub Types : Str → Str → List ℕ → ℕ → (Sheet → Ty → Out Str) → List ℕ → Text → List ℕ → Written → Type 0
 Types root s index at made l t l′ r =
-    ForAll root s index (λ sheet. On (typeOf 16 (rows (drop at s))) (λ ty. Writes (made sheet ty) l t l′ r))
+    ForAll root s index (λ sheet. On (readType 16 (rows (drop at s))) (λ ty. Writes (made sheet ty) l t l′ r))
 
 -- what a setter takes where its type has several SetterInput impls
 abbrev pub inputType : Sheet → Ty → Out Str
@@ -42,6 +42,6 @@ abbrev pub initEnd : ℕ → ℕ → Str → Str
 initEnd tag discriminant line = initStart tag discriminant ++ line ++ ascii "\n}\n"
 
 -- the text of a setter by its styled name
-abbrev pub textOf : Sheet → ℕ → Str → ℕ → tree.Slot → Out Str
-textOf sheet tagOffset styledName discriminant s =
+abbrev pub setterTextOf : Sheet → ℕ → Str → ℕ → tree.Slot → Out Str
+setterTextOf sheet tagOffset styledName discriminant s =
     generateSetter sheet tagOffset styledName discriminant s then λ ft. ok (stringify ft)

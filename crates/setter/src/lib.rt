@@ -7,6 +7,8 @@ use codegen_types::Refusal;
 use codegen_types::Written;
 use field::Slot;
 use names::Snake;
+use terms::kinds;
+use terms::refusals;
 use text::Text;
 ghost use mathlib.Core.Path.{_≡_};
 ghost use mathlib.Core.List.{_++_, List};
@@ -17,11 +19,11 @@ ghost use Rattle.text.specs.Text.{Wrote};
 ghost use Rattle.text.specs.Bytes.{Str, either};
 ghost use Rattle.row.specs.Rows.{restOf, rows};
 ghost use Rattle.tree.specs.Tree as tree;
-ghost use Rattle.tree.specs.Read.{typeOf};
+ghost use Rattle.tree.specs.Read.{readType};
 ghost use Rattle.tree.specs.Index.{On};
 ghost use Rattle.names.specs.Names.{nameOf};
 ghost use Rattle.nodes.specs.Index.{ForAll, sheetOf};
-ghost use Rattle.find.specs.Find.{kindAt};
+ghost use Rattle.types.specs.Find.{kindAt};
 ghost use Rattle.codegen_types.specs.Out.{refusalOf};
 ghost use Rattle.codegen_types.specs.TypeString.{typeString};
 ghost use Rattle.codegen_types.specs.Written.{Writes};
@@ -32,49 +34,49 @@ ghost use Rattle.field.specs.Slot.{SlotIs, SlotField, SlotHere};
 ghost use Rattle.codegen.specs.Given.{Given};
 ghost use Rattle.codegen.specs.Default.{value, primDefault};
 ghost use Rattle.codegen.specs.Setter.{listReaderType, initPointer, newPointer, enumMask, setterRequest};
-ghost use Rattle.setter.specs.Typed.{Types, inputType, setEnd, initStart, initEnd, textOf};
+ghost use Rattle.setter.specs.Typed.{Types, inputType, setEnd, initStart, initEnd, setterTextOf};
 
 // The refusal of the default of a Bool or a number: one that is no primitive.
 fn default_refusal(slot: Slot) -> Refusal
     ensures { λ r. ⌜ r ≡ refusalOf (primDefault (value (slot .default) (slot .bits))) ⌝ }
 {
     if slot.default < 1 {
-        return Refusal::Number(11);
+        return Refusal::Number(refusals::SETTER_DEFAULT);
     }
     if slot.default <= 11 {
         return Refusal::None;
     }
-    Refusal::Number(11)
+    Refusal::Number(refusals::SETTER_DEFAULT)
 }
 
 // The setter of a slot whose type has one row: kinds 0 to 13.
 fn plain_setter(root: &[u8], slot: Slot, name: Snake, tag: u64, t: Text, buf: &mut [u8]) -> Written
     ensures { λ r. ⌜ ((ns : List tree.Node) (sl : tree.Slot) → SlotIs slot sl → slot .kind ≤ 13
-        → Writes (textOf (sheetOf (now (root .entry)) ns) tag (nameOf name) (slot .discriminant) sl)
+        → Writes (setterTextOf (sheetOf (now (root .entry)) ns) tag (nameOf name) (slot .discriminant) sl)
         (now (buf .entry)) t (now (buf .exit)) r) ⌝ }
 {
     let kind = slot.kind;
-    if kind == 0 {
-        return codegen_types::whole(codegen_setter::void(name, slot, tag, t, buf));
+    if kind == kinds::VOID {
+        return codegen_types::whole(setter_code::void(name, slot, tag, t, buf));
     }
-    if kind == 1 {
-        let text = codegen_setter::boolean(name, slot, tag, t, buf);
+    if kind == kinds::BOOL {
+        let text = setter_code::boolean(name, slot, tag, t, buf);
         return Written {
             text,
             refusal: default_refusal(slot),
         };
     }
-    if kind <= 11 {
-        let text = codegen_setter::number(name, slot, tag, t, buf);
+    if kind <= kinds::FLOAT64 {
+        let text = setter_code::number(name, slot, tag, t, buf);
         return Written {
             text,
             refusal: default_refusal(slot),
         };
     }
-    if kind == 12 {
-        return codegen_types::whole(codegen_setter::text(root, name, slot, tag, t, buf));
+    if kind == kinds::TEXT {
+        return codegen_types::whole(setter_code::text(root, name, slot, tag, t, buf));
     }
-    codegen_types::whole(codegen_setter::data(root, name, slot, tag, t, buf))
+    codegen_types::whole(setter_code::data(root, name, slot, tag, t, buf))
 }
 
 // What a setter takes where its type has several SetterInput impls, for the type at a position.
@@ -127,10 +129,10 @@ fn set_end(root: &[u8], slot: Slot, tag: u64, t: Text, buf: &mut [u8]) -> Text
     ensures { λ r. ⌜ Wrote (now (buf .entry)) t (setEnd (now (root .entry)) tag (slot .discriminant) (slot .offset))
         (now (buf .exit)) r ⌝ }
 {
-    let t = codegen_setter::set_close(root, t, buf);
-    let t = codegen_setter::tag_line(tag, slot.discriminant, t, buf);
+    let t = setter_code::set_close(root, t, buf);
+    let t = setter_code::tag_line(tag, slot.discriminant, t, buf);
     let t = t.bytes(buf, b"    ");
-    let t = codegen_setter::set_pointer(root, slot.offset, t, buf);
+    let t = setter_code::set_pointer(root, slot.offset, t, buf);
     t.bytes(buf, b"\n}\n")
 }
 
@@ -139,7 +141,7 @@ fn init_start(slot: Slot, tag: u64, t: Text, buf: &mut [u8]) -> Text
     ensures { λ r. ⌜ Wrote (now (buf .entry)) t (initStart tag (slot .discriminant)) (now (buf .exit)) r ⌝ }
 {
     let opened = t.bytes(buf, b" {\n");
-    let t = codegen_setter::tag_line(tag, slot.discriminant, opened, buf);
+    let t = setter_code::tag_line(tag, slot.discriminant, opened, buf);
     t.bytes(buf, b"    ")
 }
 
@@ -150,7 +152,7 @@ fn init_end(root: &[u8], slot: Slot, tag: u64, size: &[u8], t: Text, buf: &mut [
         (now (buf .exit)) r ⌝ }
 {
     let t = init_start(slot, tag, t, buf);
-    let t = codegen_setter::init_pointer(root, slot.offset, size, t, buf);
+    let t = setter_code::init_pointer(root, slot.offset, size, t, buf);
     t.bytes(buf, b"\n}\n")
 }
 
@@ -161,7 +163,7 @@ fn new_end(root: &[u8], slot: Slot, tag: u64, call: &[u8], t: Text, buf: &mut [u
         (now (buf .exit)) r ⌝ }
 {
     let t = init_start(slot, tag, t, buf);
-    let t = codegen_setter::new_pointer(root, slot.offset, t, buf);
+    let t = setter_code::new_pointer(root, slot.offset, t, buf);
     let t = t.bytes(buf, call);
     t.bytes(buf, b"\n}\n")
 }
@@ -171,23 +173,23 @@ fn element_kind(s: &[u8], at: usize) -> u64
     ensures { λ r. ⌜ r ≡ kindAt (restOf (rows (drop at (now (s .entry))))) ⌝ }
 {
     let g = row::next(s, at);
-    find::kind(s, g.next)
+    types::kind(s, g.next)
 }
 
 // Whether an element of this kind has several SetterInput impls.
 fn several_inputs(kind: u64) -> bool
     ensures { λ r. ⌜ r ≡ either (leb kind 12) (eqb kind 15) ⌝ }
 {
-    if kind <= 12 {
+    if kind <= kinds::TEXT {
         return true;
     }
-    kind == 15
+    kind == kinds::ENUM
 }
 
 // What the setter of a list takes, for the list type at a position.
 fn list_reader(root: &[u8], s: &[u8], index: &[u64], at: usize, t: Text, buf: &mut [u8]) -> Written
     ensures { λ r. ⌜ ForAll (now (root .entry)) (now (s .entry)) (now (index .entry)) (λ sheet.
-        On (typeOf 16 (rows (drop at (now (s .entry))))) (λ ty. (element : tree.Ty) → ty ≡ tree.list element
+        On (readType 16 (rows (drop at (now (s .entry))))) (λ ty. (element : tree.Ty) → ty ≡ tree.list element
         → Writes (listReaderType sheet element ty) (now (buf .entry)) t (now (buf .exit)) r)) ⌝ }
 {
     if several_inputs(element_kind(s, at)) {
@@ -209,15 +211,16 @@ fn list_setter(
 ) -> Written
     ensures { λ r. ⌜ ForAll (now (root .entry)) (now (s .entry)) (now (index .entry)) (λ sheet.
         (f : SlotField) → SlotHere (now (s .entry)) slot f → slot .kind ≡ 14
-        → Writes (textOf sheet tag (nameOf name) (slot .discriminant) (f .slot)) (now (buf .entry)) t (now (buf .exit)) r) ⌝ }
+        → Writes (setterTextOf sheet tag (nameOf name) (slot .discriminant) (f .slot)) (now (buf .entry)) t (now
+        (buf .exit)) r) ⌝ }
 {
-    let t = codegen_setter::set_open(name, t, buf);
+    let t = setter_code::set_open(name, t, buf);
     let Written {
         text: t,
         refusal: reader,
     } = list_reader(root, s, index, slot.typ, t, buf);
     let t = set_end(root, slot, tag, t, buf);
-    let t = codegen_setter::init_open(name, true, t, buf);
+    let t = setter_code::init_open(name, true, t, buf);
     let Written {
         text: t,
         refusal: builder,
@@ -249,7 +252,7 @@ fn enum_refusal(slot: Slot) -> Refusal
     if slot.default == 15 {
         return Refusal::None;
     }
-    Refusal::Number(12)
+    Refusal::Number(refusals::ENUM_DEFAULT)
 }
 
 // An enum's setter.
@@ -264,15 +267,16 @@ fn enum_setter(
 ) -> Written
     ensures { λ r. ⌜ ((root : Str) → ForAll root (now (s .entry)) (now (index .entry)) (λ sheet.
         (f : SlotField) → SlotHere (now (s .entry)) slot f → slot .kind ≡ 15
-        → Writes (textOf sheet tag (nameOf name) (slot .discriminant) (f .slot)) (now (buf .entry)) t (now (buf .exit)) r)) ⌝ }
+        → Writes (setterTextOf sheet tag (nameOf name) (slot .discriminant) (f .slot)) (now (buf .entry)) t (now
+        (buf .exit)) r)) ⌝ }
 {
-    let t = codegen_setter::set_open(name, t, buf);
+    let t = setter_code::set_open(name, t, buf);
     let Written {
         text: t,
         refusal: module,
     } = type_parts::qualified_module(s, index, slot.id, t, buf);
     let t = t.bytes(buf, b")  {\n");
-    let t = codegen_setter::tag_line(tag, slot.discriminant, t, buf);
+    let t = setter_code::tag_line(tag, slot.discriminant, t, buf);
     let t = t.bytes(buf, b"    ");
     let mask = enum_mask(slot);
     let t = calls::set_data_field(t, buf, b"u16", slot.offset, b"value as u16", mask);
@@ -296,15 +300,16 @@ fn struct_setter(
 ) -> Written
     ensures { λ r. ⌜ ForAll (now (root .entry)) (now (s .entry)) (now (index .entry)) (λ sheet.
         (f : SlotField) → SlotHere (now (s .entry)) slot f → slot .kind ≡ 16
-        → Writes (textOf sheet tag (nameOf name) (slot .discriminant) (f .slot)) (now (buf .entry)) t (now (buf .exit)) r) ⌝ }
+        → Writes (setterTextOf sheet tag (nameOf name) (slot .discriminant) (f .slot)) (now (buf .entry)) t (now
+        (buf .exit)) r) ⌝ }
 {
-    let t = codegen_setter::set_open(name, t, buf);
+    let t = setter_code::set_open(name, t, buf);
     let Written {
         text: t,
         refusal: reader,
     } = reader_type(root, s, index, slot.typ, t, buf);
     let t = set_end(root, slot, tag, t, buf);
-    let t = codegen_setter::init_open(name, false, t, buf);
+    let t = setter_code::init_open(name, false, t, buf);
     let Written {
         text: t,
         refusal: builder,
@@ -329,9 +334,10 @@ fn interface_setter(
 ) -> Written
     ensures { λ r. ⌜ ForAll (now (root .entry)) (now (s .entry)) (now (index .entry)) (λ sheet.
         (f : SlotField) → SlotHere (now (s .entry)) slot f → slot .kind ≡ 17
-        → Writes (textOf sheet tag (nameOf name) (slot .discriminant) (f .slot)) (now (buf .entry)) t (now (buf .exit)) r) ⌝ }
+        → Writes (setterTextOf sheet tag (nameOf name) (slot .discriminant) (f .slot)) (now (buf .entry)) t (now
+        (buf .exit)) r) ⌝ }
 {
-    let t = codegen_setter::set_open(name, t, buf);
+    let t = setter_code::set_open(name, t, buf);
     let Written { text: t, refusal } = type_string::type_string(
         root,
         s,
@@ -342,7 +348,7 @@ fn interface_setter(
         buf,
     );
     let t = t.bytes(buf, b")  {\n");
-    let t = codegen_setter::tag_line(tag, slot.discriminant, t, buf);
+    let t = setter_code::tag_line(tag, slot.discriminant, t, buf);
     let t = t.bytes(buf, b"    self.builder.reborrow().get_pointer_field(");
     let t = t.number(buf, slot.offset);
     let text = t.bytes(buf, b").set_capability(value.client.hook);\n}\n");
@@ -362,21 +368,22 @@ fn parameter_setter(
 ) -> Written
     ensures { λ r. ⌜ ForAll (now (root .entry)) (now (s .entry)) (now (index .entry)) (λ sheet.
         (f : SlotField) → SlotHere (now (s .entry)) slot f → slot .kind ≡ 18 → (slot .id ≡ 0 → ⊥)
-        → Writes (textOf sheet tag (nameOf name) (slot .discriminant) (f .slot)) (now (buf .entry)) t (now (buf .exit)) r) ⌝ }
+        → Writes (setterTextOf sheet tag (nameOf name) (slot .discriminant) (f .slot)) (now (buf .entry)) t (now
+        (buf .exit)) r) ⌝ }
 {
-    let t = codegen_setter::initn_open(name, t, buf);
+    let t = setter_code::initn_open(name, t, buf);
     let Written {
         text: t,
         refusal: builder,
     } = init_type(root, s, index, slot.typ, t, buf);
     let t = new_end(root, slot, tag, b".initn_as(length)", t, buf);
-    let t = codegen_setter::set_open(name, t, buf);
+    let t = setter_code::set_open(name, t, buf);
     let Written {
         text: t,
         refusal: owned,
     } = setter_input(root, s, index, slot.typ, t, buf);
     let t = set_end(root, slot, tag, t, buf);
-    let t = codegen_setter::init_open(name, false, t, buf);
+    let t = setter_code::init_open(name, false, t, buf);
     let again = init_type(root, s, index, slot.typ, t, buf);
     let text = new_end(root, slot, tag, b".init_as()", again.text, buf);
     Written {
@@ -398,26 +405,27 @@ fn setter_of(
 ) -> Written
     ensures { λ r. ⌜ ForAll (now (root .entry)) (now (s .entry)) (now (index .entry)) (λ sheet.
         (f : SlotField) → SlotHere (now (s .entry)) slot f
-        → Writes (textOf sheet tag (nameOf name) (slot .discriminant) (f .slot)) (now (buf .entry)) t (now (buf .exit)) r) ⌝ }
+        → Writes (setterTextOf sheet tag (nameOf name) (slot .discriminant) (f .slot)) (now (buf .entry)) t (now
+        (buf .exit)) r) ⌝ }
 {
     let kind = slot.kind;
-    if kind <= 13 {
+    if kind <= kinds::DATA {
         return plain_setter(root, slot, name, tag, t, buf);
     }
-    if kind == 14 {
+    if kind == kinds::LIST {
         return list_setter(root, s, index, slot, name, tag, t, buf);
     }
-    if kind == 15 {
+    if kind == kinds::ENUM {
         return enum_setter(s, index, slot, name, tag, t, buf);
     }
-    if kind == 16 {
+    if kind == kinds::STRUCT {
         return struct_setter(root, s, index, slot, name, tag, t, buf);
     }
-    if kind == 17 {
+    if kind == kinds::INTERFACE {
         return interface_setter(root, s, index, slot, name, tag, t, buf);
     }
     if slot.id == 0 {
-        return codegen_types::whole(codegen_setter::any_pointer(root, name, slot, tag, t, buf));
+        return codegen_types::whole(setter_code::any_pointer(root, name, slot, tag, t, buf));
     }
     parameter_setter(root, s, index, slot, name, tag, t, buf)
 }

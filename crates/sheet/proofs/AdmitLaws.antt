@@ -14,7 +14,7 @@ use Rattle.row.specs.Line.{lineAt, textAt}
 use Rattle.row.specs.declared.Line.{Line}
 use Rattle.tree.specs.Tree.{Node, Sheet}
 use Rattle.tree.specs.Reader.{Rows, Reading, got, no, Reader, _then_}
-use Rattle.tree.specs.Read.{nodesOf, sheetOf, Admitted, numbered, admitted}
+use Rattle.tree.specs.Read.{readNodes, readSheet, Admitted, numbered, admitted}
 use Rattle.tree.specs.Walked.{passed}
 use Rattle.tree.specs.Index.{On}
 use Rattle.tree.specs.declared.Walk.{Walk}
@@ -36,28 +36,28 @@ too-long s room y h = rw (admitted, lt-ltb 65536 (length s) h) (refl, λ big. tt
 
 -- a sheet that is not too long, and its first row's line
 module _ (s : Str) (short : length s ≤ 65536) (l : Line) (here : l ≡ lineAt (rows s)) (room : ℕ) (y : List ℕ) where
-  fits : admitted s ≡ numbered s (sheetOf (rows s))
+  fits : admitted s ≡ numbered s (readSheet (rows s))
   unfolding admitted
   fits = rw (admitted, le-ltb 65536 (length s) short)
 
   pub no-root :
       (n : ℕ) → OneOf (1 ∷ 2 ∷ 3 ∷ 4 ∷ 5 ∷ 6 ∷ 7 ∷ 8 ∷ 9 ∷ 10 ∷ []) (tagOf the-type l) → n ≡ lineNo s (rows s)
       → Says s (admitted s) (answer.Refused 2 n) room y
-  unfolding sheetOf
+  unfolding readSheet
   no-root n o e = rw (fits, ← here, not-root {A = Reader _} l _ _ o, ← e) (refl, λ big. tt)
 
   module _ (is : l ≡ line.Root) (rest : Rows) (after : rest ≡ restOf (rows s)) (w : Walk)
-      (read : NodesRead s w y (nodesOf 64 [] [] rest)) (kept : length y ≡ room) where
+      (read : NodesRead s w y (readNodes 64 [] [] rest)) (kept : length y ≡ room) where
     made : List Node → Sheet
     made ns = record { root = textAt (rows s); nodes = ns }
 
-    nodes-read : admitted s ≡ numbered s (nodesOf 64 [] [] rest then λ ns. got (made ns))
-    unfolding sheetOf made
+    nodes-read : admitted s ≡ numbered s (readNodes 64 [] [] rest then λ ns. got (made ns))
+    unfolding readSheet made
     nodes-read = fits ∙ rw (← here, is, ← after)
 
     pub whole-sheet : (q : ℕ) → w ≡ Next q → Says s (admitted s) answer.Sheet room y
     unfolding made
-    whole-sheet q e = rw nodes-read (go (nodesOf 64 [] [] rest) (rw e at (read .walk)) (read .index))
+    whole-sheet q e = rw nodes-read (go (readNodes 64 [] [] rest) (rw e at (read .walk)) (read .index))
       where
         go : (g : Reading (List Node)) → got tt (rows (drop q s)) ≡ passed g
             → (indexSize (length s) ≤ length y → On g (λ ns. Indexed s ns y))
@@ -67,7 +67,7 @@ module _ (s : Str) (short : length s ≤ 65536) (l : Line) (here : l ≡ lineAt 
 
     pub bad-line :
         (k q n : ℕ) → w ≡ Refused k q → n ≡ lineNo s (rows (drop q s)) → Says s (admitted s) (answer.Refused k n) room y
-    bad-line k q n e f = rw nodes-read (go (nodesOf 64 [] [] rest) (rw e at (read .walk)))
+    bad-line k q n e f = rw nodes-read (go (readNodes 64 [] [] rest) (rw e at (read .walk)))
       where
         go : (g : Reading (List Node)) → no k (rows (drop q s)) ≡ passed g
             → Says s (numbered s (g then λ ns. got (made ns))) (answer.Refused k n) room y

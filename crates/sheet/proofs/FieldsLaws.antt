@@ -17,7 +17,7 @@ use Rattle.row.specs.Line.{lineAt, textAt}
 use Rattle.row.specs.declared.Line.{Line}
 use Rattle.tree.specs.Tree.{Slot, Field, slot, group}
 use Rattle.tree.specs.Reader.{Rows, Reading, got, no, Reader, _then_}
-use Rattle.tree.specs.Read.{among, overlap, slotOf, field, fieldOf, isField, groupId, groupIds, fieldsOf, paramsOf}
+use Rattle.tree.specs.Read.{among, overlap, readSlot, field, readField, isField, groupId, groupIds, readFields, readParams}
 use Rattle.tree.specs.Walked.{passed}
 use Rattle.tree.proofs.OtherLines.{never, not-a-field, not-parameter}
 use Rattle.tree.proofs.WalkLaws.{passed-map}
@@ -69,12 +69,12 @@ pushed l n i h = rw add-one (take-suc-set l n i h)
 
 -- a field that is read, and the groups after it
 groups-on :
-    (seen : List ℕ) (rs ts : Rows) (f : Field) → isField (lineAt rs) ≡ true → fieldOf rs ≡ got f ts
+    (seen : List ℕ) (rs ts : Rows) (f : Field) → isField (lineAt rs) ≡ true → readField rs ≡ got f ts
     → overlap (groupId (f .arm)) seen ≡ false → groupsAfter seen rs ≡ groupsAfter (seen ++ groupId (f .arm)) ts
 unfolding groupIds
 groups-on seen rs ts f i e o =
     ap (λ (g : Reading (List Field)). g then λ fs. got (seen ++ groupIds fs)) (fields-here seen rs)
-    ∙ rw (i, e, o) (go (fieldsOf (seen ++ groupId (f .arm)) ts))
+    ∙ rw (i, e, o) (go (readFields (seen ++ groupId (f .arm)) ts))
   where
     go : (g : Reading (List Field))
         → ((g then λ fs. got (f ∷ fs)) then λ fs. got (seen ++ groupIds fs))
@@ -84,7 +84,7 @@ groups-on seen rs ts f i e o =
 
 -- a field that is refused
 groups-no :
-    (seen : List ℕ) (rs ts : Rows) (k : ℕ) → isField (lineAt rs) ≡ true → fieldOf rs ≡ no k ts → groupsAfter seen rs ≡ no k ts
+    (seen : List ℕ) (rs ts : Rows) (k : ℕ) → isField (lineAt rs) ≡ true → readField rs ≡ no k ts → groupsAfter seen rs ≡ no k ts
 groups-no seen rs ts k i e =
     ap (λ (g : Reading (List Field)). g then λ fs. got (seen ++ groupIds fs)) (fields-here seen rs) ∙ rw (i, e)
 
@@ -99,20 +99,20 @@ module _ (rs rest : Rows) (l : Line) (here : l ≡ lineAt rs) (after : rest ≡ 
   pub params-less : l ≡ line.Parameter → length rest < length rs
   params-less i = rw after (shorter rs (λ e. cc))
 
-  pub params-on : l ≡ line.Parameter → passed (paramsOf rs) ≡ passed (paramsOf rest)
-  unfolding paramsOf lineAt restOf
+  pub params-on : l ≡ line.Parameter → passed (readParams rs) ≡ passed (readParams rest)
+  unfolding readParams lineAt restOf
   params-on i = rw after (go rs (sym here ∙ i))
     where
-      go : (rs : Rows) → lineAt rs ≡ line.Parameter → passed (paramsOf rs) ≡ passed (paramsOf (restOf rs))
+      go : (rs : Rows) → lineAt rs ≡ line.Parameter → passed (readParams rs) ≡ passed (readParams (restOf rs))
       go [] e = never cc
-      go (r ∷ rs) e = rw e (passed-map _ (paramsOf rs))
+      go (r ∷ rs) e = rw e (passed-map _ (readParams rs))
 
   pub params-stop :
-      OneOf (0 ∷ 1 ∷ 3 ∷ 4 ∷ 5 ∷ 6 ∷ 7 ∷ 8 ∷ 9 ∷ 10 ∷ []) (tagOf the-type l) → got tt rs ≡ passed (paramsOf rs)
-  unfolding paramsOf lineAt
+      OneOf (0 ∷ 1 ∷ 3 ∷ 4 ∷ 5 ∷ 6 ∷ 7 ∷ 8 ∷ 9 ∷ 10 ∷ []) (tagOf the-type l) → got tt rs ≡ passed (readParams rs)
+  unfolding readParams lineAt
   params-stop o = go rs here
     where
-      go : (rs : Rows) → l ≡ lineAt rs → got tt rs ≡ passed (paramsOf rs)
+      go : (rs : Rows) → l ≡ lineAt rs → got tt rs ≡ passed (readParams rs)
       go [] e = refl
       go (r ∷ rs) e = rw (← e, not-parameter {A = Reader _} l _ _ o)
 
@@ -124,16 +124,16 @@ module _ (rs rest : Rows) (l : Line) (here : l ≡ lineAt rs) (after : rest ≡ 
       ∙ rw (← here, not-a-field l o, append-nil seen))
 
   module _ (o d e p : ℕ) (is : l ≡ line.Field o d e p) where
-    field-here : fieldOf rs ≡ (slotOf o e p rest then λ sl. got (field (textAt rs) d (slot sl)))
-    unfolding fieldOf
+    field-here : readField rs ≡ (readSlot o e p rest then λ sl. got (field (textAt rs) d (slot sl)))
+    unfolding readField
     field-here = rw (← here, is, ← after)
 
     pub groups-slot :
-        (seen : List ℕ) (q : Rows) → got tt q ≡ passed (slotOf o e p rest) → groupsAfter seen rs ≡ groupsAfter seen q
+        (seen : List ℕ) (q : Rows) → got tt q ≡ passed (readSlot o e p rest) → groupsAfter seen rs ≡ groupsAfter seen q
     unfolding overlap
-    groups-slot seen q h = go (slotOf o e p rest) refl h
+    groups-slot seen q h = go (readSlot o e p rest) refl h
       where
-        go : (g : Reading Slot) → slotOf o e p rest ≡ g → got tt q ≡ passed g → groupsAfter seen rs ≡ groupsAfter seen q
+        go : (g : Reading Slot) → readSlot o e p rest ≡ g → got tt q ≡ passed g → groupsAfter seen rs ≡ groupsAfter seen q
         go (got sl ts) i h =
             let z : ts ≡ q = cc in
             groups-on seen rs ts (field (textAt rs) d (slot sl)) (rw (← here, is)) (field-here ∙ rw i) refl
@@ -141,30 +141,30 @@ module _ (rs rest : Rows) (l : Line) (here : l ≡ lineAt rs) (after : rest ≡ 
         go (no k ts) i h = never cc
 
     pub groups-slot-no :
-        (seen : List ℕ) (k : ℕ) (q : Rows) → no k q ≡ passed (slotOf o e p rest) → no k q ≡ groupsAfter seen rs
-    groups-slot-no seen k q h = go (slotOf o e p rest) refl h
+        (seen : List ℕ) (k : ℕ) (q : Rows) → no k q ≡ passed (readSlot o e p rest) → no k q ≡ groupsAfter seen rs
+    groups-slot-no seen k q h = go (readSlot o e p rest) refl h
       where
-        go : (g : Reading Slot) → slotOf o e p rest ≡ g → no k q ≡ passed g → no k q ≡ groupsAfter seen rs
+        go : (g : Reading Slot) → readSlot o e p rest ≡ g → no k q ≡ passed g → no k q ≡ groupsAfter seen rs
         go (got sl ts) i h = never cc
         go (no j ts) i h =
             let a : k ≡ j = cc in
             let b : q ≡ ts = cc in
             rw (a, b) (sym (groups-no seen rs ts j (rw (← here, is)) (field-here ∙ rw i)))
 
-    pub slot-tail : (q : Rows) → got tt q ≡ passed (slotOf o e p rest) → Tail q rest
+    pub slot-tail : (q : Rows) → got tt q ≡ passed (readSlot o e p rest) → Tail q rest
     slot-tail q h = leaves-passed (leaves-slot o e p rest) q h
 
-    pub slot-less : (q : Rows) → got tt q ≡ passed (slotOf o e p rest) → length q < length rs
+    pub slot-less : (q : Rows) → got tt q ≡ passed (readSlot o e p rest) → length q < length rs
     slot-less q h =
         let z : length rest < length rs = rw after (shorter rs (λ e. cc)) in omega (arith, tail-length (slot-tail q h))
 
-    pub slot-room : (q : Rows) → got tt q ≡ passed (slotOf o e p rest) → size q ≤ size rs
+    pub slot-room : (q : Rows) → got tt q ≡ passed (readSlot o e p rest) → size q ≤ size rs
     slot-room q h = let z : size rest ≤ size rs = rw after (tail-size (tail-rest rs)) in omega
         (arith, tail-size (slot-tail q h))
 
   module _ (i d : ℕ) (is : l ≡ line.Group i d) where
-    group-here : fieldOf rs ≡ got (field (textAt rs) d (group i)) rest
-    unfolding fieldOf
+    group-here : readField rs ≡ got (field (textAt rs) d (group i)) rest
+    unfolding readField
     group-here = rw (← here, is, ← here, is, ← after)
 
     pub groups-double : (seen : List ℕ) (b : Bool) → b ≡ among i seen → b ≡ true → no 3 rs ≡ groupsAfter seen rs

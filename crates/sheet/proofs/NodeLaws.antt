@@ -14,7 +14,7 @@ use Rattle.row.specs.Line.{lineAt, textAt}
 use Rattle.row.specs.declared.Line.{Line}
 use Rattle.tree.specs.Tree.{Field, Node}
 use Rattle.tree.specs.Reader.{Rows, Reading, got, no, Reader, _then_}
-use Rattle.tree.specs.Read.{among, fieldsOf, groupIds, paramsOf, membersOf, nodeOf}
+use Rattle.tree.specs.Read.{among, readFields, groupIds, readParams, readMembers, readNode}
 use Rattle.tree.specs.Fields.{FieldsHere}
 use Rattle.tree.specs.Walked.{passed}
 use Rattle.tree.specs.Index.{On}
@@ -26,7 +26,8 @@ use Rattle.nodes.specs.Index.{entryAt, withEntry, namesOf, firstMark, indexSize
 use Rattle.nodes.specs.declared.Entry.{Entry}
 use Rattle.nodes.proofs.NameLaws.{params-names}
 use Rattle.nodes.proofs.PutLaws.{entry-put, length-put, before-put, after-put}
-use Rattle.sheet.specs.Admission.{told, groupsAfter, Room, Flagged, leftAfter, Same, ParamsRead, Placed, nodeWith}
+use Rattle.sheet.specs.Admission.{walkedWith, groupsAfter, Room, Flagged, leftAfter, SameBetween, ParamsRead, Placed}
+use Rattle.sheet.specs.Admission.{nodeWith}
 use Rattle.sheet.specs.Admission.{NodeRoom, membersHere, Ready, Begun, refusedRun, seenAfter, NodeRead}
 use Rattle.sheet.specs.declared.ParamsRun.{ParamsRun}
 use Rattle.sheet.specs.declared.Held.{Held}
@@ -57,13 +58,13 @@ node-refused s at groups flags x held seen k g r e = record {
 
 -- the first row's line l
 module _ (rs : Rows) (l : Line) (here : l ≡ lineAt rs) (ids seen : List ℕ) where
-  pub node-other : OneOf (0 ∷ 2 ∷ 3 ∷ 4 ∷ 5 ∷ 6 ∷ 7 ∷ 8 ∷ 9 ∷ 10 ∷ []) (tagOf the-type l) → nodeOf ids seen rs ≡ no 2 rs
-  unfolding nodeOf
+  pub node-other : OneOf (0 ∷ 2 ∷ 3 ∷ 4 ∷ 5 ∷ 6 ∷ 7 ∷ 8 ∷ 9 ∷ 10 ∷ []) (tagOf the-type l) → readNode ids seen rs ≡ no 2 rs
+  unfolding readNode
   node-other o = rw (← here, not-node {A = Reader _} l _ _ o)
 
   module _ (i p sc st g tc to : ℕ) (is : l ≡ line.Node i p sc st g tc to) (b : Bool) (e : b ≡ among i ids) where
-    pub node-double : b ≡ true → nodeOf ids seen rs ≡ no 3 rs
-    unfolding nodeOf
+    pub node-double : b ≡ true → readNode ids seen rs ≡ no 3 rs
+    unfolding readNode
     node-double t = rw (← here, is, ← e, t)
 
 -- what is left after a row is less
@@ -112,11 +113,11 @@ module _ (s : Str) (at e : ℕ) (l : Line) (here : l ≡ lineAt (rows (drop at s
   pub node-whole :
       (ids seen x y groups flags : List ℕ) (r : NodeRun) (b : Bool) → b ≡ among i ids → b ≡ false
       → NodeRead s held seen x (membersHere s entry seen) groups flags y r
-      → NodeRead s held seen x (nodeOf ids seen (rows (drop at s))) groups flags y r
-  unfolding nodeOf
+      → NodeRead s held seen x (readNode ids seen (rows (drop at s))) groups flags y r
+  unfolding readNode
   node-whole ids seen x y groups flags r b e f h = rw same h
     where
-      same : nodeOf ids seen (rows (drop at s)) ≡ membersHere s entry seen
+      same : readNode ids seen (rows (drop at s)) ≡ membersHere s entry seen
       same = rw (← here, is, ← e, f, after)
 
 -- ---- what belongs to an N row
@@ -125,16 +126,17 @@ abbrev paired : ℕ → List ℕ → ℕ × List ℕ
 paired i x = (i, x)
 
 told-map :
-    {A B : Type 0} (f : A → B) (s : Str) (w : Walk) (x : A) (g : Reading A) → told s w x ≡ g → told s w (f x) ≡
+    {A B : Type 0} (f : A → B) (s : Str) (w : Walk) (x : A) (g : Reading A) → walkedWith s w x ≡ g → walkedWith s w (f x) ≡
     (g then λ a. got (f a))
 told-map f s (Next at) x g e = rw (← e)
 told-map f s (Refused k at) x g e = rw (← e)
 
 -- the bytes that are left after the fields
 fields-left :
-    (s : Str) (w : Walk) (a : List ℕ) (seen : List ℕ) (ts : Rows) → told s w a ≡ groupsAfter seen ts → leftAfter s w ≤ size ts
+    (s : Str) (w : Walk) (a : List ℕ) (seen : List ℕ) (ts : Rows) → walkedWith s w a ≡ groupsAfter seen ts
+    → leftAfter s w ≤ size ts
 fields-left s (Refused k at) a seen ts e = omega arith
-fields-left s (Next at) a seen ts e = go (fieldsOf seen ts) (fields-stand seen ts) e
+fields-left s (Next at) a seen ts e = go (readFields seen ts) (fields-stand seen ts) e
   where
     go : (g : Reading (List Field)) → Stand ts g → got a (rows (drop at s)) ≡ (g then λ fs. got (seen ++ groupIds fs))
         → size (rows (drop at s)) ≤ size ts
@@ -167,25 +169,25 @@ module _ (s : Str) (held : Held) (seen x y : List ℕ) (n : Entry) (p : ParamsRu
   -- whatever is read, its parameters are the names of the P rows, and its fields stand after them
   members-by :
       (P : Reading Node → Type 0)
-      → ((ps : List Str) → ps ≡ namesOf (rows (drop (n .params) s)) → (g : Reading (List Field)) → fieldsOf seen ts ≡ g
+      → ((ps : List Str) → ps ≡ namesOf (rows (drop (n .params) s)) → (g : Reading (List Field)) → readFields seen ts ≡ g
       → Stand ts g → P (g then λ fs. got (nodeWith n (textAt (rows (drop (n .at) s))) ps fs)))
       → P (membersHere s n seen)
-  unfolding membersOf
-  members-by P h = go (paramsOf (rows (drop (n .params) s))) (params .walk) (params-names (rows (drop (n .params) s)))
+  unfolding readMembers
+  members-by P h = go (readParams (rows (drop (n .params) s))) (params .walk) (params-names (rows (drop (n .params) s)))
     where
       go : (g : Reading (List Str)) → got tt (rows (drop (p .at) s)) ≡ passed g
           → On g (λ ps. ps ≡ namesOf (rows (drop (n .params) s)))
-          → P (g then λ ps us. fieldsOf seen us then λ fs. got (nodeWith n (textAt (rows (drop (n .at) s))) ps fs))
+          → P (g then λ ps us. readFields seen us then λ fs. got (nodeWith n (textAt (rows (drop (n .at) s))) ps fs))
       go (got ps us) e d =
           let z : us ≡ rows (drop (p .at) s) = cc in
-          rw z (h ps d (fieldsOf seen (rows (drop (p .at) s))) refl (fields-stand seen (rows (drop (p .at) s))))
+          rw z (h ps d (readFields seen (rows (drop (p .at) s))) refl (fields-stand seen (rows (drop (p .at) s))))
       go (no k us) e d = never cc
 
   members-read :
-      (w : Walk) (a : List ℕ) → told s w a ≡ groupsAfter seen (rows (drop (p .at) s))
-      → told s w (n .id, a) ≡ (membersHere s n seen then λ m. got (seenAfter seen m))
+      (w : Walk) (a : List ℕ) → walkedWith s w a ≡ groupsAfter seen (rows (drop (p .at) s))
+      → walkedWith s w (n .id, a) ≡ (membersHere s n seen then λ m. got (seenAfter seen m))
   members-read w a t =
-      members-by (λ g. told s w (n .id, a) ≡ (g then λ m. got (seenAfter seen m)))
+      members-by (λ g. walkedWith s w (n .id, a) ≡ (g then λ m. got (seenAfter seen m)))
       (λ ps d g e st. told-map (paired (n .id)) s w a (g then λ fs. got (seen ++ groupIds fs)) (t ∙ rw e) ∙ fused ps g)
     where
       fused : (ps : List Str) (g : Reading (List Field))
@@ -204,7 +206,7 @@ module _ (s : Str) (held : Held) (seen x y : List ℕ) (n : Entry) (p : ParamsRu
     before-marks : 1 + 12 * held .nodes + 12 ≤ firstMark (length s)
     before-marks = omega (arith, begun .room)
 
-    after-entry : (to : ℕ) → Same y z (firstMark (length s)) to
+    after-entry : (to : ℕ) → SameBetween y z (firstMark (length s)) to
     after-entry to = record {
       each = λ q a b. rw put (after-put y (1 + 12 * held .nodes) whole q (omega (arith, before-marks)));
     }
@@ -251,7 +253,7 @@ module _ (s : Str) (held : Held) (seen x y : List ℕ) (n : Entry) (p : ParamsRu
         by-fields ps d (no k us) fields.not = tt
 
     pub members-whole :
-        (w : Walk) (groups flags : List ℕ) (m : ℕ) → told s w (take m groups) ≡ groupsAfter seen (rows (drop (p .at) s))
+        (w : Walk) (groups flags : List ℕ) (m : ℕ) → walkedWith s w (take m groups) ≡ groupsAfter seen (rows (drop (p .at) s))
         → Room groups m (leftAfter s w) → Flagged flags (take m groups)
         → NodeRead s held seen x (membersHere s n seen) groups flags z
         (record { walk = w; id = n .id; groups = m; marks = p .marks })

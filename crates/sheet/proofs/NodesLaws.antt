@@ -11,7 +11,7 @@ use Rattle.row.specs.Rows.{rows, size}
 use Rattle.row.proofs.Laws.{rows-out, rows-shrink}
 use Rattle.tree.specs.Tree.{Node}
 use Rattle.tree.specs.Reader.{Rows, Reading, got, no, _then_, mapR, atEnd}
-use Rattle.tree.specs.Read.{groupIds, nodeOf, nodesOf}
+use Rattle.tree.specs.Read.{groupIds, readNode, readNodes}
 use Rattle.tree.specs.declared.Walk.the-variants.{Next, Refused}
 use Rattle.tree.proofs.OtherLines.{never}
 use Rattle.nodes.specs.Index.{firstMark, indexSize}
@@ -25,10 +25,10 @@ use Rattle.sheet.proofs.PlacedLaws.{Filled, filled-same, filled-more, f
 
 nodes-more :
     (more : ℕ) (ids seen : List ℕ) (rs : Rows) → 0 < more
-    → nodesOf more ids seen rs
-    ≡ (nodeOf ids seen rs then λ n.
-    atEnd (got (n ∷ [])) (mapR (n ∷_) (nodesOf (more - 1) (ids ++ unit (n .id)) (seen ++ groupIds (n .fields)))))
-unfolding nodesOf
+    → readNodes more ids seen rs
+    ≡ (readNode ids seen rs then λ n.
+    atEnd (got (n ∷ [])) (mapR (n ∷_) (readNodes (more - 1) (ids ++ unit (n .id)) (seen ++ groupIds (n .fields)))))
+unfolding readNodes
 nodes-more zero ids seen rs h = let z : ⊥ = omega arith in absurd z
 nodes-more (suc m) ids seen rs h = rw (sub-one (suc m))
 
@@ -50,7 +50,7 @@ taken i seen a (no k us) ts e = never cc
 
 -- the reading of all nodes from a position on
 abbrev whole : Str → ℕ → Reading (List Node)
-whole s from = nodesOf 64 [] [] (rows (drop from s))
+whole s from = readNodes 64 [] [] (rows (drop from s))
 
 -- some nodes in front of those that are read
 abbrev after : List Node → Reading (List Node) → Reading (List Node)
@@ -77,7 +77,7 @@ pub record Standing (s : Str) (from : ℕ) (index ids groups flags : List ℕ) (
   pub node-room : NodeRoom (length s) count (size (rows (drop at s)))
   pub done : List Node
   pub done-count : length done ≡ count
-  pub same : whole s from ≡ after done (nodesOf (64 - count) (take count ids) (take n groups) (rows (drop at s)))
+  pub same : whole s from ≡ after done (readNodes (64 - count) (take count ids) (take n groups) (rows (drop at s)))
   pub filled : indexSize (length s) ≤ length index → Filled s index marks 1 done
 
 pub standing-first :
@@ -113,7 +113,7 @@ module _ (s : Str) (from : ℕ) (index ids groups flags : List ℕ) (n count mar
 
   -- no node more
   pub standing-full : (y : List ℕ) → 64 ≤ count → NodesRead s (Refused 2 at) y (whole s from)
-  unfolding nodesOf
+  unfolding readNodes
   standing-full y l =
       let z : 64 - count ≡ 0 = omega arith in
       nodes-no s 2 at y (whole s from) (h .same ∙ rw z)
@@ -132,19 +132,20 @@ module _ (s : Str) (from : ℕ) (index ids groups flags : List ℕ) (n count mar
 
     -- a node is walked over
     module _ (y groups′ flags′ : List ℕ) (r : NodeRun)
-        (read : NodeRead s held (take n groups) index (nodeOf (take count ids) (take n groups) (rows (drop at s))) groups′ flags′
+        (read : NodeRead s held (take n groups) index (readNode (take count ids) (take n groups) (rows
+        (drop at s))) groups′ flags′
         y r)
       where
         pub standing-no : (k q : ℕ) → r .walk ≡ Refused k q → (z : List ℕ) → NodesRead s (Refused k q) z (whole s from)
         standing-no k q e z =
             nodes-no s k q z (whole s from)
             (h .same ∙ rw (nodes-more (64 - count) (take count ids) (take n groups) (rows (drop at s)) (omega arith))
-            (go (nodeOf (take count ids) (take n groups) (rows (drop at s))) (rw e at (read .read))))
+            (go (readNode (take count ids) (take n groups) (rows (drop at s))) (rw e at (read .read))))
           where
             go : (g : Reading Node) → no k (rows (drop q s)) ≡ (g then λ m. got (seenAfter (take n groups) m))
                 → after (h .done) (g then λ m.
                 atEnd (got (m ∷ [])) (mapR (m ∷_)
-                (nodesOf (64 - count - 1) (take count ids ++ unit (m .id)) (take n groups ++ groupIds (m .fields)))))
+                (readNodes (64 - count - 1) (take count ids ++ unit (m .id)) (take n groups ++ groupIds (m .fields)))))
                 ≡ no k (rows (drop q s))
             go (got m us) e = never cc
             go (no j us) e = let a : j ≡ k = cc in let b : us ≡ rows (drop q s) = cc in rw (a, b)
@@ -152,9 +153,9 @@ module _ (s : Str) (from : ℕ) (index ids groups flags : List ℕ) (n count mar
         -- it is the next node
         module _ (q : ℕ) (e : r .walk ≡ Next q) (kept : length y ≡ length index) where
           it : Taken (r .id) (take n groups) (take (r .groups) groups′)
-              (nodeOf (take count ids) (take n groups) (rows (drop at s))) (rows (drop q s))
+              (readNode (take count ids) (take n groups) (rows (drop at s))) (rows (drop q s))
           it = taken (r .id) (take n groups) (take (r .groups) groups′)
-              (nodeOf (take count ids) (take n groups) (rows (drop at s))) (rows (drop q s)) (rw e at (read .read))
+              (readNode (take count ids) (take n groups) (rows (drop at s))) (rows (drop q s)) (rw e at (read .read))
 
           abbrev now-done : List Node
           now-done = h .done ++ it .node ∷ []
@@ -164,7 +165,7 @@ module _ (s : Str) (from : ℕ) (index ids groups flags : List ℕ) (n count mar
 
           turn :
               whole s from ≡ after (h .done) (atEnd (got (it .node ∷ []))
-              (mapR (it .node ∷_) (nodesOf (64 - count - 1) (take count ids ++ unit (r .id)) (take (r .groups) groups′)))
+              (mapR (it .node ∷_) (readNodes (64 - count - 1) (take count ids ++ unit (r .id)) (take (r .groups) groups′)))
               (rows (drop q s)))
           turn =
               h .same ∙ rw (
@@ -195,7 +196,8 @@ module _ (s : Str) (from : ℕ) (index ids groups flags : List ℕ) (n count mar
             where
               last : (us : Rows) → us ≡ []
                   → after (h .done) (atEnd (got (it .node ∷ []))
-                  (mapR (it .node ∷_) (nodesOf (64 - count - 1) (take count ids ++ unit (r .id)) (take (r .groups) groups′))) us)
+                  (mapR (it .node ∷_) (readNodes (64 - count - 1) (take count ids ++ unit (r .id)) (take
+                  (r .groups) groups′))) us)
                   ≡ got now-done us
               last [] z = refl
               last (u ∷ us) z = never cc
@@ -224,11 +226,12 @@ module _ (s : Str) (from : ℕ) (index ids groups flags : List ℕ) (n count mar
 
               on : (us : Rows) → 0 < length us
                   → after (h .done) (atEnd (got (it .node ∷ []))
-                  (mapR (it .node ∷_) (nodesOf (64 - count - 1) (take count ids ++ unit (r .id)) (take (r .groups) groups′))) us)
-                  ≡ after now-done (nodesOf (64 - (count + 1)) (take (count + 1) (set ids count (r .id)))
+                  (mapR (it .node ∷_) (readNodes (64 - count - 1) (take count ids ++ unit (r .id)) (take
+                  (r .groups) groups′))) us)
+                  ≡ after now-done (readNodes (64 - (count + 1)) (take (count + 1) (set ids count (r .id)))
                   (take (r .groups) groups′) us)
               on [] z = let v : ⊥ = omega arith in absurd v
               on (u ∷ us) z =
                   let m : 64 - (count + 1) ≡ 64 - count - 1 = omega arith in
                   rw (m, ids-after) (after-one (h .done) (it .node)
-                  (nodesOf (64 - count - 1) (take count ids ++ unit (r .id)) (take (r .groups) groups′) (u ∷ us)))
+                  (readNodes (64 - count - 1) (take count ids ++ unit (r .id)) (take (r .groups) groups′) (u ∷ us)))

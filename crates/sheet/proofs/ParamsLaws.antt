@@ -18,12 +18,12 @@ use Rattle.row.specs.Rows.{rows, restOf, size}
 use Rattle.row.specs.Line.{lineAt, textAt}
 use Rattle.row.specs.declared.Line.{Line}
 use Rattle.tree.specs.Reader.{Rows}
-use Rattle.tree.specs.Read.{paramsOf}
+use Rattle.tree.specs.Read.{readParams}
 use Rattle.tree.specs.Walked.{passed}
 use Rattle.tree.proofs.OtherLines.{never, not-parameter}
 use Rattle.nodes.specs.Index.{namesOf}
 use Rattle.nodes.proofs.NameLaws.{names-more, names-none}
-use Rattle.sheet.specs.Admission.{MarkRoom, hasMark, withMark, nextMark, Same, ParamsRead}
+use Rattle.sheet.specs.Admission.{MarkRoom, hasMark, withMark, nextMark, SameBetween, ParamsRead}
 use Rattle.sheet.proofs.RoomLaws.{parameter-room}
 use Rattle.sheet.proofs.FieldsLaws.{params-on, params-stop}
 use Rattle.row.specs.declared.Line.the-variants as line
@@ -66,12 +66,12 @@ module _ (x : List ℕ) (place k at : ℕ) where
 
 -- the rows rs begin with `count` P rows, after which `at` stands; the index was x and is y; the next mark's place is `place`
 pub record Passing (s : Str) (rs : Rows) (marks : ℕ) (x y : List ℕ) (at count place : ℕ) : Type 0 where
-  pub walk : passed (paramsOf rs) ≡ passed (paramsOf (rows (drop at s)))
+  pub walk : passed (readParams rs) ≡ passed (readParams (rows (drop at s)))
   pub names : namesOf (rows (drop at s)) ≡ drop count (namesOf rs)
   pub within : count ≤ length (namesOf rs)
   pub left : 4 * count + size (rows (drop at s)) ≤ size rs
   pub next : place ≡ marks + (count - 1) / 64
-  pub same : Same x y 0 marks
+  pub same : SameBetween x y 0 marks
   pub marked : (j : ℕ) → 64 * suc j < count → marks + j < length y
       → namesOf (rows (drop (getD y (marks + j) 0) s)) ≡ drop (64 * suc j) (namesOf rs)
 

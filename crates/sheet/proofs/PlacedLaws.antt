@@ -10,7 +10,7 @@ use Rattle.text.specs.Bytes.{Str}
 use Rattle.tree.specs.Tree.{Node}
 use Rattle.nodes.specs.Index.{entryAt, firstMark, Marked, Entries, Indexed}
 use Rattle.nodes.specs.declared.Entry.{Entry}
-use Rattle.sheet.specs.Admission.{Same, Placed}
+use Rattle.sheet.specs.Admission.{SameBetween, Placed}
 
 -- the entries of nodes, one after the other from a place on, with their marks before another
 unfoldable pub Filled : Str → List ℕ → ℕ → ℕ → List Node → Type 0
@@ -19,7 +19,7 @@ Filled s x end p (n ∷ ns) = Placed s x end (entryAt x p) n × Filled s x end (
 
 -- the marks of a node stay where the index keeps its numbers there
 pub marked-same :
-    (s : Str) (x y : List ℕ) (from to marks : ℕ) (names : List Str) → Same x y from to → length y ≡ length x → from ≤ marks
+    (s : Str) (x y : List ℕ) (from to marks : ℕ) (names : List Str) → SameBetween x y from to → length y ≡ length x → from ≤ marks
     → marks + (length names - 1) / 64 ≤ to → Marked s x marks names → Marked s y marks names
 marked-same s x y from to marks names e l a b m = record {
   each = λ j h.
@@ -28,7 +28,7 @@ marked-same s x y from to marks names e l a b m = record {
 }
 
 entry-same :
-    (x y : List ℕ) (from to p : ℕ) → Same x y from to → from ≤ p → p + 12 ≤ to → entryAt y p ≡ entryAt x p
+    (x y : List ℕ) (from to p : ℕ) → SameBetween x y from to → from ≤ p → p + 12 ≤ to → entryAt y p ≡ entryAt x p
 entry-same x y from to p e a b =
     rw (
       e .each p a (omega arith),
@@ -50,7 +50,7 @@ entry-same x y from to p e a b =
 
 -- one entry stays, with its marks
 placed-same :
-    (s : Str) (x y : List ℕ) (end end′ : ℕ) (e : Entry) (n : Node) → Same x y (firstMark (length s)) end
+    (s : Str) (x y : List ℕ) (end end′ : ℕ) (e : Entry) (n : Node) → SameBetween x y (firstMark (length s)) end
     → length y ≡ length x → end ≤ end′ → Placed s x end e n → Placed s y end′ e n
 placed-same s x y end end′ e n m l h p = record {
   is = record {
@@ -74,8 +74,9 @@ placed-same s x y end end′ e n m l h p = record {
 
 -- all entries stay
 pub filled-same :
-    (s : Str) (x y : List ℕ) (from to end end′ p : ℕ) (ns : List Node) → Same x y from to → from ≤ p → p + 12 * length ns ≤ to
-    → Same x y (firstMark (length s)) end → length y ≡ length x → end ≤ end′ → Filled s x end p ns → Filled s y end′ p ns
+    (s : Str) (x y : List ℕ) (from to end end′ p : ℕ) (ns : List Node) → SameBetween x y from to → from ≤ p
+    → p + 12 * length ns ≤ to
+    → SameBetween x y (firstMark (length s)) end → length y ≡ length x → end ≤ end′ → Filled s x end p ns → Filled s y end′ p ns
 unfolding Filled
 filled-same s x y from to end end′ p [] e a b m l h f = tt
 filled-same s x y from to end end′ p (n ∷ ns) e a b m l h f = (
@@ -106,7 +107,7 @@ pub filled-all :
     → Filled s x end 1 ns → Indexed s ns (set x 0 count)
 filled-all s x end count ns room l h f =
     let n = length-set x 0 count in
-    let other : (from to : ℕ) → 0 < from → Same x (set x 0 count) from to = λ from to a. record {
+    let other : (from to : ℕ) → 0 < from → SameBetween x (set x 0 count) from to = λ from to a. record {
       each = λ q b c. getD-set-other x 0 q count 0 (λ z. omega arith);
     } in
     record {

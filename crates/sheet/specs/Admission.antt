@@ -10,7 +10,7 @@ use Rattle.row.specs.Rows.{rows, restOf, size}
 use Rattle.row.specs.Line.{textAt}
 use Rattle.tree.specs.Tree.{Field, Node, Sheet}
 use Rattle.tree.specs.Reader.{Rows, Reading, got, no, Reader, _then_, mapR}
-use Rattle.tree.specs.Read.{among, fieldsOf, groupIds, paramsOf, membersOf, Admitted, sheet, refused}
+use Rattle.tree.specs.Read.{among, readFields, groupIds, readParams, readMembers, Admitted, sheet, refused}
 use Rattle.tree.specs.Walked.{passed, walked}
 use Rattle.tree.specs.Index.{On}
 use Rattle.tree.specs.declared.Walk.{Walk}
@@ -36,15 +36,15 @@ IndexOf s (sheet sh) x = Indexed s (sh .nodes) x
 IndexOf s (refused k l) x = Unit {0}
 
 -- a walk that also gives something
-abbrev pub told : {A : Type 0} → Str → Walk → A → Reading A
-told s (Next at) a = got a (rows (drop at s))
-told s (Refused k at) a = no k (rows (drop at s))
+abbrev pub walkedWith : {A : Type 0} → Str → Walk → A → Reading A
+walkedWith s (Next at) a = got a (rows (drop at s))
+walkedWith s (Refused k at) a = no k (rows (drop at s))
 
 -- ---- group ids
 
 -- the group ids seen after a node's fields
 abbrev pub groupsAfter : List ℕ → Reader (List ℕ)
-groupsAfter seen = mapR (λ fs. seen ++ groupIds fs) (fieldsOf seen)
+groupsAfter seen = mapR (λ fs. seen ++ groupIds fs) (readFields seen)
 
 -- every id that stands among some has its flag set, at the remainder by 2048: an id whose flag is not set is none of them
 pub record Flagged (flags ids : List ℕ) : Type 0 where
@@ -68,7 +68,7 @@ Turned s rs seen count groups flags (turn.Field at n) =
     × Flagged flags (take n groups)
     × (length (rows (drop at s)) < length rs)
 Turned s rs seen count groups flags (turn.End w) =
-    (told s w (take count groups) ≡ groupsAfter seen rs)
+    (walkedWith s w (take count groups) ≡ groupsAfter seen rs)
     × Room groups count (leftAfter s w)
     × Flagged flags (take count groups)
 
@@ -96,17 +96,17 @@ unfoldable pub nextMark : ℕ → ℕ → ℕ
 nextMark place k = cond (hasMark k) (place + 1) place
 
 -- the second list has the first's numbers from a place on, up to another
-pub record Same (x y : List ℕ) (from to : ℕ) : Type 0 where
+pub record SameBetween (x y : List ℕ) (from to : ℕ) : Type 0 where
   pub each : (q : ℕ) → from ≤ q → q < to → getD y q 0 ≡ getD x q 0
 
 -- what is said of the P rows that stand first, with their marks from a place of the index on
 pub record ParamsRead (s : Str) (rs : Rows) (marks : ℕ) (x y : List ℕ) (r : ParamsRun) : Type 0 where
-  pub walk : got tt (rows (drop (r .at) s)) ≡ passed (paramsOf rs)
+  pub walk : got tt (rows (drop (r .at) s)) ≡ passed (readParams rs)
   pub count : r .count ≡ length (namesOf rs)
   pub next : r .marks ≡ marks + (r .count - 1) / 64
   pub left : size (rows (drop (r .at) s)) ≤ size rs
   pub room : MarkRoom (length s) (r .marks) (size (rows (drop (r .at) s)))
-  pub same : Same x y 0 marks
+  pub same : SameBetween x y 0 marks
   pub marked : indexSize (length s) ≤ length y → Marked s y marks (namesOf rs)
 
 -- an entry is that of a node, with its marks among those before a place
@@ -134,7 +134,7 @@ nodeWith e theMod ps fs = record {
 
 -- the node whose N row has an entry's numbers, from what stands after that row
 abbrev pub membersHere : Str → Entry → List ℕ → Reading Node
-membersHere s e seen = membersOf seen (nodeWith e (textAt (rows (drop (e .at) s)))) (rows (drop (e .params) s))
+membersHere s e seen = readMembers seen (nodeWith e (textAt (rows (drop (e .at) s)))) (rows (drop (e .params) s))
 
 -- where a node is read, with the sheet from a position on left: not the 65th, with room for its ids, its marks and its entry
 pub record Ready (s : Str) (at : ℕ) (groups flags : List ℕ) (held : Held) : Type 0 where
@@ -164,14 +164,14 @@ seenAfter seen n = (n .id, seen ++ groupIds (n .fields))
 -- held after it; and of the index y after it, in which its entry stands after the others, its marks after the others
 pub record NodeRead
     (s : Str) (held : Held) (seen x : List ℕ) (g : Reading Node) (groups flags y : List ℕ) (r : NodeRun) : Type 0 where
-  pub read : told s (r .walk) (r .id, take (r .groups) groups) ≡ (g then λ n. got (seenAfter seen n))
+  pub read : walkedWith s (r .walk) (r .id, take (r .groups) groups) ≡ (g then λ n. got (seenAfter seen n))
   pub room : Room groups (r .groups) (leftAfter s (r .walk))
   pub flagged : Flagged flags (take (r .groups) groups)
   pub marks : MarkRoom (length s) (r .marks) (leftAfter s (r .walk))
   pub nodes : (q : ℕ) → r .walk ≡ Next q → NodeRoom (length s) (held .nodes + 1) (size (rows (drop q s)))
   pub further : held .marks ≤ r .marks
-  pub entries : Same x y 0 (1 + 12 * held .nodes)
-  pub before : Same x y (firstMark (length s)) (held .marks)
+  pub entries : SameBetween x y 0 (1 + 12 * held .nodes)
+  pub before : SameBetween x y (firstMark (length s)) (held .marks)
   pub entry : indexSize (length s) ≤ length y → On g (Placed s y (r .marks) (entryAt y (1 + 12 * held .nodes)))
 
 -- what a walk over nodes says of their reading: where it came to, and the index that it leaves

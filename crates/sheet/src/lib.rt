@@ -1,15 +1,16 @@
 // A sheet, read once: admitted, with the index of its nodes, or refused at its first bad line.
 use nodes::Entry;
 use row::Line;
+use terms::refusals;
 use tree::Walk;
 ghost use mathlib.Core.Path.{_≡_};
 ghost use mathlib.Core.List.{[]};
 ghost use Prim.Native.Nat.{_-_, _%_, _^_, _≤_, _<_};
 ghost use lib.ListN.{length, drop, take, set};
 ghost use Rattle.row.specs.Rows.{rows, size};
-ghost use Rattle.tree.specs.Read.{among, nodeOf, nodesOf, admitted};
+ghost use Rattle.tree.specs.Read.{among, readNode, readNodes, admitted};
 ghost use Rattle.nodes.specs.Index.{indexSize};
-ghost use Rattle.sheet.specs.Admission.{verdict, IndexOf, told, Flagged, Room, groupsAfter, leftAfter, Turned};
+ghost use Rattle.sheet.specs.Admission.{verdict, IndexOf, walkedWith, Flagged, Room, groupsAfter, leftAfter, Turned};
 ghost use Rattle.sheet.specs.Admission.{MarkRoom, withMark, nextMark, ParamsRead, Ready, Begun, refusedRun, membersHere};
 ghost use Rattle.sheet.specs.Admission.{NodeRead, NodesRead};
 
@@ -175,7 +176,10 @@ fn field(s: &[u8], at: usize, groups: &mut [u64], flags: &mut [u8], count: usize
         } => {
             if known(groups, count, flags, id) {
                 return Turn::End {
-                    walk: Walk::Refused { number: 3, at },
+                    walk: Walk::Refused {
+                        number: refusals::SECOND_ID,
+                        at,
+                    },
                 };
             }
             groups[count] = id;
@@ -197,7 +201,7 @@ fn field(s: &[u8], at: usize, groups: &mut [u64], flags: &mut [u8], count: usize
 fn fields(s: &[u8], from: usize, groups: &mut [u64], flags: &mut [u8], count: usize) -> Run
     requires { ⌜ (length (now flags) ≡ 2048) × Room (now groups) count (size (rows (drop from (now s))))
         × Flagged (now flags) (take count (now groups)) ⌝ }
-    ensures read { λ r. ⌜ told (now (s .entry)) (r .walk) (take (r .count) (now (groups .exit)))
+    ensures read { λ r. ⌜ walkedWith (now (s .entry)) (r .walk) (take (r .count) (now (groups .exit)))
         ≡ groupsAfter (take count (now (groups .entry))) (rows (drop from (now (s .entry)))) ⌝ }
     ensures room { λ r. ⌜ Room (now (groups .exit)) (r .count) (leftAfter (now (s .entry)) (r .walk)) ⌝ }
     ensures flagged { λ r. ⌜ Flagged (now (flags .exit)) (take (r .count) (now (groups .exit))) ⌝ }
@@ -272,7 +276,7 @@ fn node(
 ) -> NodeRun
     requires { ⌜ (length (now ids) ≡ 64) × Ready (now s) at (now groups) (now flags) held ⌝ }
     ensures { λ r. ⌜ NodeRead (now (s .entry)) held (take (held .groups) (now (groups .entry))) (now (index .entry))
-        (nodeOf (take (held .nodes) (now (ids .entry))) (take (held .groups) (now (groups .entry)))
+        (readNode (take (held .nodes) (now (ids .entry))) (take (held .groups) (now (groups .entry)))
         (rows (drop at (now (s .entry)))))
         (now (groups .exit)) (now (flags .exit)) (now (index .exit)) r ⌝ }
 {
@@ -288,10 +292,10 @@ fn node(
         tag_offset,
     } = l
     else {
-        return refused(held, 2, at);
+        return refused(held, refusals::BAD_LINE, at);
     };
     if seen(ids, held.nodes, id) {
-        return refused(held, 3, at);
+        return refused(held, refusals::SECOND_ID, at);
     }
     let node = Entry {
         id,
@@ -314,7 +318,7 @@ fn node(
 // put into the index.
 fn nodes(s: &[u8], index: &mut [u64], from: usize, groups: &mut [u64]) -> Walk
     requires { ⌜ Room (now groups) 0 (size (rows (drop from (now s)))) × (size (rows (drop from (now s))) ≤ 65536) ⌝ }
-    ensures { λ r. ⌜ NodesRead (now (s .entry)) r (now (index .exit)) (nodesOf 64 [] [] (rows (drop from (now (s .entry))))) ⌝ }
+    ensures { λ r. ⌜ NodesRead (now (s .entry)) r (now (index .exit)) (readNodes 64 [] [] (rows (drop from (now (s .entry))))) ⌝ }
 {
     let mut ids = [0u64; 64];
     let mut flags = [0u8; 2048];
@@ -347,13 +351,16 @@ fn nodes(s: &[u8], index: &mut [u64], from: usize, groups: &mut [u64]) -> Walk
             }
         }
     }
-    Walk::Refused { number: 2, at }
+    Walk::Refused {
+        number: refusals::BAD_LINE,
+        at,
+    }
 }
 
 // The nodes of a sheet of at most 8,192 bytes: clearing the room that a longer one needs would take longer than reading it.
 fn short_nodes(s: &[u8], index: &mut [u64], from: usize) -> Walk
     requires { ⌜ size (rows (drop from (now s))) ≤ 8192 ⌝ }
-    ensures { λ r. ⌜ NodesRead (now (s .entry)) r (now (index .exit)) (nodesOf 64 [] [] (rows (drop from (now (s .entry))))) ⌝ }
+    ensures { λ r. ⌜ NodesRead (now (s .entry)) r (now (index .exit)) (readNodes 64 [] [] (rows (drop from (now (s .entry))))) ⌝ }
 {
     let mut groups = [0u64; 186];
     nodes(s, index, from, &mut groups)
@@ -362,7 +369,7 @@ fn short_nodes(s: &[u8], index: &mut [u64], from: usize) -> Walk
 // The nodes of any sheet that is not too long.
 fn long_nodes(s: &[u8], index: &mut [u64], from: usize) -> Walk
     requires { ⌜ size (rows (drop from (now s))) ≤ 65536 ⌝ }
-    ensures { λ r. ⌜ NodesRead (now (s .entry)) r (now (index .exit)) (nodesOf 64 [] [] (rows (drop from (now (s .entry))))) ⌝ }
+    ensures { λ r. ⌜ NodesRead (now (s .entry)) r (now (index .exit)) (readNodes 64 [] [] (rows (drop from (now (s .entry))))) ⌝ }
 {
     let mut groups = [0u64; 1489];
     nodes(s, index, from, &mut groups)
@@ -371,7 +378,7 @@ fn long_nodes(s: &[u8], index: &mut [u64], from: usize) -> Walk
 // The nodes from a position on.
 fn all_nodes(s: &[u8], index: &mut [u64], from: usize) -> Walk
     requires { ⌜ length (now s) ≤ 65536 ⌝ }
-    ensures { λ r. ⌜ NodesRead (now (s .entry)) r (now (index .exit)) (nodesOf 64 [] [] (rows (drop from (now (s .entry))))) ⌝ }
+    ensures { λ r. ⌜ NodesRead (now (s .entry)) r (now (index .exit)) (readNodes 64 [] [] (rows (drop from (now (s .entry))))) ⌝ }
 {
     if s.len() <= 8192 {
         return short_nodes(s, index, from);
@@ -387,14 +394,20 @@ pub fn admit(s: &[u8], index: &mut [u64]) -> Answer
         → IndexOf (now (s .entry)) (admitted (now (s .entry))) (now (index .exit))) ⌝ }
 {
     if 65536 < s.len() {
-        return Answer::Refused { number: 1, line: 0 };
+        return Answer::Refused {
+            number: refusals::SHEET_TOO_LONG,
+            line: 0,
+        };
     }
     let g = row::next(s, 0);
     let l = g.line;
     let e = g.next;
     let Line::Root = l else {
         let line = row::line_number(s, 0);
-        return Answer::Refused { number: 2, line };
+        return Answer::Refused {
+            number: refusals::BAD_LINE,
+            line,
+        };
     };
     let w = all_nodes(s, index, e);
     match w {

@@ -6,22 +6,22 @@ use native.Mathlib.Omega.{arith}
 use borrow.Author.Tests.{lt-ltb, le-ltb}
 use lib.ListN.{length}
 use Rattle.text.specs.Bytes.{Str}
-use Rattle.text.specs.Text.{textAt, Wrote}
-use Rattle.text.specs.Answer.{done, refused, answerOf, bufferOf, Answered}
+use Rattle.text.specs.Text.{stateAt, Wrote}
+use Rattle.text.specs.Answer.{done, refused, answerOf, bufferOf, TextAnswered}
 use Rattle.text.specs.declared.Text.{Text}
 use Rattle.text.proofs.Places.{adv-at, put-placed}
 
-pub refused-21 : (l : Str) (fill : ℕ) (s : Str) → length l < fill → Answered l fill s l (refused 21 0)
+pub refused-21 : (l : Str) (fill : ℕ) (s : Str) → length l < fill → TextAnswered l fill s l (refused 21 0)
 unfolding answerOf bufferOf
 refused-21 l fill s h = record { answer = simp (lt-ltb _ _ h); buffer = simp (lt-ltb _ _ h) }
 
 -- the count after a text
-count : {l : Str} {fill : ℕ} {s l₁ : Str} {t₁ : Text} → fill ≤ 2 ^ 64 - 1 → Wrote l (textAt fill) s l₁ t₁
+count : {l : Str} {fill : ℕ} {s l₁ : Str} {t₁ : Text} → fill ≤ 2 ^ 64 - 1 → Wrote l (stateAt fill) s l₁ t₁
     → t₁ .at ≡ min (fill + length s) (2 ^ 64 - 1)
-count {fill = fill} {s = s} h w = ap (λ (t : Text). t .at) (w .state ∙ adv-at (textAt fill) s h)
+count {fill = fill} {s = s} h w = ap (λ (t : Text). t .at) (w .state ∙ adv-at (stateAt fill) s h)
 
 pub refused-22 : (l : Str) (fill : ℕ) (s l₀ l₁ : Str) (t₁ : Text) → fill ≤ length l → length l < 2 ^ 64
-    → Wrote l₀ (textAt fill) s l₁ t₁ → length l < t₁ .at → Answered l fill s l (refused 22 0)
+    → Wrote l₀ (stateAt fill) s l₁ t₁ → length l < t₁ .at → TextAnswered l fill s l (refused 22 0)
 unfolding answerOf bufferOf
 refused-22 l fill s l₀ l₁ t₁ g b w h =
     let e : length l < fill + length s = omega (arith, count (omega arith) w) in
@@ -29,7 +29,8 @@ refused-22 l fill s l₀ l₁ t₁ g b w h =
 
 pub done-placed : (l : Str) (fill : ℕ) (s l₀ l₁ : Str) (t₁ : Text) (l₂ : Str) (t₂ : Text) → fill ≤ length l
     → length l < 2 ^ 64 - 1
-    → Wrote l₀ (textAt fill) s l₁ t₁ → t₁ .at ≤ length l → Wrote l (textAt fill) s l₂ t₂ → Answered l fill s l₂ (done (t₂ .at))
+    → Wrote l₀ (stateAt fill) s l₁ t₁ → t₁ .at ≤ length l → Wrote l (stateAt fill) s l₂ t₂
+    → TextAnswered l fill s l₂ (done (t₂ .at))
 unfolding answerOf bufferOf
 done-placed l fill s l₀ l₁ t₁ l₂ t₂ g b w h v =
     let e : fill + length s ≤ length l = omega (arith, count (omega arith) w) in

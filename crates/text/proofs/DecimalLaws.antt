@@ -11,23 +11,23 @@ use lib.Dec.{ltb, lit<}
 use lib.ListN.{length, drop, set, length-append, length-set, drop-of-length-le}
 use lib.Seq.{drop-cons, getD-set-same, drop-set-lt}
 use Rattle.text.specs.Bytes.{unit}
-use Rattle.text.specs.Decimal.{digits, decimal, signed}
+use Rattle.text.specs.Decimal.{decimalDigits, decimal, signed}
 
-digits-low : (k n : ℕ) → n < 10 → digits k n ≡ unit (48 + n)
+digits-low : (k n : ℕ) → n < 10 → decimalDigits k n ≡ unit (48 + n)
 digits-low zero n h = refl
-digits-low (suc k) n h = rw (lt-ltb n 10 h, digits)
+digits-low (suc k) n h = rw (lt-ltb n 10 h, decimalDigits)
 
-digits-high : (k n : ℕ) → 10 ≤ n → digits (suc k) n ≡ digits k (n / 10) ++ unit (48 + n % 10)
-digits-high k n h = rw (le-ltb n 10 h, digits)
+digits-high : (k n : ℕ) → 10 ≤ n → decimalDigits (suc k) n ≡ decimalDigits k (n / 10) ++ unit (48 + n % 10)
+digits-high k n h = rw (le-ltb n 10 h, decimalDigits)
 
 -- any fuel from n on will do
-fuel : (k m n : ℕ) → n ≤ k → n ≤ m → digits k n ≡ digits m n
+fuel : (k m n : ℕ) → n ≤ k → n ≤ m → decimalDigits k n ≡ decimalDigits m n
 fuel zero m n h g = sym (digits-low m n (omega arith))
 fuel (suc k) zero n h g = digits-low (suc k) n (omega arith)
 fuel (suc k) (suc m) n h g = go (fuel k m (n / 10)) (ltb n 10) refl
   where
-    go : (n / 10 ≤ k → n / 10 ≤ m → digits k (n / 10) ≡ digits m (n / 10)) → (b : Bool) → ltb n 10 ≡ b
-        → digits (suc k) n ≡ digits (suc m) n
+    go : (n / 10 ≤ k → n / 10 ≤ m → decimalDigits k (n / 10) ≡ decimalDigits m (n / 10)) → (b : Bool) → ltb n 10 ≡ b
+        → decimalDigits (suc k) n ≡ decimalDigits (suc m) n
     go f true e = digits-low (suc k) n (ltb-true n 10 e) ∙ sym (digits-low (suc m) n (ltb-true n 10 e))
     go f false e =
         let l = ltb-false n 10 e in

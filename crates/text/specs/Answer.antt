@@ -31,6 +31,6 @@ bufferOf l fill s =
     (placed l fill s))
 
 -- the request whose text is s leaves l′ and answers r
-pub record Answered (l : Str) (fill : ℕ) (s : Str) (l′ : Str) (r : Answer) : Type 0 where
+pub record TextAnswered (l : Str) (fill : ℕ) (s : Str) (l′ : Str) (r : Answer) : Type 0 where
   pub answer : r ≡ answerOf l fill s
   pub buffer : l′ ≡ bufferOf l fill s

@@ -6,12 +6,12 @@ use lib.Dec.{ltb}
 use Rattle.text.specs.Bytes.{unit}
 
 -- n in decimal, by division by 10, at most k times
-abbrev pub digits : ℕ → ℕ → List ℕ
-digits zero n = unit (48 + n)
-digits (suc k) n = elim (ltb n 10) [ true ↦ unit (48 + n) | false ↦ digits k (n / 10) ++ unit (48 + n % 10) ]
+abbrev pub decimalDigits : ℕ → ℕ → List ℕ
+decimalDigits zero n = unit (48 + n)
+decimalDigits (suc k) n = elim (ltb n 10) [ true ↦ unit (48 + n) | false ↦ decimalDigits k (n / 10) ++ unit (48 + n % 10) ]
 
 unfoldable pub decimal : ℕ → List ℕ
-decimal n = digits n n
+decimal n = decimalDigits n n
 
 -- the number whose bits in two's complement are n, where the sign's bit is half
 unfoldable pub signed : ℕ → ℕ → List ℕ

@@ -6,12 +6,12 @@ use lib.ListN.{set}
 use Rattle.text.specs.declared.Text.{Text}
 
 -- the state at a fill count
-abbrev pub textAt : ℕ → Text
-textAt n = record { at = n }
+abbrev pub stateAt : ℕ → Text
+stateAt n = record { at = n }
 
 -- one place on; a count stops at the largest usize
 unfoldable pub next : Text → Text
-next t = textAt (min (t .at + 1) (2 ^ 64 - 1))
+next t = stateAt (min (t .at + 1) (2 ^ 64 - 1))
 
 -- the state after a text
 unfoldable pub adv : Text → List ℕ → Text

@@ -6,7 +6,7 @@ ghost use lib.ListN.{length};
 ghost use Rattle.text.specs.Bytes.{unit, same};
 ghost use Rattle.text.specs.Decimal.{decimal, signed};
 ghost use Rattle.text.specs.Lines.{Line, BlankLine, Branch, none, spaces, toLines, stringify, ended};
-ghost use Rattle.text.specs.Text.{Wrote, textAt};
+ghost use Rattle.text.specs.Text.{Wrote, stateAt};
 
 // Where the next byte goes: the fill count. Past the end of the buffer bytes are counted and not written, and the count
 // stops at the largest usize.
@@ -17,7 +17,7 @@ pub struct Text {
 impl Text {
     // the state at a fill count
     pub fn at(fill: usize) -> Text
-        ensures { λ r. ⌜ r ≡ textAt fill ⌝ }
+        ensures { λ r. ⌜ r ≡ stateAt fill ⌝ }
     {
         Text { at: fill }
     }
@@ -57,15 +57,13 @@ impl Text {
 
     // n bytes past the end
     fn past(self, n: usize) -> Text
-        ensures { λ r. ⌜ r ≡ textAt (min (self .at + n) (2 ^ 64 - 1)) ⌝ }
+        ensures { λ r. ⌜ r ≡ stateAt (min (self .at + n) (2 ^ 64 - 1)) ⌝ }
     {
         let at = self.at;
-        if n <= 18446744073709551615 - at {
+        if n <= usize::MAX - at {
             Text { at: at + n }
         } else {
-            Text {
-                at: 18446744073709551615,
-            }
+            Text { at: usize::MAX }
         }
     }
 

@@ -12,13 +12,13 @@ use Rattle.row.specs.Line.{lineOf, lineAt, textAt, asField, asGroup}
 use Rattle.row.specs.declared.Line.{Line}
 use Rattle.tree.specs.Tree.{Field, slot, group}
 use Rattle.tree.specs.Reader.{Rows, Reading, got, no, Reader, _then_, mapR, onGroup}
-use Rattle.tree.specs.Read.{slotOf, field, fieldOf, isField, groupId, overlap, fieldsFrom, fieldsUpTo, fieldsOf}
+use Rattle.tree.specs.Read.{readSlot, field, readField, isField, groupId, overlap, fieldsFrom, fieldsUpTo, readFields}
 use Rattle.tree.proofs.TailLaws.{Tail, here, Leaves, left, none, tail-length, leaves-map, leaves-slot}
 use Rattle.row.specs.declared.Line.the-variants as line
 
 -- a field has a row of its own
-pub leaves-field : (r : Str) (rs : Rows) → Leaves rs (fieldOf (r ∷ rs))
-unfolding fieldOf lineAt restOf
+pub leaves-field : (r : Str) (rs : Rows) → Leaves rs (readField (r ∷ rs))
+unfolding readField lineAt restOf
 leaves-field r rs = by-field (lineOf r)
   where
     by-group : (l : Line) → Leaves rs (asGroup {A = Reader Field} l
@@ -36,7 +36,7 @@ leaves-field r rs = by-field (lineOf r)
     by-group line.Bad = none
 
     by-field : (l : Line) → Leaves rs (asField {A = Reader Field} l
-        (λ o d e p rs. mapR (λ sl. field (textAt rs) d (slot sl)) (slotOf o e p) (restOf rs))
+        (λ o d e p rs. mapR (λ sl. field (textAt rs) d (slot sl)) (readSlot o e p) (restOf rs))
         (onGroup (λ i d name. got (field name d (group i))) (no 2))
         (r ∷ rs))
     by-field line.Root = by-group (lineOf r)
@@ -73,11 +73,11 @@ turn-same more less seen r rs h = go (isField (lineAt (r ∷ rs)))
 
     go : (b : Bool)
         → cond {A = Reader (List Field)} b
-        (λ rs. fieldOf rs then λ f.
+        (λ rs. readField rs then λ f.
         cond (overlap (groupId (f .arm)) seen) (λ rest. no 3 rs) (mapR (f ∷_) (more (seen ++ groupId (f .arm)))))
         (got []) (r ∷ rs)
         ≡ cond {A = Reader (List Field)} b
-        (λ rs. fieldOf rs then λ f.
+        (λ rs. readField rs then λ f.
         cond (overlap (groupId (f .arm)) seen) (λ rest. no 3 rs) (mapR (f ∷_) (less (seen ++ groupId (f .arm)))))
         (got []) (r ∷ rs)
     go true = then-same _ _ (leaves-field r rs) (λ f ts t. after f ts t (overlap (groupId (f .arm)) seen))
@@ -98,9 +98,9 @@ enough (suc n) (suc m) seen (r ∷ rs) h k =
     turn-same (fieldsUpTo n) (fieldsUpTo m) seen r rs (λ seen ts t. less seen ts (omega arith) (omega arith))
 
 -- fields, one and the rest
-pub fields-here : (seen : List ℕ) (rs : Rows) → fieldsOf seen rs ≡ fieldsFrom fieldsOf seen rs
-unfolding fieldsOf fieldsUpTo lineAt
+pub fields-here : (seen : List ℕ) (rs : Rows) → readFields seen rs ≡ fieldsFrom readFields seen rs
+unfolding readFields fieldsUpTo lineAt
 fields-here seen [] = refl
 fields-here seen (r ∷ rs) =
-    turn-same (fieldsUpTo (length rs)) fieldsOf seen r rs
+    turn-same (fieldsUpTo (length rs)) readFields seen r rs
     (λ seen ts t. enough (length rs) (length ts) seen ts t (omega arith))

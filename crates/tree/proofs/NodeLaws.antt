@@ -11,8 +11,8 @@ use Rattle.row.specs.Line.{lineAt, textAt, asNode}
 use Rattle.row.specs.declared.Line.{Line}
 use Rattle.tree.specs.Tree.{Field, Node}
 use Rattle.tree.specs.Reader.{Rows, Reading, got, no, Reader, _then_, mapR}
-use Rattle.tree.specs.Read.{fieldOf, isField, groupId, among, overlap, fieldsFrom, fieldsUpTo, fieldsOf, paramsOf}
-use Rattle.tree.specs.Read.{membersOf, nodeOf}
+use Rattle.tree.specs.Read.{readField, isField, groupId, among, overlap, fieldsFrom, fieldsUpTo, readFields, readParams}
+use Rattle.tree.specs.Read.{readMembers, readNode}
 use Rattle.row.specs.declared.Line.the-variants as line
 
 -- what the first reading gives, the second gives too
@@ -87,14 +87,14 @@ module _ (more : List ℕ → Reader (List Field)) (rs : Rows) where
         by-line : (b : Bool)
             → Kept
             (cond {A = Reader (List Field)} b
-            (λ rs. fieldOf rs then λ f.
+            (λ rs. readField rs then λ f.
             cond (overlap (groupId (f .arm)) seen) (λ rest. no 3 rs) (mapR (f ∷_) (more (seen ++ groupId (f .arm)))))
             (got []) rs)
             (cond {A = Reader (List Field)} b
-            (λ rs. fieldOf rs then λ f.
+            (λ rs. readField rs then λ f.
             cond (overlap (groupId (f .arm)) less) (λ rest. no 3 rs) (mapR (f ∷_) (more (less ++ groupId (f .arm)))))
             (got []) rs)
-        by-line true = by-field (fieldOf rs)
+        by-line true = by-field (readField rs)
         by-line false = refl
 
 kept-fields :
@@ -108,9 +108,9 @@ unfolding Fewer among
 none-fewer seen i e = refl
 
 kept-members :
-    (seen : List ℕ) (node : List Str → List Field → Node) (rs : Rows) → Kept (membersOf seen node rs) (membersOf [] node rs)
-unfolding membersOf fieldsOf
-kept-members seen node rs = go (paramsOf rs)
+    (seen : List ℕ) (node : List Str → List Field → Node) (rs : Rows) → Kept (readMembers seen node rs) (readMembers [] node rs)
+unfolding readMembers readFields
+kept-members seen node rs = go (readParams rs)
   where
     go : (g : Reading (List Str))
         → Kept (g then λ ps rs. fieldsUpTo (length rs) seen rs then λ fs. got (node ps fs))
@@ -120,8 +120,8 @@ kept-members seen node rs = go (paramsOf rs)
         (kept-fields (length ts) [] seen (none-fewer seen) ts)
     go (no k ts) = tt
 
-pub kept-node : (ids seen : List ℕ) (rs : Rows) → Kept (nodeOf ids seen rs) (nodeOf [] [] rs)
-unfolding nodeOf among
+pub kept-node : (ids seen : List ℕ) (rs : Rows) → Kept (readNode ids seen rs) (readNode [] [] rs)
+unfolding readNode among
 kept-node ids seen rs = by-line (lineAt rs)
   where
     node : Rows → ℕ → ℕ → ℕ → ℕ → ℕ → ℕ → ℕ → List Str → List Field → Node
@@ -140,7 +140,7 @@ kept-node ids seen rs = by-line (lineAt rs)
 
     read : List ℕ → List ℕ → ℕ → ℕ → ℕ → ℕ → ℕ → ℕ → ℕ → Reader Node
     read ids seen i p sc st g tc to q =
-        cond {A = Reader Node} (among i ids) (λ rest. no 3 rs) (membersOf seen (node q i p sc st g tc to)) (restOf q)
+        cond {A = Reader Node} (among i ids) (λ rest. no 3 rs) (readMembers seen (node q i p sc st g tc to)) (restOf q)
 
     by-id : (i p sc st g tc to : ℕ) (b : Bool) → among i ids ≡ b
         → Kept (read ids seen i p sc st g tc to rs) (read [] [] i p sc st g tc to rs)

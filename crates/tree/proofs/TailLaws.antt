@@ -14,7 +14,8 @@ use Rattle.row.specs.declared.Line.{Line}
 use Rattle.tree.specs.Tree.{Ty, end, inherit, bind, stop, unbound, bound, Field}
 use Rattle.tree.specs.Reader.{Rows, Reading, got, no, Reader, _then_, mapR, times, onType, onScope}
 use Rattle.tree.specs.Reader.{onUnbound, onValue, onWord}
-use Rattle.tree.specs.Read.{bindingOf, scopeOf, typeFrom, typeOf, valueOf, wordsUpTo, hasWords, wordsOf, slotOf}
+use Rattle.tree.specs.Read.{readBinding, readScope, typeFrom, readType, valueOf, readWordsUpTo, hasWords, readWords}
+use Rattle.tree.specs.Read.{readSlot}
 use Rattle.tree.specs.Walked.{passed}
 use Rattle.tree.proofs.OtherLines.{never}
 use Rattle.row.specs.declared.Line.the-variants as line
@@ -151,16 +152,16 @@ leaves-times e h (suc n) rs =
     let more = leaves-times e h n in leaves-then _ (h rs) (λ f ts. leaves-map f (more ts))
 
 module _ (ty : Reader Ty) (h : (rs : Rows) → Left rs ty) where
-  leaves-binding : (rs : Rows) → Left rs (bindingOf ty)
-  unfolding bindingOf
+  leaves-binding : (rs : Rows) → Left rs (readBinding ty)
+  unfolding readBinding
   leaves-binding rs = on-unbound rs (mapR (λ t bs. bound t bs) ty) (leaves-map _ (h rs)) (got (λ bs. unbound bs))
       (λ ts. left here)
 
-  leaves-scope : (rs : Rows) → Left rs (scopeOf ty)
-  unfolding scopeOf
+  leaves-scope : (rs : Rows) → Left rs (readScope ty)
+  unfolding readScope
   leaves-scope rs =
       on-scope rs (no 2) none
-      (λ i b n. cond (eqb b 0) (got (λ ss. inherit i ss)) (mapR (λ bs ss. bind i bs ss) (times (bindingOf ty) stop n)))
+      (λ i b n. cond (eqb b 0) (got (λ ss. inherit i ss)) (mapR (λ bs ss. bind i bs ss) (times (readBinding ty) stop n)))
       (λ i b n ts. leaves-cond (eqb b 0) _ _ ts (left here) (leaves-map _ (leaves-times stop leaves-binding n ts)))
 
   leaves-from : (k a b c : ℕ) (rs : Rows) → Left rs (typeFrom ty k a b c)
@@ -170,31 +171,31 @@ module _ (ty : Reader Ty) (h : (rs : Rows) → Left rs ty) where
       (leaves-cond (eqb k 14) _ _ rs (leaves-map _ (h rs))
       (leaves-cond (ltb k 18) _ _ rs (leaves-map _ (leaves-times end leaves-scope b rs)) (left here)))
 
-pub leaves-type : (l : ℕ) (rs : Rows) → Left rs (typeOf l)
-unfolding typeOf
+pub leaves-type : (l : ℕ) (rs : Rows) → Left rs (readType l)
+unfolding readType
 leaves-type zero rs = on-type rs (no 2) none (λ k a b c rest. no 4 rs) (λ k a b c ts. none)
-leaves-type (suc l) rs = let less = leaves-type l in on-type rs (no 2) none (typeFrom (typeOf l))
-    (leaves-from (typeOf l) less)
+leaves-type (suc l) rs = let less = leaves-type l in on-type rs (no 2) none (typeFrom (readType l))
+    (leaves-from (readType l) less)
 
 leaves-value : (rs : Rows) → Left rs valueOf
 unfolding valueOf
 leaves-value rs = on-value rs (no 2) none (λ k b. got (record { kind = k; bits = b })) (λ k b ts. left here)
 
-leaves-words-up-to : (n : ℕ) (rs : Rows) → Left rs (wordsUpTo n)
-unfolding wordsUpTo
+leaves-words-up-to : (n : ℕ) (rs : Rows) → Left rs (readWordsUpTo n)
+unfolding readWordsUpTo
 leaves-words-up-to zero rs = left here
 leaves-words-up-to (suc n) rs =
     let less = leaves-words-up-to n in
-    on-word rs (got []) (left here) (λ w. mapR (w ∷_) (wordsUpTo n)) (λ w ts. leaves-map _ (less ts))
+    on-word rs (got []) (left here) (λ w. mapR (w ∷_) (readWordsUpTo n)) (λ w ts. leaves-map _ (less ts))
 
-leaves-words : (b : Bool) (rs : Rows) → Left rs (wordsOf b)
-unfolding wordsOf
+leaves-words : (b : Bool) (rs : Rows) → Left rs (readWords b)
+unfolding readWords
 leaves-words true rs =
-    on-word rs (no 2) none (λ w. mapR (w ∷_) (wordsUpTo 254)) (λ w ts. leaves-map _ (leaves-words-up-to 254 ts))
+    on-word rs (no 2) none (λ w. mapR (w ∷_) (readWordsUpTo 254)) (λ w ts. leaves-map _ (leaves-words-up-to 254 ts))
 leaves-words false rs = left here
 
-pub leaves-slot : (o e p : ℕ) (rs : Rows) → Left rs (slotOf o e p)
-unfolding slotOf
+pub leaves-slot : (o e p : ℕ) (rs : Rows) → Left rs (readSlot o e p)
+unfolding readSlot
 leaves-slot o e p rs =
     leaves-then _ (leaves-type 16 rs) (λ t ts.
     leaves-then _ (leaves-value ts) (λ v us. leaves-map _ (leaves-words (hasWords e (v .kind)) us)))

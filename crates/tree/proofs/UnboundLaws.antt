@@ -9,7 +9,7 @@ use Rattle.row.specs.Rows.{unboundRows}
 use Rattle.row.proofs.UnboundLaws.{lineAt-unbound, restOf-unbound}
 use Rattle.tree.specs.Tree.{Ty, Binds, stop, unbound}
 use Rattle.tree.specs.Reader.{Rows, Reading, got, no, Reader, _then_, mapR, times}
-use Rattle.tree.specs.Read.{bindingOf}
+use Rattle.tree.specs.Read.{readBinding}
 use Rattle.tree.specs.Walked.{passed}
 use Rattle.tree.proofs.WalkLaws.{passed-map}
 
@@ -29,25 +29,27 @@ then-both f h (got a rs) = refl
 then-both f h (no k rs) = refl
 
 module _ (ty : Reader Ty) where
-  binding-unbound : (n : ℕ) (rs : Rows) → bindingOf ty (unboundRows (suc n) ++ rs) ≡ got (λ bs. unbound bs) (unboundRows n ++ rs)
-  unfolding bindingOf
+  binding-unbound : (n : ℕ) (rs : Rows) → readBinding ty (unboundRows (suc n) ++ rs) ≡ got (λ bs. unbound bs)
+      (unboundRows n ++ rs)
+  unfolding readBinding
   binding-unbound n rs = rw (lineAt-unbound n rs, restOf-unbound n rs)
 
   -- n bindings of which the first u are U rows
   pub times-unbound :
       (u n : ℕ) (rs : Rows) → u ≤ n
-      → times (bindingOf ty) stop n (unboundRows u ++ rs) ≡ (times (bindingOf ty) stop (n - u) rs then λ bs. got (unbounds u bs))
+      → times (readBinding ty) stop n (unboundRows u ++ rs) ≡ (times (readBinding ty) stop (n - u) rs then λ bs. got
+      (unbounds u bs))
   unfolding times unbounds unboundRows
-  times-unbound zero n rs h = rw (sub-zero n) (then-got (times (bindingOf ty) stop n rs))
+  times-unbound zero n rs h = rw (sub-zero n) (then-got (times (readBinding ty) stop n rs))
   times-unbound (suc u) zero rs h = let z : ⊥ = omega arith in absurd z
   times-unbound (suc u) (suc n) rs h =
-      ap (λ (g : Reading (Binds → Binds)). g then λ f. mapR f (times (bindingOf ty) stop n)) (binding-unbound u rs)
+      ap (λ (g : Reading (Binds → Binds)). g then λ f. mapR f (times (readBinding ty) stop n)) (binding-unbound u rs)
       ∙ ap (λ (g : Reading Binds). g then λ bs. got (unbound bs)) (times-unbound u n rs (omega arith))
-      ∙ then-both (unbounds u) (λ bs. unbound bs) (times (bindingOf ty) stop (n - u) rs)
+      ∙ then-both (unbounds u) (λ bs. unbound bs) (times (readBinding ty) stop (n - u) rs)
       ∙ rw (suc-sub-suc n u)
 
   pub passed-unbound :
       (u n : ℕ) (rs rest : Rows) → u ≤ n → rs ≡ unboundRows u ++ rest
-      → passed (times (bindingOf ty) stop n rs) ≡ passed (times (bindingOf ty) stop (n - u) rest)
+      → passed (times (readBinding ty) stop n rs) ≡ passed (times (readBinding ty) stop (n - u) rest)
   passed-unbound u n rs rest h e =
-      rw e (ap passed (times-unbound u n rest h) ∙ passed-map (unbounds u) (times (bindingOf ty) stop (n - u) rest))
+      rw e (ap passed (times-unbound u n rest h) ∙ passed-map (unbounds u) (times (readBinding ty) stop (n - u) rest))

@@ -17,7 +17,7 @@ use Rattle.row.specs.declared.Line.{Line}
 use Rattle.row.specs.declared.Line.the-variants.{Typ, Scope, Unbound}
 use Rattle.tree.specs.Tree.{Ty, end, stop}
 use Rattle.tree.specs.Reader.{Rows, Reading, got, no, Reader, _then_, times, onType}
-use Rattle.tree.specs.Read.{bindingOf, scopeOf, typeFrom, typeOf}
+use Rattle.tree.specs.Read.{readBinding, readScope, typeFrom, readType}
 use Rattle.tree.specs.Walked.{passed, walked}
 use Rattle.tree.specs.declared.Walk.{Walk}
 use Rattle.tree.specs.declared.Walk.the-variants.{Next, Refused}
@@ -67,77 +67,77 @@ module _ {A : Type 0} (one : Reader (A → A)) (none : A) (s : Str) where
 -- the first row's line l, and the rows after it
 module _ (rs rest : Rows) (l : Line) (here : l ≡ lineAt rs) (after : rest ≡ restOf rs) where
   module _ (ty : Reader Ty) where
-    pub binding-unbound : l ≡ Unbound → got tt rest ≡ passed (bindingOf ty rs)
-    unfolding bindingOf
+    pub binding-unbound : l ≡ Unbound → got tt rest ≡ passed (readBinding ty rs)
+    unfolding readBinding
     binding-unbound i = rw (← here, i, ← after)
 
     pub binding-type :
         (w : Reading (Unit {0})) → OneOf (0 ∷ 1 ∷ 2 ∷ 3 ∷ 4 ∷ 5 ∷ 6 ∷ 8 ∷ 9 ∷ 10 ∷ []) (tagOf the-type l)
-        → w ≡ passed (ty rs) → w ≡ passed (bindingOf ty rs)
-    unfolding bindingOf
+        → w ≡ passed (ty rs) → w ≡ passed (readBinding ty rs)
+    unfolding readBinding
     binding-type w o e = e ∙ sym (rw (← here, not-unbound {A = Reader _} l _ _ o) (passed-map _ (ty rs)))
 
     module _ (i b n : ℕ) (is : l ≡ Scope i b n) where
-      pub scope-inherit : b ≡ 0 → got tt rest ≡ passed (scopeOf ty rs)
-      unfolding scopeOf
+      pub scope-inherit : b ≡ 0 → got tt rest ≡ passed (readScope ty rs)
+      unfolding readScope
       scope-inherit h = rw (← here, is, eq-eqb b 0 h, ← after)
 
       pub scope-bind :
-          (w : Reading (Unit {0})) → (b ≡ 0 → ⊥) → w ≡ passed (times (bindingOf ty) stop n rest) → w ≡ passed (scopeOf ty rs)
-      unfolding scopeOf
-      scope-bind w h e = e ∙ sym (rw (← here, is, ne-eqb b 0 h, ← after) (passed-map _ (times (bindingOf ty) stop n rest)))
+          (w : Reading (Unit {0})) → (b ≡ 0 → ⊥) → w ≡ passed (times (readBinding ty) stop n rest) → w ≡ passed (readScope ty rs)
+      unfolding readScope
+      scope-bind w h e = e ∙ sym (rw (← here, is, ne-eqb b 0 h, ← after) (passed-map _ (times (readBinding ty) stop n rest)))
 
     pub scope-other :
-        OneOf (0 ∷ 1 ∷ 2 ∷ 3 ∷ 4 ∷ 5 ∷ 7 ∷ 8 ∷ 9 ∷ 10 ∷ []) (tagOf the-type l) → no 2 rs ≡ passed (scopeOf ty rs)
-    unfolding scopeOf
+        OneOf (0 ∷ 1 ∷ 2 ∷ 3 ∷ 4 ∷ 5 ∷ 7 ∷ 8 ∷ 9 ∷ 10 ∷ []) (tagOf the-type l) → no 2 rs ≡ passed (readScope ty rs)
+    unfolding readScope
     scope-other o = rw (← here, not-scope {A = Reader _} l _ _ o)
 
   module _ (left : ℕ) where
-    typeOf-more : (left ≡ 0 → ⊥) → typeOf left rs ≡ onType (typeFrom (typeOf (left - 1))) (no 2) rs
-    unfolding typeOf
+    typeOf-more : (left ≡ 0 → ⊥) → readType left rs ≡ onType (typeFrom (readType (left - 1))) (no 2) rs
+    unfolding readType
     typeOf-more h = go left h
       where
-        go : (m : ℕ) → (m ≡ 0 → ⊥) → typeOf m rs ≡ onType (typeFrom (typeOf (m - 1))) (no 2) rs
+        go : (m : ℕ) → (m ≡ 0 → ⊥) → readType m rs ≡ onType (typeFrom (readType (m - 1))) (no 2) rs
         go zero h = absurd (h refl)
         go (suc m) h = rw (sub-one (suc m))
 
     pub type-other :
-        OneOf (0 ∷ 1 ∷ 2 ∷ 3 ∷ 4 ∷ 6 ∷ 7 ∷ 8 ∷ 9 ∷ 10 ∷ []) (tagOf the-type l) → no 2 rs ≡ passed (typeOf left rs)
-    unfolding typeOf
+        OneOf (0 ∷ 1 ∷ 2 ∷ 3 ∷ 4 ∷ 6 ∷ 7 ∷ 8 ∷ 9 ∷ 10 ∷ []) (tagOf the-type l) → no 2 rs ≡ passed (readType left rs)
+    unfolding readType
     type-other o = go left
       where
-        go : (m : ℕ) → no 2 rs ≡ passed (typeOf m rs)
+        go : (m : ℕ) → no 2 rs ≡ passed (readType m rs)
         go zero = rw (← here, not-type {A = Reader _} l _ _ o)
         go (suc m) = rw (← here, not-type {A = Reader _} l _ _ o)
 
     module _ (k a b c : ℕ) (is : l ≡ Typ k a b c) where
-      pub type-deep : left ≡ 0 → no 4 rs ≡ passed (typeOf left rs)
-      unfolding typeOf
+      pub type-deep : left ≡ 0 → no 4 rs ≡ passed (readType left rs)
+      unfolding readType
       type-deep h = rw (h, ← here, is)
 
-      type-here : (left ≡ 0 → ⊥) → typeOf left rs ≡ typeFrom (typeOf (left - 1)) k a b c rest
+      type-here : (left ≡ 0 → ⊥) → readType left rs ≡ typeFrom (readType (left - 1)) k a b c rest
       type-here h = typeOf-more h ∙ rw (← here, is, ← after)
 
-      pub type-plain : (left ≡ 0 → ⊥) → k < 14 → got tt rest ≡ passed (typeOf left rs)
+      pub type-plain : (left ≡ 0 → ⊥) → k < 14 → got tt rest ≡ passed (readType left rs)
       unfolding typeFrom
       type-plain h lo = rw (type-here h, lt-ltb k 14 lo)
 
       pub type-list :
           (w : Reading (Unit {0})) → (left ≡ 0 → ⊥) → 14 ≤ k → k ≡ 14
-          → w ≡ passed (typeOf (left - 1) rest) → w ≡ passed (typeOf left rs)
+          → w ≡ passed (readType (left - 1) rest) → w ≡ passed (readType left rs)
       unfolding typeFrom
       type-list w h lo e p =
-          p ∙ sym (rw (type-here h, typeFrom, le-ltb k 14 lo, eq-eqb k 14 e) (passed-map _ (typeOf (left - 1) rest)))
+          p ∙ sym (rw (type-here h, typeFrom, le-ltb k 14 lo, eq-eqb k 14 e) (passed-map _ (readType (left - 1) rest)))
 
       pub type-branded :
           (w : Reading (Unit {0})) → (left ≡ 0 → ⊥) → 14 ≤ k → (k ≡ 14 → ⊥) → k < 18
-          → w ≡ passed (times (scopeOf (typeOf (left - 1))) end b rest) → w ≡ passed (typeOf left rs)
+          → w ≡ passed (times (readScope (readType (left - 1))) end b rest) → w ≡ passed (readType left rs)
       unfolding typeFrom
       type-branded w h lo e hi p =
           p
           ∙ sym (rw (type-here h, typeFrom, le-ltb k 14 lo, ne-eqb k 14 e, lt-ltb k 18 hi)
-          (passed-map _ (times (scopeOf (typeOf (left - 1))) end b rest)))
+          (passed-map _ (times (readScope (readType (left - 1))) end b rest)))
 
-      pub type-pointer : (left ≡ 0 → ⊥) → 14 ≤ k → (k ≡ 14 → ⊥) → 18 ≤ k → got tt rest ≡ passed (typeOf left rs)
+      pub type-pointer : (left ≡ 0 → ⊥) → 14 ≤ k → (k ≡ 14 → ⊥) → 18 ≤ k → got tt rest ≡ passed (readType left rs)
       unfolding typeFrom
       type-pointer h lo e hi = rw (type-here h, typeFrom, le-ltb k 14 lo, ne-eqb k 14 e, le-ltb k 18 hi)

@@ -19,9 +19,9 @@ use Rattle.tree.specs.Tree.{end, inherit, bind, Binds, stop, unbound, bo
 use Rattle.tree.specs.Tree.{Slot, slot, group, Field, Node, Sheet}
 use Rattle.tree.specs.Reader.{Rows, times}
 use Rattle.tree.specs.Read.{Admitted, sheet, refused, admitted}
-use Rattle.tree.specs.Read.{bindingOf, scopeOf, typeFrom, typeOf, valueOf, wordsUpTo, wordsOf, slotOf}
-use Rattle.tree.specs.Read.{among, overlap, fieldOf, fieldsUpTo, fieldsOf, groupIds, paramsOf, membersOf, nodeOf}
-use Rattle.tree.specs.Read.{nodesOf, sheetOf}
+use Rattle.tree.specs.Read.{readBinding, readScope, typeFrom, readType, valueOf, readWordsUpTo, readWords, readSlot}
+use Rattle.tree.specs.Read.{among, overlap, readField, fieldsUpTo, readFields, groupIds, readParams, readMembers, readNode}
+use Rattle.tree.specs.Read.{readNodes, readSheet}
 use Rattle.tree.specs.Print.{scopeCount, bindCount, typeRows, wordRows, fieldRows, paramRows, nodeRows, sheetRows}
 use Rattle.tree.specs.Print.{printed}
 use Rattle.tree.specs.WellFormed.{every, distinct, typeFits, nodeIds, allGroupIds, wellFormed}
@@ -211,8 +211,9 @@ expected (c ∷ cs) = c .answer ∷ expected cs
 worked : answers table ≡ expected table
 unfolding answers expected table rich down groups worded bed7 lists typed freeTree field tree node freeAs free bed
     joined printed sheetRows nodeRows paramRows fieldRows wordRows typeRows bindCount scopeCount rowText columns padded decimal
-    admitted sheetOf nodesOf nodeOf membersOf paramsOf groupIds fieldsOf fieldsUpTo fieldOf overlap among slotOf wordsOf
-    wordsUpTo valueOf typeOf typeFrom scopeOf bindingOf times lineNo size newlines restOf onto rows
+    admitted readSheet readNodes readNode readMembers readParams groupIds readFields fieldsUpTo readField overlap among
+    readSlot readWords
+    readWordsUpTo valueOf readType typeFrom readScope readBinding times lineNo size newlines restOf onto rows
     textAt textOf textStart lineAt lineOf reader
     rootLine nodeLine parameterLine fieldLine groupLine typeLine scopeLine unboundLine valueLine wordLine
     mostA mostB mostC mostCount mostBits columnOf unpadded digits trimmed isGraphicText isName all isGraphic isWord endsIn

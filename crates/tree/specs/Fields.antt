@@ -5,9 +5,9 @@ use mathlib.Core.List.{List, [], _∷_}
 use Rattle.row.specs.Line.{lineAt}
 use Rattle.tree.specs.Tree.{Field}
 use Rattle.tree.specs.Reader.{Rows, got}
-use Rattle.tree.specs.Read.{fieldOf, isField}
+use Rattle.tree.specs.Read.{readField, isField}
 
 -- the rows begin with these fields, and no F or G line follows them
 pub data FieldsHere : Rows → List Field → Type 0 where
   none : {rs : Rows} → isField (lineAt rs) ≡ false → FieldsHere rs []
-  more : {f : Field} {fs : List Field} {rs rest : Rows} → fieldOf rs ≡ got f rest → FieldsHere rest fs → FieldsHere rs (f ∷ fs)
+  more : {f : Field} {fs : List Field} {rs rest : Rows} → readField rs ≡ got f rest → FieldsHere rest fs → FieldsHere rs (f ∷ fs)

@@ -7,7 +7,7 @@ use Rattle.text.specs.Bytes.{Str}
 use Rattle.row.specs.Rows.{rows}
 use Rattle.tree.specs.Tree.{Node}
 use Rattle.tree.specs.Reader.{Reading, got, no, Reader}
-use Rattle.tree.specs.Read.{nodeOf}
+use Rattle.tree.specs.Read.{readNode}
 
 -- a fact of what is read, if anything is
 abbrev pub On : {A : Type 0} → Reading A → (A → Type 0) → Type 0
@@ -21,7 +21,7 @@ Has (no k rs) P = ⊥
 
 -- the node that stands first, whatever stood before it
 abbrev pub nodeHere : Reader Node
-nodeHere = nodeOf [] []
+nodeHere = readNode [] []
 
 -- ids and positions of nodes: each position is that of the node's N row
 unfoldable pub Indexed : Str → List Node → List ℕ → List ℕ → Type 0

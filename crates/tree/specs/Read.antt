@@ -17,13 +17,13 @@ use Rattle.tree.specs.Reader.{Reading, got, no, Reader, _then_, mapR, ti
 use Rattle.tree.specs.Reader.{onRoot, onNode, onParameter, onField, onGroup, onType, onScope, onUnbound, onValue, onWord}
 
 -- a binding: a U line, or a type
-unfoldable pub bindingOf : Reader Ty → Reader (Binds → Binds)
-bindingOf ty = onUnbound (got (λ bs. unbound bs)) (mapR (λ t bs. bound t bs) ty)
+unfoldable pub readBinding : Reader Ty → Reader (Binds → Binds)
+readBinding ty = onUnbound (got (λ bs. unbound bs)) (mapR (λ t bs. bound t bs) ty)
 
 -- a scope: an S line, 0 inherit or 1 bind, and under a bind its count of bindings
-unfoldable pub scopeOf : Reader Ty → Reader (Scopes → Scopes)
-scopeOf ty =
-    onScope (λ i b n. cond (eqb b 0) (got (λ ss. inherit i ss)) (mapR (λ bs ss. bind i bs ss) (times (bindingOf ty) stop n)))
+unfoldable pub readScope : Reader Ty → Reader (Scopes → Scopes)
+readScope ty =
+    onScope (λ i b n. cond (eqb b 0) (got (λ ss. inherit i ss)) (mapR (λ bs ss. bind i bs ss) (times (readBinding ty) stop n)))
     (no 2)
 
 -- kinds 15 to 17
@@ -39,37 +39,37 @@ unfoldable pub typeFrom : Reader Ty → ℕ → ℕ → ℕ → ℕ → Reader T
 typeFrom ty k a b c =
     cond (ltb k 14) (got (plain k))
     (cond (eqb k 14) (mapR (λ t. list t) ty)
-    (cond (ltb k 18) (mapR (branded k a) (times (scopeOf ty) end b))
+    (cond (ltb k 18) (mapR (branded k a) (times (readScope ty) end b))
     (got (pointer a b c))))
 
 -- a type with so many levels left
-unfoldable pub typeOf : ℕ → Reader Ty
-typeOf zero rs = onType (λ k a b c rest. no 4 rs) (no 2) rs
-typeOf (suc l) rs = onType (typeFrom (typeOf l)) (no 2) rs
+unfoldable pub readType : ℕ → Reader Ty
+readType zero rs = onType (λ k a b c rest. no 4 rs) (no 2) rs
+readType (suc l) rs = onType (typeFrom (readType l)) (no 2) rs
 
 -- a V line
 unfoldable pub valueOf : Reader Value
 valueOf = onValue (λ k b. got (record { kind = k; bits = b })) (no 2)
 
 -- the W lines that stand there, up to a bound
-unfoldable pub wordsUpTo : ℕ → Reader (List ℕ)
-wordsUpTo zero rs = got [] rs
-wordsUpTo (suc n) rs = onWord (λ w. mapR (w ∷_) (wordsUpTo n)) (got []) rs
+unfoldable pub readWordsUpTo : ℕ → Reader (List ℕ)
+readWordsUpTo zero rs = got [] rs
+readWordsUpTo (suc n) rs = onWord (λ w. mapR (w ∷_) (readWordsUpTo n)) (got []) rs
 
 -- 1 to 255 W lines exactly when explicit is 1 and V is of kind 12, 13, 14 or 16
 abbrev pub hasWords : ℕ → ℕ → Bool
 hasWords explicit k = both (eqb explicit 1) (either (eqb k 12) (either (eqb k 13) (either (eqb k 14) (eqb k 16))))
 
-unfoldable pub wordsOf : Bool → Reader (List ℕ)
-wordsOf true = onWord (λ w. mapR (w ∷_) (wordsUpTo 254)) (no 2)
-wordsOf false = got []
+unfoldable pub readWords : Bool → Reader (List ℕ)
+readWords true = onWord (λ w. mapR (w ∷_) (readWordsUpTo 254)) (no 2)
+readWords false = got []
 
 -- what belongs to an F line: one type, one V and its words
-unfoldable pub slotOf : ℕ → ℕ → ℕ → Reader Slot
-slotOf o e p rs =
-    typeOf 16 rs then λ t rs.
+unfoldable pub readSlot : ℕ → ℕ → ℕ → Reader Slot
+readSlot o e p rs =
+    readType 16 rs then λ t rs.
     valueOf rs then λ v rs.
-    wordsOf (hasWords e (v .kind)) rs then λ ws.
+    readWords (hasWords e (v .kind)) rs then λ ws.
     got (record { offset = o; explicit = e; option = p; ty = t; default = v; words = ws })
 
 -- whether a number stands in a list
@@ -85,9 +85,9 @@ abbrev pub isField : Line → Bool
 isField l = asField l (λ o d e p. true) (asGroup l (λ i d. true) false)
 
 -- a field: an F line and what belongs to it, or a G line
-unfoldable pub fieldOf : Reader Field
-fieldOf =
-    onField (λ o d e p name. mapR (λ sl. field name d (slot sl)) (slotOf o e p))
+unfoldable pub readField : Reader Field
+readField =
+    onField (λ o d e p name. mapR (λ sl. field name d (slot sl)) (readSlot o e p))
     (onGroup (λ i d name. got (field name d (group i))) (no 2))
 
 -- the group id of a G line
@@ -108,7 +108,7 @@ overlap (i ∷ is) seen = either (among i seen) (overlap is seen)
 abbrev pub fieldsFrom : (List ℕ → Reader (List Field)) → List ℕ → Reader (List Field)
 fieldsFrom more seen rs =
     cond {A = Reader (List Field)} (isField (lineAt rs))
-    (λ rs. fieldOf rs then λ f.
+    (λ rs. readField rs then λ f.
     cond (overlap (groupId (f .arm)) seen) (λ rest. no 3 rs) (mapR (f ∷_) (more (seen ++ groupId (f .arm)))))
     (got [])
     rs
@@ -119,27 +119,27 @@ fieldsUpTo zero seen rs = got [] rs
 fieldsUpTo (suc n) seen rs = fieldsFrom (fieldsUpTo n) seen rs
 
 -- all of them: no more than there are rows
-unfoldable pub fieldsOf : List ℕ → Reader (List Field)
-fieldsOf seen rs = fieldsUpTo (length rs) seen rs
+unfoldable pub readFields : List ℕ → Reader (List Field)
+readFields seen rs = fieldsUpTo (length rs) seen rs
 
 -- the P lines that stand there
-unfoldable pub paramsOf : Reader (List Str)
-paramsOf [] = got [] []
-paramsOf (r ∷ rs) = onParameter (λ name rest. paramsOf rs then λ ps. got (name ∷ ps)) (got []) (r ∷ rs)
+unfoldable pub readParams : Reader (List Str)
+readParams [] = got [] []
+readParams (r ∷ rs) = onParameter (λ name rest. readParams rs then λ ps. got (name ∷ ps)) (got []) (r ∷ rs)
 
 -- what belongs to an N line: its P lines, its F and G lines
-unfoldable pub membersOf : List ℕ → (List Str → List Field → Node) → Reader Node
-membersOf seen node rs =
-    paramsOf rs then λ ps rs.
-    fieldsOf seen rs then λ fs.
+unfoldable pub readMembers : List ℕ → (List Str → List Field → Node) → Reader Node
+readMembers seen node rs =
+    readParams rs then λ ps rs.
+    readFields seen rs then λ fs.
     got (node ps fs)
 
 -- a node; `ids`: the ids of all N lines before, `seen`: of all G lines before
-unfoldable pub nodeOf : List ℕ → List ℕ → Reader Node
-nodeOf ids seen rs =
+unfoldable pub readNode : List ℕ → List ℕ → Reader Node
+readNode ids seen rs =
     onNode (λ i p sc st g tc to theMod.
     cond (among i ids) (λ rest. no 3 rs)
-    (membersOf seen (λ ps fs. record {
+    (readMembers seen (λ ps fs. record {
       id = i;
       parent = p;
       scope = sc;
@@ -155,15 +155,15 @@ nodeOf ids seen rs =
     rs
 
 -- 1 to n nodes up to the end of the sheet
-unfoldable pub nodesOf : ℕ → List ℕ → List ℕ → Reader (List Node)
-nodesOf zero ids seen rs = no 2 rs
-nodesOf (suc n) ids seen rs =
-    nodeOf ids seen rs then λ nd.
-    atEnd (got (nd ∷ [])) (mapR (nd ∷_) (nodesOf n (ids ++ unit (nd .id)) (seen ++ groupIds (nd .fields))))
+unfoldable pub readNodes : ℕ → List ℕ → List ℕ → Reader (List Node)
+readNodes zero ids seen rs = no 2 rs
+readNodes (suc n) ids seen rs =
+    readNode ids seen rs then λ nd.
+    atEnd (got (nd ∷ [])) (mapR (nd ∷_) (readNodes n (ids ++ unit (nd .id)) (seen ++ groupIds (nd .fields))))
 
 -- a sheet: one R line, then 1 to 64 nodes
-unfoldable pub sheetOf : Reader Sheet
-sheetOf = onRoot (λ root. mapR (λ ns. record { root = root; nodes = ns }) (nodesOf 64 [] [])) (no 2)
+unfoldable pub readSheet : Reader Sheet
+readSheet = onRoot (λ root. mapR (λ ns. record { root = root; nodes = ns }) (readNodes 64 [] [])) (no 2)
 
 -- what a sheet is: its tree, or the number and the line of its refusal
 pub data Admitted : Type 0 where
@@ -176,4 +176,4 @@ numbered s (got sh rs) = sheet sh
 numbered s (no k rs) = refused k (lineNo s rs)
 
 unfoldable pub admitted : Str → Admitted
-admitted s = elim (ltb 65536 (length s)) [ true ↦ refused 1 0 | false ↦ numbered s (sheetOf (rows s)) ]
+admitted s = elim (ltb 65536 (length s)) [ true ↦ refused 1 0 | false ↦ numbered s (readSheet (rows s)) ]

@@ -27,9 +27,9 @@ abbrev pub isFlag : ℕ → Bool
 isFlag n = fits 1 n
 
 -- whether all of some tests hold
-abbrev pub allOf : List Bool → Bool
-allOf [] = true
-allOf (t ∷ ts) = both t (allOf ts)
+abbrev pub everyTest : List Bool → Bool
+everyTest [] = true
+everyTest (t ∷ ts) = both t (everyTest ts)
 
 -- whether all of a list pass a test
 unfoldable pub every : {A : Type 0} → (A → Bool) → List A → Bool
@@ -72,7 +72,7 @@ wordsFit true ws = both (both (ltb 0 (length ws)) (ltb (length ws) 256)) (every 
 wordsFit false ws = eqb (length ws) 0
 
 abbrev pub slotFits : Slot → Bool
-slotFits s = allOf (
+slotFits s = everyTest (
     fits 32 (s .offset) ∷ isFlag (s .explicit) ∷ isFlag (s .option) ∷ typeFits (s .ty) 16 ∷ valueFits (s .default)
     ∷ wordsFit (hasWords (s .explicit) (s .default .kind)) (s .words) ∷ [])
 
@@ -81,10 +81,10 @@ armFits (slot s) = slotFits s
 armFits (group i) = isId i
 
 abbrev pub fieldFits : Field → Bool
-fieldFits f = allOf (isName (f .name) ∷ fits 16 (f .discriminant) ∷ armFits (f .arm) ∷ [])
+fieldFits f = everyTest (isName (f .name) ∷ fits 16 (f .discriminant) ∷ armFits (f .arm) ∷ [])
 
 abbrev pub nodeFits : Node → Bool
-nodeFits n = allOf (
+nodeFits n = everyTest (
     isId (n .id) ∷ fits 64 (n .parent) ∷ fits 64 (n .scope) ∷ isFlag (n .isStruct) ∷ isFlag (n .generic) ∷ fits 16 (n .tagCount)
     ∷ fits 32 (n .tagOffset) ∷ isGraphicText 128 (n .theMod) ∷ every isName (n .params) ∷ every fieldFits (n .fields) ∷ [])
 
@@ -98,6 +98,6 @@ allGroupIds [] = []
 allGroupIds (n ∷ ns) = groupIds (n .fields) ++ allGroupIds ns
 
 unfoldable pub wellFormed : Sheet → Bool
-wellFormed sh = allOf (
+wellFormed sh = everyTest (
     isGraphicText 64 (sh .root) ∷ ltb 0 (length (sh .nodes)) ∷ ltb (length (sh .nodes)) 65 ∷ every nodeFits (sh .nodes)
     ∷ distinct (nodeIds (sh .nodes)) ∷ distinct (allGroupIds (sh .nodes)) ∷ leb (length (printed sh)) 65536 ∷ [])

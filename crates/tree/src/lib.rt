@@ -1,13 +1,15 @@
 // Walks over the parts of a sheet: a type with its brand, a slot's default and words. Each gives the position after the part,
 // or its refusal and the position of the bad line.
 use row::Line;
+use terms::kinds;
+use terms::refusals;
 ghost use mathlib.Core.Path.{_≡_};
 ghost use Prim.Native.Nat.{ℕ};
 ghost use lib.ListN.{drop};
 ghost use Rattle.row.specs.Rows.{rows};
 ghost use Rattle.tree.specs.Tree.{end, stop};
 ghost use Rattle.tree.specs.Reader.{times};
-ghost use Rattle.tree.specs.Read.{typeOf, scopeOf, bindingOf, wordsUpTo, wordsOf, hasWords, slotOf};
+ghost use Rattle.tree.specs.Read.{readType, readScope, readBinding, readWordsUpTo, readWords, hasWords, readSlot};
 ghost use Rattle.tree.specs.Walked.{passed, walked};
 
 // Where a walk came to: the next row, or the row that is refused and the number of the refusal.
@@ -18,7 +20,7 @@ pub enum Walk {
 
 // One type with so many levels left: a T row, and what belongs to it.
 fn typ(s: &[u8], at: usize, left: usize) -> Walk
-    ensures { λ r. ⌜ walked (now (s .entry)) r ≡ passed (typeOf left (rows (drop at (now (s .entry))))) ⌝ }
+    ensures { λ r. ⌜ walked (now (s .entry)) r ≡ passed (readType left (rows (drop at (now (s .entry))))) ⌝ }
 {
     let g = row::next(s, at);
     let l = g.line;
@@ -31,27 +33,33 @@ fn typ(s: &[u8], at: usize, left: usize) -> Walk
             c: _,
         } => {
             if left == 0 {
-                return Walk::Refused { number: 4, at };
+                return Walk::Refused {
+                    number: refusals::TOO_DEEP,
+                    at,
+                };
             }
-            if kind < 14 {
+            if kind < kinds::LIST {
                 return Walk::Next { at: e };
             }
-            if kind == 14 {
+            if kind == kinds::LIST {
                 return typ(s, e, left - 1);
             }
-            if kind < 18 {
+            if kind < kinds::ANY_POINTER {
                 return scopes(s, e, left - 1, b);
             }
             Walk::Next { at: e }
         }
-        _ => Walk::Refused { number: 2, at },
+        _ => Walk::Refused {
+            number: refusals::BAD_LINE,
+            at,
+        },
     }
 }
 
 // So many scopes, whose bindings have so many levels left.
 fn scopes(s: &[u8], from: usize, left: usize, count: u64) -> Walk
     ensures { λ r. ⌜ walked (now (s .entry)) r
-        ≡ passed (times (scopeOf (typeOf left)) end count (rows (drop from (now (s .entry))))) ⌝ }
+        ≡ passed (times (readScope (readType left)) end count (rows (drop from (now (s .entry))))) ⌝ }
 {
     let mut at = from;
     let mut n = count;
@@ -71,7 +79,7 @@ fn scopes(s: &[u8], from: usize, left: usize, count: u64) -> Walk
 
 // One scope: an S row and its bindings.
 fn scope(s: &[u8], at: usize, left: usize) -> Walk
-    ensures { λ r. ⌜ walked (now (s .entry)) r ≡ passed (scopeOf (typeOf left) (rows (drop at (now (s .entry))))) ⌝ }
+    ensures { λ r. ⌜ walked (now (s .entry)) r ≡ passed (readScope (readType left) (rows (drop at (now (s .entry))))) ⌝ }
 {
     let g = row::next(s, at);
     let l = g.line;
@@ -83,14 +91,17 @@ fn scope(s: &[u8], at: usize, left: usize) -> Walk
             }
             binds(s, e, left, count)
         }
-        _ => Walk::Refused { number: 2, at },
+        _ => Walk::Refused {
+            number: refusals::BAD_LINE,
+            at,
+        },
     }
 }
 
 // So many bindings, whose types have so many levels left: in each turn the U rows that stand there, or one binding.
 fn binds(s: &[u8], from: usize, left: usize, count: u64) -> Walk
     ensures { λ r. ⌜ walked (now (s .entry)) r
-        ≡ passed (times (bindingOf (typeOf left)) stop count (rows (drop from (now (s .entry))))) ⌝ }
+        ≡ passed (times (readBinding (readType left)) stop count (rows (drop from (now (s .entry))))) ⌝ }
 {
     let mut at = from;
     let mut n = count;
@@ -116,7 +127,7 @@ fn binds(s: &[u8], from: usize, left: usize, count: u64) -> Walk
 
 // One binding: a U row, or a type.
 fn binding(s: &[u8], at: usize, left: usize) -> Walk
-    ensures { λ r. ⌜ walked (now (s .entry)) r ≡ passed (bindingOf (typeOf left) (rows (drop at (now (s .entry))))) ⌝ }
+    ensures { λ r. ⌜ walked (now (s .entry)) r ≡ passed (readBinding (readType left) (rows (drop at (now (s .entry))))) ⌝ }
 {
     let g = row::next(s, at);
     let l = g.line;
@@ -129,7 +140,7 @@ fn binding(s: &[u8], at: usize, left: usize) -> Walk
 
 // The W rows that stand there, up to so many.
 fn words_up_to(s: &[u8], from: usize, count: u64) -> Walk
-    ensures { λ r. ⌜ walked (now (s .entry)) r ≡ passed (wordsUpTo count (rows (drop from (now (s .entry))))) ⌝ }
+    ensures { λ r. ⌜ walked (now (s .entry)) r ≡ passed (readWordsUpTo count (rows (drop from (now (s .entry))))) ⌝ }
 {
     let mut at = from;
     let mut n = count;
@@ -153,28 +164,31 @@ pub fn has_words(explicit: u64, kind: u64) -> bool
     if explicit != 1 {
         return false;
     }
-    if kind == 12 {
+    if kind == kinds::TEXT {
         return true;
     }
-    if kind == 13 {
+    if kind == kinds::DATA {
         return true;
     }
-    if kind == 14 {
+    if kind == kinds::LIST {
         return true;
     }
-    kind == 16
+    kind == kinds::STRUCT
 }
 
 // The W rows of a slot: 1 to 255 where they belong, else none.
 fn words(s: &[u8], at: usize, has: bool) -> Walk
-    ensures { λ r. ⌜ walked (now (s .entry)) r ≡ passed (wordsOf has (rows (drop at (now (s .entry))))) ⌝ }
+    ensures { λ r. ⌜ walked (now (s .entry)) r ≡ passed (readWords has (rows (drop at (now (s .entry))))) ⌝ }
 {
     if has {
         let g = row::next(s, at);
         let l = g.line;
         let e = g.next;
         let Line::Word { value: _ } = l else {
-            return Walk::Refused { number: 2, at };
+            return Walk::Refused {
+                number: refusals::BAD_LINE,
+                at,
+            };
         };
         return words_up_to(s, e, 254);
     }
@@ -183,7 +197,8 @@ fn words(s: &[u8], at: usize, has: bool) -> Walk
 
 // What belongs to an F row with this explicit flag: a type, a V row and its words.
 pub fn slot(s: &[u8], at: usize, explicit: u64) -> Walk
-    ensures { λ r. ⌜ ((o p : ℕ) → walked (now (s .entry)) r ≡ passed (slotOf o explicit p (rows (drop at (now (s .entry)))))) ⌝ }
+    ensures { λ r. ⌜ ((o p : ℕ) → walked (now (s .entry)) r ≡ passed (readSlot o explicit p (rows (drop at (now
+        (s .entry)))))) ⌝ }
 {
     match typ(s, at, 16) {
         Walk::Next { at: v } => {
@@ -191,7 +206,10 @@ pub fn slot(s: &[u8], at: usize, explicit: u64) -> Walk
             let l = g.line;
             let e = g.next;
             let Line::Value { kind, bits: _ } = l else {
-                return Walk::Refused { number: 2, at: v };
+                return Walk::Refused {
+                    number: refusals::BAD_LINE,
+                    at: v,
+                };
             };
             words(s, e, has_words(explicit, kind))
         }

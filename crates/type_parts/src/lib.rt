@@ -5,6 +5,8 @@ use codegen_types::Refusal;
 use codegen_types::Written;
 use nodes::Found;
 use nodes::Position;
+use terms::kinds;
+use terms::refusals;
 use text::Text;
 ghost use mathlib.Core.Path.{_≡_};
 ghost use mathlib.Core.List.{_++_};
@@ -47,10 +49,10 @@ pub fn displayed(root: &[u8], path: &[u8], leaf: Leaf, t: Text, buf: &mut [u8]) 
 pub fn plain(root: &[u8], kind: u64, leaf: Leaf, t: Text, buf: &mut [u8]) -> Text
     ensures { λ r. ⌜ Wrote (now (buf .entry)) t (plainString (now (root .entry)) leaf kind) (now (buf .exit)) r ⌝ }
 {
-    if kind == codegen_types::TEXT {
+    if kind == kinds::TEXT {
         return displayed(root, b"::text::", leaf, t, buf);
     }
-    if kind == codegen_types::DATA {
+    if kind == kinds::DATA {
         return displayed(root, b"::data::", leaf, t, buf);
     }
     codegen_types::type_name(t, buf, kind)
@@ -60,16 +62,16 @@ pub fn plain(root: &[u8], kind: u64, leaf: Leaf, t: Text, buf: &mut [u8]) -> Tex
 fn list_module(kind: u64, t: Text, buf: &mut [u8]) -> Text
     ensures { λ r. ⌜ Wrote (now (buf .entry)) t (ascii "::" ++ listModule kind ++ ascii "::") (now (buf .exit)) r ⌝ }
 {
-    if kind == codegen_types::STRUCT {
+    if kind == kinds::STRUCT {
         return t.bytes(buf, b"::struct_list::");
     }
-    if kind == codegen_types::ENUM {
+    if kind == kinds::ENUM {
         return t.bytes(buf, b"::enum_list::");
     }
-    if kind == codegen_types::LIST {
+    if kind == kinds::LIST {
         return t.bytes(buf, b"::list_list::");
     }
-    if kind == codegen_types::INTERFACE {
+    if kind == kinds::INTERFACE {
         return t.bytes(buf, b"::capability_list::");
     }
     t.bytes(buf, b"::primitive_list::")
@@ -121,7 +123,7 @@ fn parameter_text(root: &[u8], name: &[u8], leaf: Leaf, t: Text, buf: &mut [u8])
         },
         Leaf::Owned => codegen_types::whole(t.bytes(buf, name)),
         Leaf::Pipeline => projected(root, name, b"::traits::Pipelined>::Pipeline", t, buf),
-        _ => codegen_types::refused(t, 7),
+        _ => codegen_types::refused(t, refusals::PARAMETER_LEAF),
     }
 }
 
@@ -140,10 +142,10 @@ pub fn parameter(
         (λ sheet. Writes (typeString (parameter id k) sheet leaf) (now (buf .entry)) t (now (buf .exit)) r) ⌝ }
 {
     let Found::At(node) = nodes::find(index, id) else {
-        return codegen_types::refused(t, 5);
+        return codegen_types::refused(t, refusals::NO_NODE);
     };
     let Position::At(place) = nodes::parameter(s, index, node, k) else {
-        return codegen_types::refused(t, 13);
+        return codegen_types::refused(t, refusals::PARAMETER_INDEX);
     };
     let name = row::text(s, place);
     parameter_text(root, name, leaf, t, buf)
@@ -155,7 +157,7 @@ pub fn qualified_module(s: &[u8], index: &[u64], id: u64, t: Text, buf: &mut [u8
         (λ sheet. Writes (getQualifiedModule sheet id) (now (buf .entry)) t (now (buf .exit)) r)) ⌝ }
 {
     let Found::At(node) = nodes::find(index, id) else {
-        return codegen_types::refused(t, 5);
+        return codegen_types::refused(t, refusals::NO_NODE);
     };
     let name = nodes::module(s, node);
     codegen_types::whole(t.bytes(buf, name))

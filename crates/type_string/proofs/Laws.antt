@@ -22,7 +22,7 @@ use Rattle.row.specs.declared.Line.the-variants.{Scope, Unbound}
 use Rattle.tree.specs.Tree.{list, struct, Scopes, end, Binds, stop, Node, Sheet}
 use Rattle.tree.specs.Reader.{Rows, Reading, got, no, times}
 use Rattle.tree.specs.Read as read
-use Rattle.tree.specs.Read.{typeOf, typeFrom, bindingOf}
+use Rattle.tree.specs.Read.{readType, typeFrom, readBinding}
 use Rattle.tree.specs.Index.{On, Has}
 use Rattle.nodes.specs.Index.{namesOf, sheetOf, Indexed}
 use Rattle.codegen_types.specs.Out.{Out, ok, refused, _then_}
@@ -39,13 +39,13 @@ use Rattle.codegen_types.specs.declared.Leaf.the-variants.{Owned}
 use Rattle.codegen_types.specs.declared.Written.{Written}
 use Rattle.codegen_types.proofs.Laws.{refusal-then, brand-chain}
 use Rattle.codegen_types.proofs.WrittenLaws.{not-ok, ok-one, text-of, around}
-use Rattle.find.specs.Find.{pastRows, ScopeAt, before, endOf, ChainOf, Placed}
-use Rattle.find.specs.declared.Links.{Links}
-use Rattle.find.proofs.ChainLaws.{before-step, before-out}
-use Rattle.find.proofs.ScopeLaws.{placed, scope-there}
-use Rattle.find.proofs.Laws.{on-one, on-two, on-all}
-use Rattle.find.proofs.TypeLaws as read-law
-use Rattle.find.proofs.TypeLaws.{list-of, times-none, binds-more, binds-length, scope-inherit, scope-binds, scope-not}
+use Rattle.types.specs.Find.{pastRows, ScopeAt, before, endOf, ChainOf, LastScopes}
+use Rattle.types.specs.declared.Links.{Links}
+use Rattle.types.proofs.ChainLaws.{before-step, before-out}
+use Rattle.types.proofs.ScopeLaws.{placed, scope-there}
+use Rattle.types.proofs.Laws.{on-one, on-two, on-all}
+use Rattle.types.proofs.TypeLaws as read-law
+use Rattle.types.proofs.TypeLaws.{list-of, times-none, binds-more, binds-length, scope-inherit, scope-binds, scope-not}
 use Rattle.type_parts.specs.Parts.{Lists, Listed, Opened, closer}
 use Rattle.type_parts.specs.declared.Arguments.{Arguments}
 use Rattle.type_parts.specs.declared.Argued.{Argued}
@@ -67,32 +67,32 @@ clash {A} {r} {k} e f = absurd (subst go (sym e ∙ f) tt)
 module _ (sheet : Sheet) (leaf : Leaf) (left k a b c : ℕ) (rest : Rows) where
   module _ {l : List ℕ} {t : Text} {l′ : List ℕ} {r : Written} where
     pub list-text : k ≡ 12 → Writes (ok (sheet .root ++ ascii "::text_list::" ++ display leaf)) l t l′ r
-        → On (typeFrom (typeOf left) k a b c rest) (λ ty. Writes (typeString (list ty) sheet leaf) l t l′ r)
+        → On (typeFrom (readType left) k a b c rest) (λ ty. Writes (typeString (list ty) sheet leaf) l t l′ r)
     unfolding listString
     list-text z w = list-of sheet leaf left k a b c rest (λ o. Writes o l t l′ r) (omega arith)
         (on-all {P = λ ty. Writes (listString (sheet .root) leaf k (typeString ty sheet (elementLeaf k))) l t l′ r}
-        (λ ty. rw (eq-eqb k 12 z) w) (typeFrom (typeOf left) k a b c rest))
+        (λ ty. rw (eq-eqb k 12 z) w) (typeFrom (readType left) k a b c rest))
 
     pub list-data : (k ≡ 12 → ⊥) → k ≡ 13 → Writes (ok (sheet .root ++ ascii "::data_list::" ++ display leaf)) l t l′ r
-        → On (typeFrom (typeOf left) k a b c rest) (λ ty. Writes (typeString (list ty) sheet leaf) l t l′ r)
+        → On (typeFrom (readType left) k a b c rest) (λ ty. Writes (typeString (list ty) sheet leaf) l t l′ r)
     unfolding listString
     list-data y z w = list-of sheet leaf left k a b c rest (λ o. Writes o l t l′ r) (omega arith)
         (on-all {P = λ ty. Writes (listString (sheet .root) leaf k (typeString ty sheet (elementLeaf k))) l t l′ r}
-        (λ ty. rw (ne-eqb k 12 y, eq-eqb k 13 z) w) (typeFrom (typeOf left) k a b c rest))
+        (λ ty. rw (ne-eqb k 12 y, eq-eqb k 13 z) w) (typeFrom (readType left) k a b c rest))
 
   pub list-inner : {l : List ℕ} {t : Text} {l₁ : List ℕ} {t₁ : Text} {l₂ : List ℕ} {w : Written} {l₃ : List ℕ} {t₃ : Text}
       {q : Written} (e : Leaf) → (k ≡ 12 → ⊥) → (k ≡ 13 → ⊥) → k < 18 → e ≡ elementLeaf k
       → Wrote l t (sheet .root ++ ascii "::" ++ listModule k ++ ascii "::" ++ bareName leaf ++ ascii "<" ++ lifetimeComma leaf)
       l₁ t₁
-      → On (typeFrom (typeOf left) k a b c rest) (λ ty. Writes (typeString ty sheet e) l₁ t₁ l₂ w)
+      → On (typeFrom (readType left) k a b c rest) (λ ty. Writes (typeString ty sheet e) l₁ t₁ l₂ w)
       → Wrote l₂ (w .text) (unit 62) l₃ t₃ → q .text ≡ t₃ → q .refusal ≡ w .refusal
-      → On (typeFrom (typeOf left) k a b c rest) (λ ty. Writes (typeString (list ty) sheet leaf) l t l₃ q)
+      → On (typeFrom (readType left) k a b c rest) (λ ty. Writes (typeString (list ty) sheet leaf) l t l₃ q)
   unfolding listString
   list-inner {l} {t} {l₁} {t₁} {l₂} {w} {l₃} {t₃} {q} e x y z i head h tail f g =
       list-of sheet leaf left k a b c rest (λ o. Writes o l t l₃ q) z
       (on-one (λ ty. Writes (typeString ty sheet e) l₁ t₁ l₂ w)
       (λ ty. Writes (listString (sheet .root) leaf k (typeString ty sheet (elementLeaf k))) l t l₃ q)
-      (typeFrom (typeOf left) k a b c rest)
+      (typeFrom (readType left) k a b c rest)
       (λ ty v. rw (ne-eqb k 12 x, ne-eqb k 13 y, ne-eqb k 18 (λ j. omega arith))
       (around (typeString ty sheet (elementLeaf k)) head (rw i at v) tail f g)) h)
 
@@ -109,7 +109,7 @@ Outer root s ns c k l p l′ r ss = Lists (outward (before root s (scopesOf ss (
 module _ (root s index : List ℕ) (ns : List Node) (x : Indexed s ns index) (id : ℕ) (c : Links) (w : ChainOf s index id c)
     (left at n : ℕ) where
   abbrev G : Reading Scopes
-  G = times (read.scopeOf (typeOf left)) end n (rows (drop at s))
+  G = times (read.readScope (readType left)) end n (rows (drop at s))
 
   chain-start : (l : List ℕ) (p : Arguments) → On G (Outer root s ns c (c .count) l p l (argued p (c .refusal)))
   unfolding outermostFirst
@@ -131,7 +131,7 @@ module _ (root s index : List ℕ) (ns : List Node) (x : Indexed s ns index) (id
       zero : k ≡ 0
       zero = omega arith
 
-  chain-next : (places : List ℕ) → Placed s at n (take (c .count) (c .ids)) places → (k : ℕ) → 0 < k → k ≤ c .count
+  chain-next : (places : List ℕ) → LastScopes s at n (take (c .count) (c .ids)) places → (k : ℕ) → 0 < k → k ≤ c .count
       → (l : List ℕ) (p : Arguments) (l₁ : List ℕ) (q : Arguments) (f : Refusal) (l₂ : List ℕ) (r : Argued)
       → On G (Outer root s ns c k l p l₁ (argued q f))
       → ((o : Option typeString.Scope) → ScopeAt left (sheetOf root ns) (rows (drop (getD places (k - 1) 0) s)) o
@@ -175,8 +175,8 @@ module _ (root s index : List ℕ) (ns : List Node) (x : Indexed s ns index) (id
 pub record Writing (root s index : List ℕ) (left : ℕ) (l : List ℕ) (p : Arguments) (c : Links) (places : List ℕ)
     (l′ : List ℕ) (p′ : Arguments) (f : Refusal) (k : ℕ) : Type 0 where
   pub outer : (b : Brand) → ChainOf s index (b .id) c
-      → Placed s (b .scopes) (b .count) (take (c .count) (c .ids)) places → (ns : List Node) → Indexed s ns index
-      → On (times (read.scopeOf (typeOf left)) end (b .count) (rows (drop (b .scopes) s)))
+      → LastScopes s (b .scopes) (b .count) (take (c .count) (c .ids)) places → (ns : List Node) → Indexed s ns index
+      → On (times (read.readScope (readType left)) end (b .count) (rows (drop (b .scopes) s)))
       (Outer root s ns c k l p l′ (argued p′ f))
 
 module _ (root s index : List ℕ) (left : ℕ) (l : List ℕ) (p : Arguments) (c : Links) (places : List ℕ) where
@@ -199,7 +199,8 @@ module _ (root s index : List ℕ) (left : ℕ) (l : List ℕ) (p : Arguments) (
     }
 
     pub writing-end : k ≤ 0 → (b : Brand) → ChainOf s index (b .id) c
-        → Placed s (b .scopes) (b .count) (take (c .count) (c .ids)) places → ChainTold root s index b left l p l₁ (argued q f)
+        → LastScopes s (b .scopes) (b .count) (take (c .count) (c .ids)) places
+        → ChainTold root s index b left l p l₁ (argued q f)
     writing-end h b v there = λ ns x. chain-end root s index ns x (b .id) c v left (b .scopes) (b .count) k l p l₁ (argued q f) h
         ((w .outer) b v there ns x)
 
@@ -253,11 +254,11 @@ module _ (left : ℕ) (sheet : Sheet) (q ps : Rows) (line : Line) (at : line ≡
         (scope-there left sheet q o line i b m at is here) in rw y (all-listed (w count) f)
 
     module _ (rest : Rows) (next : rest ≡ restOf q) (z : b ≡ 0 → ⊥) where
-      by-binds : (Q : Out (List Str) → Type 0) → On (times (bindingOf (typeOf left)) stop m rest)
+      by-binds : (Q : Out (List Str) → Type 0) → On (times (readBinding (readType left)) stop m rest)
           (λ bs. Q (cond (eqb m own) (allOf (bindingsOf bs sheet)) (refused 8)))
           → Q (argumentsOf (sheet .root) (namesOf ps) o)
       unfolding argumentsOf
-      by-binds Q u = go (times (bindingOf (typeOf left)) stop m rest) o
+      by-binds Q u = go (times (readBinding (readType left)) stop m rest) o
           (scope-binds left sheet q rest o line i b m at is next z (scope-there left sheet q o line i b m at is here)) u
           (binds-length left sheet m rest)
         where
@@ -270,32 +271,32 @@ module _ (left : ℕ) (sheet : Sheet) (q ps : Rows) (line : Line) (at : line ≡
 
       pub own-8 : (m ≡ own → ⊥) → r .refusal ≡ Number 8 → Lists (argumentsOf (sheet .root) (namesOf ps) o) l p l′ r
       own-8 y f = by-binds (λ a. Lists a l p l′ r) (on-all {P = λ bs. Lists (cond (eqb m own) (allOf (bindingsOf bs sheet))
-          (refused 8)) l p l′ r} (λ bs. rw (ne-eqb m own y) (not-listed f)) (times (bindingOf (typeOf left)) stop m rest))
+          (refused 8)) l p l′ r} (λ bs. rw (ne-eqb m own y) (not-listed f)) (times (readBinding (readType left)) stop m rest))
 
       pub own-binds : m ≡ own
-          → On (times (bindingOf (typeOf left)) stop m rest) (λ bs. Lists (allOf (bindingsOf bs sheet)) l p l′ r)
+          → On (times (readBinding (readType left)) stop m rest) (λ bs. Lists (allOf (bindingsOf bs sheet)) l p l′ r)
           → Lists (argumentsOf (sheet .root) (namesOf ps) o) l p l′ r
       own-binds y u = by-binds (λ a. Lists a l p l′ r) (rw (eq-eqb m own y) u)
 
 -- ---- bindings
 
 pub binds-none : (sheet : Sheet) (left n : ℕ) (rs : Rows) (l : List ℕ) (p : Arguments) (f : Refusal) → n ≤ 0 → f ≡ None
-    → On (times (bindingOf (typeOf left)) stop n rs) (λ bs. Lists (allOf (bindingsOf bs sheet)) l p l (argued p f))
+    → On (times (readBinding (readType left)) stop n rs) (λ bs. Lists (allOf (bindingsOf bs sheet)) l p l (argued p f))
 unfolding allOf bindingsOf
 binds-none sheet left n rs l p f h e =
-    rw (times-none (bindingOf (typeOf left)) stop n rs h) (all-listed (listed-none l p) e)
+    rw (times-none (readBinding (readType left)) stop n rs h) (all-listed (listed-none l p) e)
 
 abbrev args : Text → ℕ → Arguments
 args t b = record { text = t; sep = b }
 
 module _ (sheet : Sheet) (left n : ℕ) (rs rest : Rows) (more : 0 < n) (past : rest ≡ pastRows rs 1) (l : List ℕ) (p : Arguments)
     (l₁ : List ℕ) (t₁ : Text) (l₂ : List ℕ) (w : Written) (a : Wrote l (p .text) (unit (p .sep)) l₁ t₁)
-    (one : On (bindingOf (typeOf left) rs) (λ f. Writes (onlyOf (bindingsOf (f stop) sheet)) l₁ t₁ l₂ w))
+    (one : On (readBinding (readType left) rs) (λ f. Writes (onlyOf (bindingsOf (f stop) sheet)) l₁ t₁ l₂ w))
     (l′ : List ℕ) (r : Argued) where
   pub binds-on : w .refusal ≡ None
-      → On (times (bindingOf (typeOf left)) stop (n - 1) rest)
+      → On (times (readBinding (readType left)) stop (n - 1) rest)
       (λ bs. Lists (allOf (bindingsOf bs sheet)) l₂ (args (w .text) 44) l′ r)
-      → On (times (bindingOf (typeOf left)) stop n rs) (λ bs. Lists (allOf (bindingsOf bs sheet)) l p l′ r)
+      → On (times (readBinding (readType left)) stop n rs) (λ bs. Lists (allOf (bindingsOf bs sheet)) l p l′ r)
   unfolding allOf
   binds-on z h =
       binds-more left n rs rest more past (λ f. Writes (onlyOf (bindingsOf (f stop) sheet)) l₁ t₁ l₂ w)
@@ -311,12 +312,12 @@ module _ (sheet : Sheet) (left n : ℕ) (rs rest : Rows) (more : 0 < n) (past : 
       go (refused k) os g v = clash z (g .refusal)
 
   pub binds-stop : (k : ℕ) → w .refusal ≡ Number k → r .refusal ≡ w .refusal
-      → On (times (bindingOf (typeOf left)) stop n rs) (λ bs. Lists (allOf (bindingsOf bs sheet)) l p l′ r)
+      → On (times (readBinding (readType left)) stop n rs) (λ bs. Lists (allOf (bindingsOf bs sheet)) l p l′ r)
   unfolding allOf
   binds-stop k z e =
       binds-more left n rs rest more past (λ f. Writes (onlyOf (bindingsOf (f stop) sheet)) l₁ t₁ l₂ w) (λ bs. Unit {0})
       (λ bs. Lists (allOf (bindingsOf bs sheet)) l p l′ r) one
-      (on-all {P = λ bs. Unit {0}} (λ bs. tt) (times (bindingOf (typeOf left)) stop (n - 1) rest))
+      (on-all {P = λ bs. Unit {0}} (λ bs. tt) (times (readBinding (readType left)) stop (n - 1) rest))
       (λ f o u bs v. rw (o .first sheet bs) (go (o .text sheet) (allOf (bindingsOf bs sheet)) (rw (o .first sheet stop) at u)))
     where
       go : (o : Out Str) (os : Out (List Str)) → Writes o l₁ t₁ l₂ w → Lists (o then λ x. os then λ xs. ok (x ∷ xs)) l p l′ r
@@ -327,12 +328,12 @@ module _ (sheet : Sheet) (left n : ℕ) (rs rest : Rows) (more : 0 < n) (past : 
 module _ (sheet : Sheet) (left : ℕ) (rs : Rows) (line : Line) (at : line ≡ lineAt rs) (l : List ℕ) (t : Text) (l′ : List ℕ)
     (r : Written) where
   pub bind-unbound : line ≡ Unbound → Writes (ok (anyOwned (sheet .root))) l t l′ r
-      → On (bindingOf (typeOf left) rs) (λ f. Writes (onlyOf (bindingsOf (f stop) sheet)) l t l′ r)
+      → On (readBinding (readType left) rs) (λ f. Writes (onlyOf (bindingsOf (f stop) sheet)) l t l′ r)
   unfolding bindingsOf
   bind-unbound is w = read-law.bind-unbound left rs (λ f. Writes (onlyOf (bindingsOf (f stop) sheet)) l t l′ r) line at is w
 
   pub bind-typed : OneOf (0 ∷ 1 ∷ 2 ∷ 3 ∷ 4 ∷ 5 ∷ 6 ∷ 8 ∷ 9 ∷ 10 ∷ []) (tagOf the-type line)
-      → On (typeOf left rs) (λ ty. Writes (typeString ty sheet Owned) l t l′ r)
-      → On (bindingOf (typeOf left) rs) (λ f. Writes (onlyOf (bindingsOf (f stop) sheet)) l t l′ r)
+      → On (readType left rs) (λ ty. Writes (typeString ty sheet Owned) l t l′ r)
+      → On (readBinding (readType left) rs) (λ f. Writes (onlyOf (bindingsOf (f stop) sheet)) l t l′ r)
   unfolding bindingsOf
   bind-typed other h = read-law.bind-typed left rs (λ f. Writes (onlyOf (bindingsOf (f stop) sheet)) l t l′ r) line at other h

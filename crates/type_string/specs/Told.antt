@@ -11,7 +11,7 @@ use Rattle.row.specs.Rows.{rows}
 use Rattle.tree.specs.Tree.{list, struct, end, stop}
 use Rattle.tree.specs.Reader.{times}
 use Rattle.tree.specs.Read as read
-use Rattle.tree.specs.Read.{typeOf, typeFrom, bindingOf}
+use Rattle.tree.specs.Read.{readType, typeFrom, readBinding}
 use Rattle.tree.specs.Index.{On}
 use Rattle.nodes.specs.Index.{namesOf, ForAll}
 use Rattle.codegen_types.specs.Out.{Out, ok, refused, _then_}
@@ -20,8 +20,8 @@ use Rattle.codegen_types.specs.TypeString.{outermostFirst}
 use Rattle.codegen_types.specs.Written.{Writes}
 use Rattle.codegen_types.specs.declared.Leaf.{Leaf}
 use Rattle.codegen_types.specs.declared.Written.{Written}
-use Rattle.find.specs.Find.{ScopeAt}
-use Rattle.find.specs.declared.TypeRow.{TypeRow}
+use Rattle.types.specs.Find.{ScopeAt}
+use Rattle.types.specs.declared.TypeRow.{TypeRow}
 use Rattle.type_parts.specs.Parts.{Lists}
 use Rattle.type_parts.specs.declared.Arguments.{Arguments}
 use Rattle.type_parts.specs.declared.Argued.{Argued}
@@ -42,21 +42,21 @@ module _ (root s index : List ℕ) where
   -- of a type whose row was read
   abbrev pub TypeTold : TypeRow → ℕ → Leaf → List ℕ → Text → List ℕ → Written → Type 0
   TypeTold row left leaf l t l′ r = ForAll root s index (λ sheet.
-      On (typeFrom (typeOf left) (row .kind) (row .a) (row .b) (row .c) (rows (drop (row .next) s)))
+      On (typeFrom (readType left) (row .kind) (row .a) (row .b) (row .c) (rows (drop (row .next) s)))
       (λ ty. Writes (typeString ty sheet leaf) l t l′ r))
 
   abbrev pub ListTold : ℕ → ℕ → Leaf → List ℕ → Text → List ℕ → Written → Type 0
-  ListTold at left leaf l t l′ r = ForAll root s index (λ sheet. On (typeOf left (rows (drop at s)))
+  ListTold at left leaf l t l′ r = ForAll root s index (λ sheet. On (readType left (rows (drop at s)))
       (λ ty. Writes (typeString (list ty) sheet leaf) l t l′ r))
 
   abbrev pub BrandTold : Brand → ℕ → Leaf → List ℕ → Text → List ℕ → Written → Type 0
   BrandTold b left leaf l t l′ r =
-      ForAll root s index (λ sheet. On (times (read.scopeOf (typeOf left)) end (b .count) (rows (drop (b .scopes) s)))
+      ForAll root s index (λ sheet. On (times (read.readScope (readType left)) end (b .count) (rows (drop (b .scopes) s)))
       (λ ss. Writes (typeString (struct (b .id) ss) sheet leaf) l t l′ r))
 
   abbrev pub ChainTold : Brand → ℕ → List ℕ → Arguments → List ℕ → Argued → Type 0
   ChainTold b left l p l′ r =
-      ForAll root s index (λ sheet. On (times (read.scopeOf (typeOf left)) end (b .count) (rows (drop (b .scopes) s)))
+      ForAll root s index (λ sheet. On (times (read.readScope (readType left)) end (b .count) (rows (drop (b .scopes) s)))
       (λ ss. Lists (outward (accumulate sheet (scopesOf ss sheet) 16 (b .id))) l p l′ r))
 
   -- of a node whose parameters' number is known, with the scope that stands at its place, or none
@@ -68,10 +68,10 @@ module _ (root s index : List ℕ) where
 
   abbrev pub BindsTold : ℕ → ℕ → ℕ → List ℕ → Arguments → List ℕ → Argued → Type 0
   BindsTold at n left l p l′ r =
-      ForAll root s index (λ sheet. On (times (bindingOf (typeOf left)) stop n (rows (drop at s)))
+      ForAll root s index (λ sheet. On (times (readBinding (readType left)) stop n (rows (drop at s)))
       (λ bs. Lists (allOf (bindingsOf bs sheet)) l p l′ r))
 
   abbrev pub BindTold : ℕ → ℕ → List ℕ → Text → List ℕ → Written → Type 0
   BindTold at left l t l′ r =
-      ForAll root s index (λ sheet. On (bindingOf (typeOf left) (rows (drop at s)))
+      ForAll root s index (λ sheet. On (readBinding (readType left) (rows (drop at s)))
       (λ f. Writes (onlyOf (bindingsOf (f stop) sheet)) l t l′ r))

@@ -4,15 +4,17 @@
 use codegen_types::Leaf;
 use codegen_types::Refusal;
 use codegen_types::Written;
-use find::TypeRow;
 use row::Line;
+use terms::kinds;
+use terms::refusals;
 use text::Text;
 use type_parts::Argued;
 use type_parts::Arguments;
+use types::TypeRow;
 ghost use lib.ListN.{drop};
 ghost use Rattle.row.specs.Rows.{rows};
 ghost use Rattle.tree.specs.Index.{On};
-ghost use Rattle.tree.specs.Read.{typeOf};
+ghost use Rattle.tree.specs.Read.{readType};
 ghost use Rattle.nodes.specs.Index.{ForAll};
 ghost use Rattle.codegen_types.specs.TypeString.{typeString};
 ghost use Rattle.codegen_types.specs.Written.{Writes};
@@ -44,10 +46,10 @@ pub fn type_string(
     buf: &mut [u8],
 ) -> Written
     ensures { λ r. ⌜ ForAll (now (root .entry)) (now (s .entry)) (now (index .entry)) (λ sheet.
-        On (typeOf 16 (rows (drop at (now (s .entry)))))
+        On (readType 16 (rows (drop at (now (s .entry)))))
         (λ ty. Writes (typeString ty sheet leaf) (now (buf .entry)) t (now (buf .exit)) r)) ⌝ }
 {
-    let row = find::type_row(s, at);
+    let row = types::type_row(s, at);
     write_type(root, s, index, row, 15, leaf, t, buf)
 }
 
@@ -66,16 +68,16 @@ fn write_type(
         (now (buf .entry)) t (now (buf .exit)) r ⌝ }
 {
     let kind = row.kind;
-    if kind < codegen_types::LIST {
+    if kind < kinds::LIST {
         return codegen_types::whole(type_parts::plain(root, kind, leaf, t, buf));
     }
-    if kind == codegen_types::LIST {
+    if kind == kinds::LIST {
         return write_list(root, s, index, row.next, left, leaf, t, buf);
     }
-    if kind == codegen_types::ENUM {
+    if kind == kinds::ENUM {
         return type_parts::qualified_module(s, index, row.a, t, buf);
     }
-    if kind < codegen_types::ANY_POINTER {
+    if kind < kinds::ANY_POINTER {
         let brand = Brand {
             id: row.a,
             scopes: row.next,
@@ -106,16 +108,16 @@ fn write_list(
     if left == 0 {
         return codegen_types::whole(t);
     }
-    let row = find::type_row(s, at);
+    let row = types::type_row(s, at);
     let kind = row.kind;
-    if kind == codegen_types::TEXT {
+    if kind == kinds::TEXT {
         return codegen_types::whole(type_parts::displayed(root, b"::text_list::", leaf, t, buf));
     }
-    if kind == codegen_types::DATA {
+    if kind == kinds::DATA {
         return codegen_types::whole(type_parts::displayed(root, b"::data_list::", leaf, t, buf));
     }
-    if codegen_types::ANY_POINTER <= kind {
-        return codegen_types::refused(t, 6);
+    if kinds::ANY_POINTER <= kind {
+        return codegen_types::refused(t, refusals::LIST_OF_ANY_POINTER);
     }
     let t = type_parts::list_head(root, kind, leaf, t, buf);
     let element = codegen_types::element_leaf(kind);
@@ -164,10 +166,10 @@ fn write_chain(
     ensures { λ r. ⌜ ChainTold (now (root .entry)) (now (s .entry)) (now (index .entry)) brand left
         (now (buf .entry)) first (now (buf .exit)) r ⌝ }
 {
-    let chain = find::chain(index, brand.id);
+    let chain = types::chain(index, brand.id);
     let ids = chain.ids;
     let count = chain.count;
-    let scopes = find::scopes(s, brand.scopes, brand.count, &ids[..count]);
+    let scopes = types::scopes(s, brand.scopes, brand.count, &ids[..count]);
     let mut k = count;
     let mut p = first;
     let mut refusal = chain.refusal;
@@ -222,7 +224,7 @@ fn write_own(
     if count != own.count {
         return Argued {
             arguments: p,
-            refusal: Refusal::Number(8),
+            refusal: Refusal::Number(refusals::BINDINGS_DIFFER),
         };
     }
     write_binds(root, s, index, g.next, count, left, p, buf)
@@ -264,7 +266,7 @@ fn write_binds(
                 refusal,
             };
         }
-        at = find::past(s, at, 1);
+        at = types::past(s, at, 1);
         n -= 1;
     }
     Argued {
@@ -294,7 +296,7 @@ fn write_binding(
             if left == 0 {
                 return codegen_types::whole(t);
             }
-            let row = find::as_type(line, g.next);
+            let row = types::as_type(line, g.next);
             write_type(root, s, index, row, left - 1, Leaf::Owned, t, buf)
         }
     }

@@ -16,7 +16,7 @@ use Rattle.text.specs.Bytes.{cond, both}
 use Rattle.text.proofs.BytesLaws.{both-true}
 use Rattle.tree.specs.Tree.{Field}
 use Rattle.zeroing.specs.Lines.{repeats}
-use Rattle.zeroing.specs.Table.{size, stops, placeFrom, ownPlace, placeOf, Kept, withLine, Knows}
+use Rattle.zeroing.specs.Table.{tableSize, stops, placeFrom, ownPlace, tablePlace, Kept, withLine, Knows}
 use Rattle.zeroing.proofs.SlotLaws.{either-true}
 
 -- ---- a place
@@ -24,35 +24,35 @@ use Rattle.zeroing.proofs.SlotLaws.{either-true}
 module _ (xs ys : List ℕ) (c o : ℕ) where
   -- one turn of the search: q is the place that is found
   module _ (i n q : ℕ) (found : placeFrom xs ys c o i n ≡ q) where
-    pub place-none : n ≤ 0 → size ≡ q
+    pub place-none : n ≤ 0 → tableSize ≡ q
     unfolding placeFrom
     place-none h = let e : n ≡ 0 = omega arith in rw e at found
 
     module _ (more : 0 < n) (b : Bool) (is : b ≡ stops xs ys c o i) where
-      turn : placeFrom xs ys c o i n ≡ cond b i (placeFrom xs ys c o ((i + 1) % size) (n - 1))
+      turn : placeFrom xs ys c o i n ≡ cond b i (placeFrom xs ys c o ((i + 1) % tableSize) (n - 1))
       unfolding placeFrom
       turn = rw is (go n more)
         where
           go : (n : ℕ) → 0 < n
-              → placeFrom xs ys c o i n ≡ cond (stops xs ys c o i) i (placeFrom xs ys c o ((i + 1) % size) (n - 1))
+              → placeFrom xs ys c o i n ≡ cond (stops xs ys c o i) i (placeFrom xs ys c o ((i + 1) % tableSize) (n - 1))
           go zero h = let z : ⊥ = omega arith in absurd z
           go (suc n) h = rw (sub-one (suc n)) refl
 
       pub place-here : b ≡ true → i ≡ q
       place-here e = rw (turn, e) at found
 
-      pub place-on : b ≡ false → placeFrom xs ys c o ((i + 1) % size) (n - 1) ≡ q
+      pub place-on : b ≡ false → placeFrom xs ys c o ((i + 1) % tableSize) (n - 1) ≡ q
       place-on e = rw (turn, e) at found
 
   -- a place that is found has the line or is free
-  place-stops : (i n : ℕ) → placeFrom xs ys c o i n < size → stops xs ys c o (placeFrom xs ys c o i n) ≡ true
+  place-stops : (i n : ℕ) → placeFrom xs ys c o i n < tableSize → stops xs ys c o (placeFrom xs ys c o i n) ≡ true
   unfolding placeFrom
   place-stops i zero h = let z : ⊥ = omega arith in absurd z
   place-stops i (suc n) h =
-      go (stops xs ys c o i) refl (placeFrom xs ys c o ((i + 1) % size) n) (place-stops ((i + 1) % size) n) h
+      go (stops xs ys c o i) refl (placeFrom xs ys c o ((i + 1) % tableSize) n) (place-stops ((i + 1) % tableSize) n) h
     where
-      go : (t : Bool) → stops xs ys c o i ≡ t → (rest : ℕ) → (rest < size → stops xs ys c o rest ≡ true)
-          → cond t i rest < size → stops xs ys c o (cond t i rest) ≡ true
+      go : (t : Bool) → stops xs ys c o i ≡ t → (rest : ℕ) → (rest < tableSize → stops xs ys c o rest ≡ true)
+          → cond t i rest < tableSize → stops xs ys c o (cond t i rest) ≡ true
       go true e rest f h = e
       go false e rest f h = f h
 
@@ -67,9 +67,9 @@ module _ (xs ys : List ℕ) (c o : ℕ) where
 
 -- a place that is free
 abbrev Free : List ℕ → ℕ → Type 0
-Free ys i = (i < size) × (getD ys i 0 ≡ 0)
+Free ys i = (i < tableSize) × (getD ys i 0 ≡ 0)
 
-module _ (xs ys : List ℕ) (c o p : ℕ) (more : p < size) (px : p < length xs) (py : p < length ys) (line : c ≡ 0 → ⊥)
+module _ (xs ys : List ℕ) (c o p : ℕ) (more : p < tableSize) (px : p < length xs) (py : p < length ys) (line : c ≡ 0 → ⊥)
     (free : getD ys p 0 ≡ 0) where
   -- the other places stay
   stops-other : (d q i : ℕ) → (i ≡ p → ⊥) → stops (set xs p o) (set ys p c) d q i ≡ stops xs ys d q i
@@ -81,8 +81,8 @@ module _ (xs ys : List ℕ) (c o p : ℕ) (more : p < size) (px : p < length xs)
   unfolding placeFrom
   free-before d q i zero h = let z = h .0 in let y : ⊥ = omega arith in absurd y
   free-before d q i (suc n) h =
-      go (ℕ-discrete i p) (placeFrom (set xs p o) (set ys p c) d q ((i + 1) % size) n)
-      (placeFrom xs ys d q ((i + 1) % size) n) (free-before d q ((i + 1) % size) n) h
+      go (ℕ-discrete i p) (placeFrom (set xs p o) (set ys p c) d q ((i + 1) % tableSize) n)
+      (placeFrom xs ys d q ((i + 1) % tableSize) n) (free-before d q ((i + 1) % tableSize) n) h
     where
       by-stop : (i ≡ p → ⊥) → (r′ r : ℕ) → (Free (set ys p c) r′ → Free ys r) → (t : Bool)
           → Free (set ys p c) (cond t i r′) → Free ys (cond t i r)
@@ -99,8 +99,8 @@ module _ (xs ys : List ℕ) (c o p : ℕ) (more : p < size) (px : p < length xs)
   unfolding placeFrom
   place-kept i zero e = let z : ⊥ = omega arith in absurd z
   place-kept i (suc n) e =
-      go (ℕ-discrete i p) (placeFrom (set xs p o) (set ys p c) c o ((i + 1) % size) n)
-      (placeFrom xs ys c o ((i + 1) % size) n) (place-kept ((i + 1) % size) n) e
+      go (ℕ-discrete i p) (placeFrom (set xs p o) (set ys p c) c o ((i + 1) % tableSize) n)
+      (placeFrom xs ys c o ((i + 1) % tableSize) n) (place-kept ((i + 1) % tableSize) n) e
     where
       by-stop : (i ≡ p → ⊥) → (r′ r : ℕ) → (r ≡ p → r′ ≡ p) → (t : Bool) → cond t i r ≡ p → cond t i r′ ≡ p
       by-stop n r′ r ih true e = e
@@ -136,7 +136,7 @@ kept-first n = record { held = λ i h. absurd (h (none n i)); free = λ c o x y 
 module _ (xs ys : List ℕ) (fs : List Field) (k : Kept xs ys (λ c o. repeats c o fs)) where
   module _ (c o : ℕ) where
     -- one more line, and the table stays
-    kept-on : ((d q : ℕ) → (d ≡ 0 → ⊥) → q < 2 ^ 32 → Free ys (placeOf xs ys d q) → o ≡ q → c ≡ d → ⊥)
+    kept-on : ((d q : ℕ) → (d ≡ 0 → ⊥) → q < 2 ^ 32 → Free ys (tablePlace xs ys d q) → o ≡ q → c ≡ d → ⊥)
         → Kept xs ys (withLine c o fs)
     kept-on h = record {
       held = λ i n. rw (k .held i n) refl;
@@ -152,13 +152,13 @@ module _ (xs ys : List ℕ) (fs : List Field) (k : Kept xs ys (λ c o. repeats c
     kept-wide h = kept-on (λ d q n w p x y. let z : ⊥ = omega arith in z)
 
     -- so is a line that has no place
-    pub kept-full : size ≤ placeOf xs ys c o → Kept xs ys (withLine c o fs)
-    kept-full h = kept-on (λ d q n w p x y. let z : placeOf xs ys c o < size = rw (x, y) (p .0) in omega arith)
+    pub kept-full : tableSize ≤ tablePlace xs ys c o → Kept xs ys (withLine c o fs)
+    kept-full h = kept-on (λ d q n w p x y. let z : tablePlace xs ys c o < tableSize = rw (x, y) (p .0) in omega arith)
 
-    module _ (p : ℕ) (at : p ≡ placeOf xs ys c o) (more : p < size) where
+    module _ (p : ℕ) (at : p ≡ tablePlace xs ys c o) (more : p < tableSize) where
       pub knows-again : (getD ys p 0 ≡ 0 → ⊥) → Knows c o fs true xs ys
       knows-again n =
-          let h = stops-held xs ys c o p (rw (← at) at (place-stops xs ys c o (ownPlace c o) size (rw at at more))) n in
+          let h = stops-held xs ys c o p (rw (← at) at (place-stops xs ys c o (ownPlace c o) tableSize (rw at at more))) n in
           record {
             again = sym (rw (h .0, h .1) at (k .held p n));
             kept = kept-on (λ d q z w f x y. n (rw (at, x, y) (f .1)));
@@ -184,19 +184,19 @@ module _ (xs ys : List ℕ) (fs : List Field) (k : Kept xs ys (λ c o. repeats c
               rw (getD-set-other xs p i o 0 m, g, k .held i (λ z. n (g ∙ z))) refl
 
           other : (d q : ℕ) → (d ≡ 0 → ⊥) → q < 2 ^ 32
-              → Free (set ys p c) (placeOf (set xs p o) (set ys p c) d q) → (o ≡ q → c ≡ d → ⊥) → withLine c o fs d q ≡ false
+              → Free (set ys p c) (tablePlace (set xs p o) (set ys p c) d q) → (o ≡ q → c ≡ d → ⊥) → withLine c o fs d q ≡ false
           other d q z y f n =
-              let b = free-before xs ys c o p more px py line e d q (ownPlace d q) size f in
+              let b = free-before xs ys c o p more px py line e d q (ownPlace d q) tableSize f in
               rw (k .free d q z y (b .0) (b .1)) (apart o q c d n)
 
-          own : (d q : ℕ) → Free (set ys p c) (placeOf (set xs p o) (set ys p c) d q) → o ≡ q → c ≡ d → ⊥
+          own : (d q : ℕ) → Free (set ys p c) (tablePlace (set xs p o) (set ys p c) d q) → o ≡ q → c ≡ d → ⊥
           own d q f x y =
-              let b = place-kept xs ys c o p more px py line e (ownPlace c o) size (sym at) in
+              let b = place-kept xs ys c o p more px py line e (ownPlace c o) tableSize (sym at) in
               let g : getD (set ys p c) p 0 ≡ 0 = rw (← x, ← y, b) at (f .1) in
               line (sym (getD-set-same ys p c 0 py) ∙ g)
 
-          free : (d q : ℕ) → (d ≡ 0 → ⊥) → q < 2 ^ 32 → placeOf (set xs p o) (set ys p c) d q < size
-              → getD (set ys p c) (placeOf (set xs p o) (set ys p c) d q) 0 ≡ 0 → Dec (o ≡ q) → Dec (c ≡ d)
+          free : (d q : ℕ) → (d ≡ 0 → ⊥) → q < 2 ^ 32 → tablePlace (set xs p o) (set ys p c) d q < tableSize
+              → getD (set ys p c) (tablePlace (set xs p o) (set ys p c) d q) 0 ≡ 0 → Dec (o ≡ q) → Dec (c ≡ d)
               → withLine c o fs d q ≡ false
           free d q z y r f (yes a) (yes b) = absurd (own d q (r, f) a b)
           free d q z y r f (yes a) (no n) = other d q z y (r, f) (λ v w. n w)

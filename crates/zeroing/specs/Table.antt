@@ -11,8 +11,8 @@ use Rattle.tree.specs.Tree.{Field}
 use Rattle.zeroing.specs.Lines.{repeats}
 
 -- how many places the table has
-abbrev pub size : ℕ
-size = 307
+abbrev pub tableSize : ℕ
+tableSize = 307
 
 -- whether a place is free or has the line of a type at an offset
 abbrev pub stops : List ℕ → List ℕ → ℕ → ℕ → ℕ → Bool
@@ -21,23 +21,23 @@ stops offsets types type offset i =
 
 -- the first such place of so many from one on, after the last of which the first follows; the size where there is none
 unfoldable pub placeFrom : List ℕ → List ℕ → ℕ → ℕ → ℕ → ℕ → ℕ
-placeFrom offsets types type offset i zero = size
+placeFrom offsets types type offset i zero = tableSize
 placeFrom offsets types type offset i (suc left) =
-    cond (stops offsets types type offset i) i (placeFrom offsets types type offset ((i + 1) % size) left)
+    cond (stops offsets types type offset i) i (placeFrom offsets types type offset ((i + 1) % tableSize) left)
 
 -- a line's own place: the lines of one type at offsets in a row stand 13 apart, and those of the twelve types beside each other
 abbrev pub ownPlace : ℕ → ℕ → ℕ
-ownPlace type offset = (offset % 65536 * 13 + type) % size
+ownPlace type offset = (offset % 65536 * 13 + type) % tableSize
 
 -- the place where a line stands, or may be put
-abbrev pub placeOf : List ℕ → List ℕ → ℕ → ℕ → ℕ
-placeOf offsets types type offset = placeFrom offsets types type offset (ownPlace type offset) size
+abbrev pub tablePlace : List ℕ → List ℕ → ℕ → ℕ → ℕ
+tablePlace offsets types type offset = placeFrom offsets types type offset (ownPlace type offset) tableSize
 
 -- the table keeps the lines that some fields have: what it has is one of them, and a line whose place is free is none of them
 pub record Kept (offsets types : List ℕ) (has : ℕ → ℕ → Bool) : Type 0 where
   pub held : (i : ℕ) → (getD types i 0 ≡ 0 → ⊥) → has (getD types i 0) (getD offsets i 0) ≡ true
-  pub free : (type offset : ℕ) → (type ≡ 0 → ⊥) → offset < 2 ^ 32 → placeOf offsets types type offset < size
-      → getD types (placeOf offsets types type offset) 0 ≡ 0 → has type offset ≡ false
+  pub free : (type offset : ℕ) → (type ≡ 0 → ⊥) → offset < 2 ^ 32 → tablePlace offsets types type offset < tableSize
+      → getD types (tablePlace offsets types type offset) 0 ≡ 0 → has type offset ≡ false
 
 -- the lines of some fields, and one more
 abbrev pub withLine : ℕ → ℕ → List Field → ℕ → ℕ → Bool

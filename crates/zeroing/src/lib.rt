@@ -3,6 +3,8 @@ use codegen_types::Refusal;
 use field::Field;
 use field::Slot;
 use nodes::Found;
+use terms::kinds;
+use terms::refusals;
 use text::Text;
 ghost use mathlib.Core.Path.{_≡_};
 ghost use mathlib.Core.Bool.{false};
@@ -18,12 +20,23 @@ ghost use Rattle.tree.specs.Fields.{FieldsHere};
 ghost use Rattle.nodes.specs.Index.{ForAll};
 ghost use Rattle.codegen.specs.Zeroing.{zeroFieldsOfGroup};
 ghost use Rattle.zeroing.specs.Lines.{lineType, zeroText, repeats, slotLines, tagLines};
-ghost use Rattle.zeroing.specs.Table.{size, stops, placeOf, Knows, Kept, withLine};
+ghost use Rattle.zeroing.specs.Table.{tableSize, stops, tablePlace, Knows, Kept, withLine};
 ghost use Rattle.zeroing.specs.Added.{Added, AddedSlot, Adds};
 ghost use Rattle.zeroing.specs.Told.{Zeroes};
 
 // How many lines of one group the table has room for. A sheet of 65,536 bytes has 300 slots at most.
 const SIZE: usize = 307;
+
+// The types of lines: none of a Void slot; a Bool's; a number's, up to the last, with an enum's being a Uint16's; a pointer's.
+const NO_LINE: u8 = 0;
+
+const BOOL_LINE: u8 = 1;
+
+const UINT16_LINE: u8 = 7;
+
+const LAST_NUMBER_LINE: u8 = 11;
+
+const POINTER_LINE: u8 = 12;
 
 // The lines so far: the text state after them, whether one clears a pointer, whether there is one, and the refusal, if one was
 // met.
@@ -45,13 +58,13 @@ pub struct Zeroed {
 fn line_type(kind: u64) -> u8
     ensures { λ r. ⌜ r ≡ lineType kind ⌝ }
 {
-    if kind == 15 {
-        return 7;
+    if kind == kinds::ENUM {
+        return UINT16_LINE;
     }
-    if kind <= 11 {
+    if kind <= kinds::FLOAT64 {
         return kind as u8;
     }
-    12
+    POINTER_LINE
 }
 
 // Whether a slot has the line of a type at an offset.
@@ -110,8 +123,8 @@ fn is_stop(offsets: &[u32], types: &[u8], i: usize, typ: u8, offset: u64) -> boo
 // The place of the line of a type at an offset in the table: the first one, from the line's own on, that has the line or is
 // free. The table's size where there is none.
 fn place(offsets: &[u32], types: &[u8], typ: u8, offset: u64) -> usize
-    requires { ⌜ (length (now offsets) ≡ size) × (length (now types) ≡ size) ⌝ }
-    ensures { λ r. ⌜ r ≡ placeOf (now (offsets .entry)) (now (types .entry)) typ offset ⌝ }
+    requires { ⌜ (length (now offsets) ≡ tableSize) × (length (now types) ≡ tableSize) ⌝ }
+    ensures { λ r. ⌜ r ≡ tablePlace (now (offsets .entry)) (now (types .entry)) typ offset ⌝ }
 {
     let mut i = ((offset % 65536) as usize * 13 + typ as usize) % SIZE;
     let mut left = SIZE;
@@ -136,7 +149,7 @@ fn is_known(
     typ: u8,
     offset: u64,
 ) -> bool
-    requires { ⌜ (length (now offsets) ≡ size) × (length (now types) ≡ size) × (typ ≡ 0 → ⊥) ⌝ }
+    requires { ⌜ (length (now offsets) ≡ tableSize) × (length (now types) ≡ tableSize) × (typ ≡ 0 → ⊥) ⌝ }
     ensures { λ r. ⌜ ((fs : List tree.Field) → FieldsHere (rows (drop first (now (s .entry)))) fs
         → Kept (now (offsets .entry)) (now (types .entry)) (λ c o. repeats c o (take count fs))
         → Knows typ offset (take count fs) r (now (offsets .exit)) (now (types .exit))) ⌝ }
@@ -160,10 +173,10 @@ fn is_known(
 fn zero_line(typ: u8, offset: u64, t: Text, buf: &mut [u8]) -> Text
     ensures { λ r. ⌜ Wrote (now (buf .entry)) t (zeroText typ offset) (now (buf .exit)) r ⌝ }
 {
-    if typ == 1 {
+    if typ == BOOL_LINE {
         return calls::zero_bool(t, buf, offset);
     }
-    if typ <= 11 {
+    if typ <= LAST_NUMBER_LINE {
         return codegen::zero_number(typ as u64, offset, t, buf);
     }
     calls::clear_pointer(t, buf, offset)
@@ -176,7 +189,7 @@ fn clears(before: bool, typ: u8) -> bool
     if before {
         return true;
     }
-    typ == 12
+    typ == POINTER_LINE
 }
 
 // The line of a type at an offset after the lines so far: none where it is one of them.
@@ -216,7 +229,7 @@ fn zero_slot(
     p: Lines,
     buf: &mut [u8],
 ) -> Lines
-    requires { ⌜ (length (now offsets) ≡ size) × (length (now types) ≡ size) ⌝ }
+    requires { ⌜ (length (now offsets) ≡ tableSize) × (length (now types) ≡ tableSize) ⌝ }
     ensures refusal { λ r. ⌜ r .refusal ≡ p .refusal ⌝ }
     ensures lines { λ r. ⌜ ((fs : List tree.Field) → FieldsHere (rows (drop first (now (s .entry)))) fs
         → Kept (now (offsets .entry)) (now (types .entry)) (λ c o. repeats c o (take count fs))
@@ -225,7 +238,7 @@ fn zero_slot(
 {
     let typ = line_type(slot.kind);
     let offset = slot.offset;
-    if typ == 0 {
+    if typ == NO_LINE {
         return p;
     }
     let again = is_known(s, first, count, offsets, types, typ, offset);
@@ -251,7 +264,7 @@ fn tag_line(tag_count: u64, tag_offset: u64, p: Lines, buf: &mut [u8]) -> Lines
 }
 
 // The lines so far with a refusal: what was written counts for nothing.
-fn refused(p: Lines, number: u8) -> Lines
+fn refused(p: Lines, number: u64) -> Lines
     ensures { λ r. ⌜ r .refusal ≡ Refusal.Number number ⌝ }
 {
     let t = p.text;
@@ -278,13 +291,13 @@ fn zero_fields_of_group(
         Adds (zeroFieldsOfGroup sheet left id) (now (buf .entry)) before (now (buf .exit)) r)) ⌝ }
 {
     if left == 0 {
-        return refused(before, 4);
+        return refused(before, refusals::TOO_DEEP);
     }
     let Found::At(node) = nodes::find(index, id) else {
-        return refused(before, 5);
+        return refused(before, refusals::NO_NODE);
     };
     if node.is_struct != 1 {
-        return refused(before, 14);
+        return refused(before, refusals::NO_STRUCT);
     }
     let mut offsets = [0u32; SIZE];
     let mut types = [0u8; SIZE];

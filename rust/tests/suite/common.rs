@@ -1,7 +1,8 @@
 //! What the tests share: a sheet with a field of each shape, every request, random numbers, and an asking that looks at
 //! every byte of the buffer.
 
-use kitlubas::{answer, padded, Form, Leaf, Lifetime, Refusal, Request, Side};
+use kitlubas::{admit, answer, padded, Form, Leaf, Lifetime, NodeId, Place, Refusal, Request, Sheet, Side};
+use std::path::PathBuf;
 
 /// A ward with its beds: data slots with and without defaults, pointers, a union and a type parameter.
 pub const WARD: &str = "\
@@ -47,6 +48,23 @@ pub fn sheet(short: &str) -> Vec<u8> {
     padded(short).into_bytes()
 }
 
+/// A file of the repository.
+pub fn file(path: &str) -> PathBuf {
+    PathBuf::from(env!("CARGO_MANIFEST_DIR")).join("..").join(path)
+}
+
+/// A refusal by its number and its line.
+pub type Told = (u64, Option<usize>);
+
+pub fn told(refusal: Refusal) -> Told {
+    (refusal.number, refusal.line)
+}
+
+/// The text of a request, straight from bytes.
+pub fn text(sheet: &[u8], (node, place): (u64, u64), request: Request) -> Result<String, Told> {
+    kitlubas::text(sheet, NodeId(node), Place(place), request).map_err(told)
+}
+
 /// Every request but the zeroing.
 pub fn requests() -> Vec<Request> {
     let mut all = vec![Request::Setter];
@@ -67,27 +85,46 @@ fn pattern(length: usize) -> Vec<u8> {
     (0..length).map(|at| (at * 37 + 129) as u8).collect()
 }
 
-/// Asks with a buffer of this length, and holds every byte outside the text against what stood there before.
+/// Asks with a buffer of this length, and holds every byte outside the text against what stood there before; and the
+/// answer over the sheet's index against it.
 pub fn ask(
     sheet: &[u8],
     (node, place): (u64, u64),
     request: Request,
     length: usize,
     fill: usize,
-) -> Result<String, Refusal> {
+) -> Result<String, Told> {
+    let (node, place) = (NodeId(node), Place(place));
     let before = pattern(length);
     let mut buf = before.clone();
-    let after = match answer(sheet, node, place, request, &mut buf, fill) {
-        Ok(after) => after,
-        Err(refusal) => {
-            assert_eq!(buf, before, "{refusal} changed the buffer");
-            return Err(refusal);
-        }
-    };
-    assert!(fill < after && after <= length, "fill count {fill} became {after} of {length}");
-    assert_eq!(buf[..fill], before[..fill], "a byte before the text changed");
-    assert_eq!(buf[after..], before[after..], "a byte behind the text changed");
-    Ok(String::from_utf8(buf[fill..after].to_vec()).expect("texts are ASCII"))
+    let answered = answer(sheet, node, place, request, &mut buf, fill);
+    let text = answered.map(|after| {
+        assert!(fill < after && after <= length, "fill count {fill} became {after} of {length}");
+        assert_eq!(buf[..fill], before[..fill], "a byte before the text changed");
+        assert_eq!(buf[after..], before[after..], "a byte behind the text changed");
+        String::from_utf8(buf[fill..after].to_vec()).expect("texts are ASCII")
+    });
+    if let Err(refusal) = text {
+        assert_eq!(buf, before, "{refusal} changed the buffer");
+    }
+    let admitted = Sheet::admit(sheet);
+    assert_eq!(admitted.as_ref().map(|_| ()).map_err(|refusal| *refusal), admit(sheet));
+    if let Ok(admitted) = admitted {
+        let mut again = before;
+        assert_eq!(admitted.answer(node, place, request, &mut again, fill), answered);
+        assert_eq!(again, buf, "the index left another buffer");
+        same_text(&admitted.text(node, place, request), &text, length.saturating_sub(fill));
+    }
+    text.map_err(told)
+}
+
+/// Holds a text with as much room as it takes against an answer with so much room.
+fn same_text(whole: &Result<String, Refusal>, answer: &Result<String, Refusal>, room: usize) {
+    match answer {
+        Err(refusal) if refusal.number == 21 => {}
+        Err(refusal) if refusal.number == 22 => assert!(room < whole.as_ref().expect("there is a text").len()),
+        answer => assert_eq!(whole, answer),
+    }
 }
 
 /// Random numbers from a seed (xorshift64*).

@@ -1,12 +1,12 @@
 //! Example sheets: the texts that the format's description shows, and a text for every field of a larger sheet.
 
-use crate::common::{ask, requests, sheet, PLACES, WARD};
-use kitlubas::{admit, text, Form, Leaf, Lifetime, Refusal, Request, Side};
+use crate::common::{ask, requests, sheet, text, PLACES, WARD};
+use kitlubas::{admit, Form, Leaf, Lifetime, Request, Side};
 
 const READER: Request = Request::Getter { side: Side::Reader, form: Form::Plain };
 
 fn lines(short: &str, place: u64, request: Request) -> Vec<String> {
-    let text = text(&sheet(short), 7, place, request).expect("the request is answered");
+    let text = text(&sheet(short), (7, place), request).expect("the request is answered");
     text.split('\n').map(String::from).collect()
 }
 
@@ -74,12 +74,12 @@ fn every_request_on_every_field() {
     let (mut answered, mut refused) = (0, 0);
     for place in 0..PLACES {
         for request in requests() {
-            let whole = text(&ward, 7, place, request);
+            let whole = text(&ward, (7, place), request);
             assert_eq!(whole, ask(&ward, (7, place), request, 65_536, 11));
             match whole {
                 Ok(_) => answered += 1,
                 Err(refusal) => {
-                    assert_eq!((place, refusal), (6, Refusal { number: 7, line: None }), "{request:?}");
+                    assert_eq!((place, refusal), (6, (7, None)), "{request:?}");
                     refused += 1;
                 }
             }
@@ -93,7 +93,7 @@ fn every_request_on_every_field() {
 fn a_long_text_grows_its_buffer() {
     let mut short = String::from("R ::capnp\nN 7 0 0 1 0 0 0 bed\nF 0 65535 1 0 plan\nT 13 0 0 0\nV 13 0\n");
     short += &"W 18446744073709551615\n".repeat(255);
-    let getter = text(&sheet(&short), 7, 0, READER).expect("the request is answered");
+    let getter = text(&sheet(&short), (7, 0), READER).expect("the request is answered");
     assert_eq!(getter.matches("::capnp::word(255, 255, 255, 255, 255, 255, 255, 255),").count(), 255);
     assert!(getter.len() > 3 * 4096);
 }

@@ -1,11 +1,10 @@
 //! The fill count at every bound: a text that is just as long as the free part fits, one byte less is 22, and a fill
 //! count above the buffer's length is 21.
 
-use crate::common::{ask, requests, sheet, PLACES, WARD};
-use kitlubas::{text, Refusal};
+use crate::common::{ask, requests, sheet, text, Told, PLACES, WARD};
 
-const TOO_FULL: Result<String, Refusal> = Err(Refusal { number: 21, line: None });
-const NO_ROOM: Result<String, Refusal> = Err(Refusal { number: Refusal::NO_ROOM, line: None });
+const TOO_FULL: Result<String, Told> = Err((21, None));
+const NO_ROOM: Result<String, Told> = Err((22, None));
 
 #[test]
 fn every_text_at_its_bounds() {
@@ -13,7 +12,7 @@ fn every_text_at_its_bounds() {
     let mut answered = 0;
     for place in 0..PLACES {
         for request in requests() {
-            let Ok(whole) = text(&ward, 7, place, request) else { continue };
+            let Ok(whole) = text(&ward, (7, place), request) else { continue };
             answered += 1;
             for fill in [0, 1, 7, 64, 4096] {
                 let ask = |length| ask(&ward, (7, place), request, length, fill);
@@ -36,7 +35,7 @@ fn every_text_at_its_bounds() {
 fn every_length_and_fill_count_of_one_text() {
     let ward = sheet(WARD);
     let request = requests()[0];
-    let whole = text(&ward, 7, 0, request).expect("the request is answered");
+    let whole = text(&ward, (7, 0), request).expect("the request is answered");
     for length in 0..whole.len() + 20 {
         for fill in 0..=length {
             let expected = if length - fill < whole.len() { NO_ROOM } else { Ok(whole.clone()) };

@@ -1,8 +1,8 @@
 //! Torn and random bytes: whatever is handed in is answered by a text or by a refusal, and `ask` holds every byte of
 //! the buffer that must not change against what stood there before.
 
-use crate::common::{ask, requests, sheet, Random, PLACES, WARD};
-use kitlubas::{admit, text, Refusal, Request};
+use crate::common::{ask, requests, sheet, text, told, Random, PLACES, WARD};
+use kitlubas::{admit, Request, Sheet};
 use std::thread;
 
 /// Asks something at random of a sheet, with a buffer that is mostly too short.
@@ -17,8 +17,8 @@ fn ask_anything(sheet: &[u8], random: &mut Random) {
     let answer = ask(sheet, (node, place), request, length, fill);
     match (admit(sheet), answer) {
         (Ok(()), _) => {}
-        (Err(refusal), answer) if fill <= length => assert_eq!(answer, Err(refusal)),
-        (Err(_), answer) => assert_eq!(answer, Err(Refusal { number: 21, line: None })),
+        (Err(refusal), answer) if fill <= length => assert_eq!(answer, Err(told(refusal))),
+        (Err(_), answer) => assert_eq!(answer, Err((21, None))),
     }
 }
 
@@ -102,8 +102,8 @@ fn the_longest_sheets() {
     let slot = sheet("F 3 65535 1 0 isFree\nT 1 0 0 0\nV 1 1\n");
     for count in 255..300 {
         let bytes = [&start[..], &slot.repeat(count)[..]].concat();
-        let expected = if bytes.len() > 65_536 { Err(Refusal { number: 1, line: None }) } else { Ok(()) };
-        assert_eq!(admit(&bytes), expected);
+        let expected = if bytes.len() > 65_536 { Err((1, None)) } else { Ok(()) };
+        assert_eq!(admit(&bytes).map_err(told), expected);
         ask_anything(&bytes, &mut random);
     }
 }
@@ -118,7 +118,9 @@ fn a_small_stack() {
     let work = move || {
         for typ in [lists, brands] {
             let bytes = sheet(&[start, &typ, &groups].concat());
-            assert!(requests().iter().all(|&request| text(&bytes, 7, 0, request).is_ok()));
+            assert!(requests().iter().all(|&request| text(&bytes, (7, 0), request).is_ok()));
+            let admitted = Sheet::admit(&bytes).expect("it is a sheet");
+            assert_eq!(admitted.nodes().flat_map(|node| node.fields()).count(), 1300);
         }
     };
     on_a_small_stack(work);
@@ -142,7 +144,7 @@ fn the_deepest_brands_on_a_small_stack() {
     for scopes in [vec![16], vec![1], (1..=16).step_by(2).collect::<Vec<u64>>()] {
         let typ = (0..15).fold("T 12 0 0 0\n".to_string(), |inner, _| brand(&scopes, &inner));
         let bytes = sheet(&format!("R ::capnp\n{chain}N 17 0 0 1 0 0 0 ward\nF 0 65535 0 0 plan\n{typ}V 16 0\n"));
-        on_a_small_stack(move || assert!(requests().iter().all(|&request| text(&bytes, 17, 0, request).is_ok())));
+        on_a_small_stack(move || assert!(requests().iter().all(|&request| text(&bytes, (17, 0), request).is_ok())));
     }
 }
 
@@ -155,5 +157,5 @@ fn the_deepest_groups_on_a_small_stack() {
         .chain([format!("N 17 0 0 1 0 2 9 bed\n{slots}")])
         .collect();
     let bytes = sheet(&format!("R ::capnp\n{nodes}"));
-    on_a_small_stack(move || assert!(text(&bytes, 1, 2, Request::Zeroing).is_ok()));
+    on_a_small_stack(move || assert!(text(&bytes, (1, 2), Request::Zeroing).is_ok()));
 }

@@ -3,6 +3,12 @@
 mod common;
 mod examples;
 mod fill;
+mod header;
 mod hostile;
+mod in_c;
+mod pinned;
+mod program;
+mod raw;
 mod refusals;
+mod sheet;
 mod zeroing;

@@ -1,17 +1,21 @@
-//! Every refusal but 14, from a smallest sheet that is refused by it; 14 is in zeroing.rs.
+//! Every refusal, from a smallest sheet that is refused by it, and its sentence.
 
-use crate::common::{ask, requests, sheet};
-use kitlubas::{admit, Form, Leaf, Refusal, Request, Side};
+use crate::common::{ask, requests, sheet, told, Told};
+use kitlubas::{Form, Leaf, NodeId, Place, Request, Side};
 
 const OWNED: Request = Request::TypeText(Leaf::Owned);
 const GETTER: Request = Request::Getter { side: Side::Reader, form: Form::Plain };
 
-fn refused(number: u64) -> Refusal {
-    Refusal { number, line: None }
+fn refused(number: u64) -> Told {
+    (number, None)
 }
 
-fn at_line(number: u64, line: usize) -> Refusal {
-    Refusal { number, line: Some(line) }
+fn at_line(number: u64, line: usize) -> Told {
+    (number, Some(line))
+}
+
+fn admit(sheet: &[u8]) -> Result<(), Told> {
+    kitlubas::admit(sheet).map_err(told)
 }
 
 /// A sheet whose node 7 has one slot, of these lines; the slot's F line is the third.
@@ -20,7 +24,7 @@ fn slot(lines: &str) -> Vec<u8> {
 }
 
 /// The refusal of a request on the slot of node 7.
-fn refusal(sheet: &[u8], request: Request) -> Refusal {
+fn refusal(sheet: &[u8], request: Request) -> Told {
     ask(sheet, (7, 0), request, 65_536, 0).expect_err("the request is refused")
 }
 
@@ -111,6 +115,11 @@ fn number_13_a_parameter_past_the_end() {
 }
 
 #[test]
+fn number_14_a_group_whose_node_is_no_struct() {
+    assert_eq!(refusal(&slot("G 9 65535 plan\nN 9 7 7 0 0 0 0 plan\n"), Request::Zeroing), refused(14));
+}
+
+#[test]
 fn number_15_no_such_node_or_field() {
     let flag = slot("F 3 65535 0 0 isFree\nT 1 0 0 0\nV 1 0\nG 9 65535 plan\n");
     for (node, place) in [(8, 0), (7, 2), (7, u64::MAX), (u64::MAX, 0), (0, 0)] {
@@ -141,12 +150,74 @@ fn number_22_no_room() {
     assert_eq!(ask(&flag, (8, 0), OWNED, 0, 0), Err(refused(15)));
 }
 
+const SENTENCES: [(u64, &str); 17] = [
+    (1, "the sheet has more than 65,536 bytes (refusal 1)"),
+    (2, "the line is not written as a sheet's line, or it stands where it may not stand (refusal 2, line 1)"),
+    (3, "the line gives an id that an earlier line of the same letter has (refusal 3, line 3)"),
+    (4, "a type, a chain of parents or the groups inside each other have a 17th level (refusal 4, line 20)"),
+    (5, "a node that the field refers to is not in the sheet (refusal 5)"),
+    (6, "a list of AnyPointer has no text (refusal 6)"),
+    (7, "a type parameter has no client, server, dispatch or get_type (refusal 7)"),
+    (8, "a brand has not as many bindings as the node that it is for has parameters (refusal 8)"),
+    (9, "option stands at a slot that is not a pointer, or at an interface (refusal 9)"),
+    (10, "the default is not of the slot's type, so that there is no getter (refusal 10)"),
+    (11, "the default of a Bool or a number is neither, so that there is no setter (refusal 11)"),
+    (12, "the explicit default of an enum is not an enum's, so that there is no setter (refusal 12)"),
+    (13, "a type parameter's index is past the parameters of its node (refusal 13)"),
+    (14, "the node of a group is not a struct (refusal 14)"),
+    (15, "the sheet has no such node or field, or such a request is not for such a field (refusal 15)"),
+    (21, "the fill count is above the buffer's length (refusal 21)"),
+    (22, "the text is longer than the free part of the buffer (refusal 22)"),
+];
+
+/// A smallest sheet that a number is met by, and a request for the first field of its node 7.
+fn met(number: u64) -> (Vec<u8>, Request) {
+    let deep = "T 14 0 0 0\n".repeat(16);
+    let plan = |typ: &str, value: u64| slot(&format!("F 0 65535 1 0 plan\n{typ}V {value} 0\n"));
+    match number {
+        1 => (vec![0; 65_537], OWNED),
+        2 => (vec![], OWNED),
+        3 => (slot("N 7 0 0 1 0 0 0 bed\n"), OWNED),
+        4 => (plan(&format!("{deep}T 1 0 0 0\n"), 0), OWNED),
+        5 => (plan("T 15 9 0 0\n", 15), OWNED),
+        6 => (plan("T 14 0 0 0\nT 18 0 0 0\n", 0), OWNED),
+        7 => (slot("P Plan\nF 0 65535 0 0 plan\nT 18 1 7 0\nV 18 0\n"), Request::TypeText(Leaf::Client)),
+        8 => (plan("T 16 7 1 0\nS 7 1 1\nU\n", 0), OWNED),
+        9 => (slot("F 3 65535 0 1 isFree\nT 1 0 0 0\nV 1 0\n"), GETTER),
+        10 => (plan("T 1 0 0 0\n", 2), GETTER),
+        11 => (plan("T 1 0 0 0\n", 0), Request::Setter),
+        12 => (plan("T 15 7 0 0\n", 7), Request::Setter),
+        13 => (plan("T 18 1 7 0\n", 18), OWNED),
+        14 => (slot("G 9 65535 plan\nN 9 7 7 0 0 0 0 plan\n"), Request::Zeroing),
+        15 => (slot(""), OWNED),
+        _ => (plan("T 1 0 0 0\n", 1), OWNED),
+    }
+}
+
+/// Each number is met, straight from bytes, and says its own sentence, with the line where it has one.
 #[test]
-fn each_number_has_a_sentence_of_its_own() {
-    let numbers: Vec<u64> = (1..=15).chain([21, 22]).collect();
-    let sentences: std::collections::HashSet<&str> = numbers.iter().map(|&n| refused(n).sentence()).collect();
-    assert_eq!(sentences.len(), numbers.len());
-    assert!(!sentences.contains(refused(16).sentence()));
-    assert_eq!(refused(1).to_string(), "the sheet has more than 65,536 bytes (refusal 1)");
-    assert_eq!(at_line(3, 5).to_string(), format!("{} (refusal 3, line 5)", refused(3).sentence()));
+fn each_number_says_its_sentence() {
+    assert!(SENTENCES.iter().map(|row| row.0).eq((1..=15).chain([21, 22])));
+    for (number, sentence) in SENTENCES {
+        let (sheet, request) = met(number);
+        let (length, fill) = match number {
+            21 => (3, 4),
+            22 => (3, 0),
+            _ => (65_536, 0),
+        };
+        let answer = kitlubas::answer(&sheet, NodeId(7), Place(0), request, &mut vec![0; length], fill);
+        let refusal = answer.expect_err(sentence);
+        assert_eq!((refusal.number, refusal.to_string().as_str()), (number, sentence));
+        assert!(sentence.starts_with(refusal.sentence()));
+    }
+}
+
+/// The refusals of texts are met by a text with as much room as it takes, too.
+#[test]
+fn each_number_of_a_text() {
+    for number in 1..=15 {
+        let (sheet, request) = met(number);
+        let refusal = kitlubas::text(&sheet, NodeId(7), Place(0), request).expect_err("the request is refused");
+        assert_eq!(refusal.number, number);
+    }
 }

@@ -1,14 +1,14 @@
 //! The zeroing of groups: its lines, its refusals and its bounds.
 
-use crate::common::{ask, sheet};
-use kitlubas::{text, Refusal, Request};
+use crate::common::{ask, sheet, text, Told};
+use kitlubas::Request;
 
-fn zeroing(short: &str) -> Result<String, Refusal> {
-    text(&sheet(short), 7, 0, Request::Zeroing)
+fn zeroing(short: &str) -> Result<String, Told> {
+    text(&sheet(short), (7, 0), Request::Zeroing)
 }
 
-fn refused(number: u64) -> Result<String, Refusal> {
-    Err(Refusal { number, line: None })
+fn refused(number: u64) -> Result<String, Told> {
+    Err((number, None))
 }
 
 /// A bed whose first field is a group, and the group's node with these fields.
@@ -58,7 +58,7 @@ fn number_14_a_group_whose_node_is_no_struct() {
 #[test]
 fn the_fill_count_at_its_bounds() {
     let bytes = sheet(&bed(PLAN, "F 9 65535 0 0 isFree\nT 1 0 0 0\nV 1 0\n"));
-    let whole = text(&bytes, 7, 0, Request::Zeroing).expect("the zeroing is answered");
+    let whole = text(&bytes, (7, 0), Request::Zeroing).expect("the zeroing is answered");
     let ask = |length| ask(&bytes, (7, 0), Request::Zeroing, length, 5);
     assert_eq!(ask(5 + whole.len()), Ok(whole.clone()));
     assert_eq!(ask(5 + whole.len() - 1), refused(22));

@@ -7,7 +7,7 @@ use lib.ListN.{length, drop}
 use borrow.Author.Needs.{needs}
 use Rattle.row.specs.Rows.{rows}
 use Rattle.tree.specs.Reader.{mapR}
-use Rattle.tree.specs.Read.{wordsUpTo}
+use Rattle.tree.specs.Read.{readWordsUpTo}
 use Rattle.field.specs.Parts.{mostWords}
 use Rattle.field.proofs.WordsLaws.{counting, count-start, count-none, count-full, count-on, count-stop}
 use Rattle.field.proofs.words_from.Statement.{statement}
@@ -15,7 +15,7 @@ use Rattle.field.proofs.words_from.Tie as tie
 
 abbrev Inv-loop : tie.InvT-loop
 Inv-loop s from any next₀ count₀ next count =
-    (count ≤ 255) × (counting count (rows (drop next s)) ≡ mapR length (wordsUpTo (mostWords any)) (rows (drop from s)))
+    (count ≤ 255) × (counting count (rows (drop next s)) ≡ mapR length (readWordsUpTo (mostWords any)) (rows (drop from s)))
 
 abbrev μ-loop : tie.MeasureT-loop
 μ-loop s from any next₀ count₀ next count = 255 - count

@@ -3,7 +3,7 @@ use mathlib.Core.Path.{refl}
 use lib.ListN.{drop}
 use Rattle.text.proofs.Laws.{_⨾_}
 use Rattle.row.specs.Rows.{rows}
-use Rattle.tree.specs.Read.{typeOf}
+use Rattle.tree.specs.Read.{readType}
 use Rattle.nodes.specs.Index.{sheetOf}
 use Rattle.getter.proofs.ResultLaws.{on-fallible}
 use borrow.Author.Needs.{needs}
@@ -17,7 +17,7 @@ returns c =
     let at-bytes-2 = at-optional-type .before .before .before .before in
     let at-bytes = at-bytes-2 .before .before .before .before .before in
     let a = at-bytes .before .before .before .before .before .before .args in
-    λ ns ix. on-fallible (typeOf 16 (rows (drop (a .at) (a .s .now)))) (sheetOf (a .root .now) ns)
+    λ ns ix. on-fallible (readType 16 (rows (drop (a .at) (a .s .now)))) (sheetOf (a .root .now) ns)
     (a .leaf) _ (a .root .now) (a .option) ((at-bytes .bytes .ensures) ⨾ (at-bytes-2 .bytes2 .ensures))
     ((at-optional-type .optional-type .ensures) ns ix) (at-bytes-3 .bytes3 .ensures) refl refl
 

@@ -2,7 +2,7 @@
 use mathlib.Core.Path.{refl}
 use lib.ListN.{drop}
 use Rattle.row.specs.Rows.{rows}
-use Rattle.tree.specs.Read.{typeOf}
+use Rattle.tree.specs.Read.{readType}
 use Rattle.nodes.specs.Index.{sheetOf}
 use Rattle.getter.proofs.ResultLaws.{on-option, then-ok}
 use borrow.Author.Needs.{needs}
@@ -16,7 +16,7 @@ returns c =
     let at-bytes = at-type-string .before .before .before .before in
     let at-if-1 = at-bytes .before .before .before in
     let a = at-if-1 .before .before .before .before .before .args in
-    λ ns ix. rw (at-if-1 .if1 .taken) (on-option (typeOf 16 (rows (drop (a .at) (a .s .now)))) (sheetOf (a .root .now) ns)
+    λ ns ix. rw (at-if-1 .if1 .taken) (on-option (readType 16 (rows (drop (a .at) (a .s .now)))) (sheetOf (a .root .now) ns)
     (a .leaf) _ (at-bytes .bytes .ensures) ((at-type-string .type-string .ensures) ns ix)
     (at-bytes-2 .bytes2 .ensures) refl refl)
 

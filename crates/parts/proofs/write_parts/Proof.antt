@@ -5,7 +5,7 @@ use Prim.Native.Nat.{_^_, _<_}
 use native.Mathlib.Omega.{arith}
 use borrow.Author.Needs.{needs}
 use lib.ListN.{length}
-use Rattle.parts.specs.Program.{from}
+use Rattle.parts.specs.Program.{partsFrom}
 use Rattle.parts.proofs.FitLaws.{lent-length}
 use Rattle.parts.proofs.PartLaws.{PartsLeft, parts-none, parts-short, parts-more, parts-last}
 use Rattle.parts.proofs.write_parts.Statement.{statement}
@@ -13,10 +13,10 @@ use Rattle.parts.proofs.write_parts.Tie as tie
 
 abbrev Inv-loop : tie.InvT-loop
 Inv-loop root s index tag field name out₀ part₀ n₀ out part n =
-    PartsLeft root s index tag field name part₀ out₀ out n (from part)
+    PartsLeft root s index tag field name part₀ out₀ out n (partsFrom part)
 
 abbrev μ-loop : tie.MeasureT-loop
-μ-loop root s index tag field name out₀ part₀ n₀ out part n = length (from part)
+μ-loop root s index tag field name out₀ part₀ n₀ out part n = length (partsFrom part)
 
 room : (c : tie.Start Inv-loop μ-loop) → length (c .args .out .now) < 2 ^ 63
 room c = search needs

@@ -5,13 +5,13 @@ use Prim.Native.Nat.{_-_}
 use native.Mathlib.Omega.{arith}
 use lib.ListN.{length, getD, drop}
 use borrow.Author.Needs.{needs}
-use Rattle.programs.specs.Input.{numberFrom, numberOf}
+use Rattle.programs.specs.Input.{numberFrom, decimalOf}
 use Rattle.programs.proofs.InputLaws.{digit-most, number-on, number-whole}
 use Rattle.programs.proofs.number.Statement.{statement}
 use Rattle.programs.proofs.number.Tie as tie
 
 abbrev Inv-loop : tie.InvT-loop
-Inv-loop digits n₀ i₀ n i = numberFrom n (drop i digits) ≡ numberOf digits
+Inv-loop digits n₀ i₀ n i = numberFrom n (drop i digits) ≡ decimalOf digits
 
 abbrev μ-loop : tie.MeasureT-loop
 μ-loop digits n₀ i₀ n i = length digits - i

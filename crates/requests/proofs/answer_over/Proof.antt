@@ -1,4 +1,5 @@
--- `requests::answer_over` meets its contract: the sheet's own refusal, or the answer in its index. Assumes nothing.
+-- `requests::answer_over` meets its contract: the sheet's own refusal, or the answer in its index, which has room. Assumes
+-- nothing.
 use borrow.Author.Needs.{needs}
 use Rattle.requests.proofs.SheetLaws.{sheet-answered, sheet-refused}
 use Rattle.requests.proofs.answer_over.Statement.{statement}
@@ -11,7 +12,7 @@ returns c =
     let at-admit = at-told .before .before .before .before in
     let start = at-admit .before .before .before .before .before in
     sheet-answered (start .args .s .now) _ _ (at-admit .admit .ensures .0) _ _ _ _ _ _ (at-told .enum-told .given .1)
-    (at-admit .admit .ensures .1 (start .pre .1)) (at-answer-in .answer-in .ensures)
+    (at-admit .admit .ensures .1 (start .pre .1)) (at-answer-in .answer-in .ensures .0)
 
 returns-2 : tie.Need-returns-2
 returns-2 c =

@@ -7,15 +7,12 @@ use Rattle.row.specs.Line.{widths, mostBits}
 use Rattle.row.proofs.most_bits.Statement.{statement}
 use Rattle.row.proofs.most_bits.Tie as tie
 
-returns : tie.Need-returns
-unfolding mostBits
-returns c =
-    List·getD-map most widths (c .before .args .kind) 0
-
-returns-2 : tie.Need-returns-2
-unfolding mostBits
-returns-2 c =
-    sym (ap most (List·getD-eq-default widths 0 (c .if1 .left)))
-
 pub most-bits-spec : {M : Type 1} → statement M
-most-bits-spec = tie.close (tie.spec (λ c. search needs) (λ c. search needs) returns returns-2)
+unfolding mostBits
+most-bits-spec =
+    tie.close
+    (tie.spec
+    (λ c. search needs)
+    (λ c. search needs)
+    (λ c. List·getD-map most widths (c .before .args .kind) 0)
+    (λ c. sym (ap most (List·getD-eq-default widths 0 (c .if1 .left)))))

@@ -4,17 +4,10 @@ use Rattle.row.specs.Line.{unboundLine}
 use Rattle.row.proofs.unbound_line.Statement.{statement}
 use Rattle.row.proofs.unbound_line.Tie as tie
 
-returns : tie.Need-returns
-unfolding unboundLine
-returns c =
-    simp
-    (ne-eqb _ _ (c .if1 .taken))
-
-returns-2 : tie.Need-returns-2
-unfolding unboundLine
-returns-2 c =
-    simp
-    (eq-eqb _ _ (c .if1 .left))
-
 pub unbound-line-spec : {M : Type 1} → statement M
-unbound-line-spec = tie.close (tie.spec returns returns-2)
+unfolding unboundLine
+unbound-line-spec =
+    tie.close
+    (tie.spec
+    (λ c. rw (ne-eqb _ _ (c .if1 .taken)))
+    (λ c. rw (eq-eqb _ _ (c .if1 .left))))

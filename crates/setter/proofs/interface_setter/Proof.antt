@@ -5,8 +5,8 @@ use Rattle.text.specs.Bytes.{ascii}
 use Rattle.text.proofs.Laws.{_⨾_, kept}
 use Rattle.names.specs.Names.{nameOf}
 use Rattle.nodes.specs.Index.{sheetOf}
-use Rattle.codegen_setter.specs.Parts.{tagLine}
-use Rattle.codegen_setter.proofs.Laws.{retext}
+use Rattle.setter_code.specs.Parts.{tagLine}
+use Rattle.setter_code.proofs.Laws.{retext}
 use Rattle.setter.proofs.ArmLaws.{interface-here, capability-line}
 use borrow.Author.Needs.{needs}
 use Rattle.setter.proofs.interface_setter.Statement.{statement}

@@ -3,7 +3,7 @@ use mathlib.Core.Path.{refl}
 use lib.ListN.{drop}
 use Rattle.text.proofs.Laws.{_⨾_}
 use Rattle.row.specs.Rows.{rows}
-use Rattle.tree.specs.Read.{typeOf}
+use Rattle.tree.specs.Read.{readType}
 use Rattle.nodes.specs.Index.{sheetOf}
 use Rattle.setter.proofs.ArmLaws.{on-input}
 use borrow.Author.Needs.{needs}
@@ -18,7 +18,7 @@ returns c =
     let c3 = c4 .before .before .before .before .before in
     let c2 = c3 .before .before .before .before in
     let c1 = c2 .before .before .before .before .before .before .before in
-    λ ns ix. on-input (typeOf 16 (rows (drop (c1 .args .at) (c1 .args .s .now)))) (sheetOf (c1 .args .root .now) ns)
+    λ ns ix. on-input (readType 16 (rows (drop (c1 .args .at) (c1 .args .s .now)))) (sheetOf (c1 .args .root .now) ns)
     (c5 .type-string .result) (c2 .bytes .ensures ⨾ c3 .bytes2 .ensures ⨾ c4 .bytes3 .ensures)
     (c5 .type-string .ensures ns ix) (c6 .bytes4 .ensures) refl refl
 

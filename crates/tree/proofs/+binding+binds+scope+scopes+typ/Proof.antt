@@ -13,7 +13,7 @@ use Rattle.tree.proofs.WalkLaws.{times-on, times-stop, binding-unbound,
 use Rattle.tree.proofs.WalkLaws.{scope-other}
 use Rattle.tree.proofs.UnboundLaws.{passed-unbound}
 use Rattle.tree.specs.Walked.{passed}
-use Rattle.tree.specs.Read.{typeOf, scopeOf, bindingOf}
+use Rattle.tree.specs.Read.{readType, readScope, readBinding}
 use Rattle.tree.specs.Reader.{times}
 use Rattle.tree.specs.Tree.{end, stop}
 use Rattle.row.specs.Rows.{rows}
@@ -107,8 +107,8 @@ binds-calls t = (unbound-run-reads.Asked, unbound-run-reads.Learnt, binding-belo
 
 abbrev binds-Inv-loop : binds-lts.InvT-loop
 binds-Inv-loop s from left count at₀ n₀ at n =
-    passed (times (bindingOf (typeOf left)) stop count (rows (drop from s))) ≡ passed
-    (times (bindingOf (typeOf left)) stop n (rows (drop at s)))
+    passed (times (readBinding (readType left)) stop count (rows (drop from s))) ≡ passed
+    (times (readBinding (readType left)) stop n (rows (drop at s)))
 
 abbrev binds-μ-loop : binds-lts.MeasureT-loop
 binds-μ-loop s from left count at₀ n₀ at n = n
@@ -173,8 +173,8 @@ scope-returns-3 t c =
 
 abbrev scopes-Inv-loop : scopes-lts.InvT-loop
 scopes-Inv-loop s from left count at₀ n₀ at n =
-    passed (times (scopeOf (typeOf left)) end count (rows (drop from s))) ≡ passed
-    (times (scopeOf (typeOf left)) end n (rows (drop at s)))
+    passed (times (readScope (readType left)) end count (rows (drop from s))) ≡ passed
+    (times (readScope (readType left)) end n (rows (drop at s)))
 
 abbrev scopes-μ-loop : scopes-lts.MeasureT-loop
 scopes-μ-loop s from left count at₀ n₀ at n = n

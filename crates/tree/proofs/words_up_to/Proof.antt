@@ -4,13 +4,14 @@ use lib.ListN.{drop}
 use borrow.Author.Needs.{needs}
 use Rattle.tree.proofs.SlotLaws.{words-none, words-on, words-stop}
 use Rattle.tree.specs.Walked.{passed}
-use Rattle.tree.specs.Read.{wordsUpTo}
+use Rattle.tree.specs.Read.{readWordsUpTo}
 use Rattle.row.specs.Rows.{rows}
 use Rattle.tree.proofs.words_up_to.Statement.{statement}
 use Rattle.tree.proofs.words_up_to.Tie as tie
 
 abbrev Inv-loop : tie.InvT-loop
-Inv-loop s from count at₀ n₀ at n = passed (wordsUpTo count (rows (drop from s))) ≡ passed (wordsUpTo n (rows (drop at s)))
+Inv-loop s from count at₀ n₀ at n = passed (readWordsUpTo count (rows (drop from s))) ≡ passed (readWordsUpTo n (rows
+    (drop at s)))
 
 abbrev μ-loop : tie.MeasureT-loop
 μ-loop s from count at₀ n₀ at n = n

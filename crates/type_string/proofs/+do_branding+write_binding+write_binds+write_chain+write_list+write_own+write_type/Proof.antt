@@ -19,7 +19,7 @@ use Rattle.row.specs.Rows.{rows}
 use Rattle.tree.specs.Tree.{Node, end, stop}
 use Rattle.tree.specs.Reader.{times}
 use Rattle.tree.specs.Read as read
-use Rattle.tree.specs.Read.{typeOf, bindingOf}
+use Rattle.tree.specs.Read.{readType, readBinding}
 use Rattle.tree.specs.Index.{On}
 use Rattle.nodes.specs.Index.{Indexed, sheetOf}
 use Rattle.codegen_types.specs.Out.{Out}
@@ -27,7 +27,7 @@ use Rattle.codegen_types.specs.TypeString.{typeString, bindingsOf, allOf}
 use Rattle.codegen_types.specs.Written.{Writes}
 use Rattle.codegen_types.specs.declared.Leaf.the-variants.{Owned}
 use Rattle.codegen_types.proofs.WrittenLaws.{written, none}
-use Rattle.find.proofs.TypeLaws as read-law
+use Rattle.types.proofs.TypeLaws as read-law
 use Rattle.type_parts.specs.Parts.{Lists}
 use Rattle.type_parts.specs.declared.Argued.{Argued}
 use borrow.Author.Needs.{needs}
@@ -47,7 +47,7 @@ use cycle.Lts-write_own as write-own-lts
 use here.write_type.Reads as write-type
 use cycle.Lts-write_type as write-type-lts
 use Rattle.codegen_types.proofs as codegen-types
-use Rattle.find.proofs as find
+use Rattle.types.proofs as find
 use Rattle.row.proofs as row
 use Rattle.text.proofs.Text as text
 use Rattle.type_parts.proofs as type-parts
@@ -163,7 +163,7 @@ do-branding-returns t c =
     let at-qualified-module = at-opening .before .before .before .before in
     let at-args = at-qualified-module .before .before .before .before .before .before in
     λ ns x. law.brand-on (sheetOf (at-args .args .root .now) ns) (at-args .args .leaf) (at-args .args .brand .id)
-    (times (read.scopeOf (typeOf (at-args .args .left))) end (at-args .args .brand .count) (rows
+    (times (read.readScope (readType (at-args .args .left))) end (at-args .args .brand .count) (rows
     (drop (at-args .args .brand .scopes) (at-args .args .s .now)))) (at-write-chain .write-chain .result)
     ((at-qualified-module .qualified-module .ensures) (at-args .args .root .now) ns x) (at-opening .opening .ensures)
     ((at-write-chain .write-chain .ensures) ns x) (at-close .close .ensures) refl refl
@@ -205,9 +205,9 @@ write-binding-returns-3 t c =
 abbrev write-binds-Inv-loop : write-binds-lts.InvT-loop
 write-binds-Inv-loop root s index from count left buf₀ at₀ n₀ p₀ buf at n p = (length buf ≡ length buf₀) ×
     ((ns : List Node) → Indexed s ns index → (l′ : List ℕ) (r : Argued)
-    → On (times (bindingOf (typeOf left)) stop n (rows (drop at s)))
+    → On (times (readBinding (readType left)) stop n (rows (drop at s)))
     (λ bs. Lists (allOf (bindingsOf bs (sheetOf root ns))) buf p l′ r)
-    → On (times (bindingOf (typeOf left)) stop count (rows (drop from s)))
+    → On (times (readBinding (readType left)) stop count (rows (drop from s)))
     (λ bs. Lists (allOf (bindingsOf bs (sheetOf root ns))) buf₀ p₀ l′ r))
 
 abbrev write-binds-μ-loop : write-binds-lts.MeasureT-loop

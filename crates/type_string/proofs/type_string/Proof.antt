@@ -1,6 +1,6 @@
 -- `type_string::type_string` meets its contract: the type's row is read, and its text is that of a type with 15 levels below it.
 -- Assumes nothing.
-use Rattle.find.proofs.TypeLaws.{type-row}
+use Rattle.types.proofs.TypeLaws.{type-row}
 use Rattle.nodes.specs.Index.{sheetOf}
 use Rattle.codegen_types.specs.TypeString.{typeString}
 use Rattle.codegen_types.specs.Written.{Writes}

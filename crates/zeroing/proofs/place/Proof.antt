@@ -4,14 +4,14 @@ use Prim.Native.Nat.{_<_}
 use native.Mathlib.Nat.{mod-lt, zero-lt-suc}
 use native.Mathlib.Omega.{arith}
 use borrow.Author.Needs.{needs}
-use Rattle.zeroing.specs.Table.{size, placeFrom, placeOf}
+use Rattle.zeroing.specs.Table.{tableSize, placeFrom, tablePlace}
 use Rattle.zeroing.proofs.TableLaws.{place-none, place-here, place-on}
 use Rattle.zeroing.proofs.place.Statement.{statement}
 use Rattle.zeroing.proofs.place.Tie as tie
 
 abbrev Inv-loop : tie.InvT-loop
 Inv-loop offsets types typ offset i₀ left₀ i left =
-    (i < size) × (placeFrom offsets types typ offset i left ≡ placeOf offsets types typ offset)
+    (i < tableSize) × (placeFrom offsets types typ offset i left ≡ tablePlace offsets types typ offset)
 
 abbrev μ-loop : tie.MeasureT-loop
 μ-loop offsets types typ offset i₀ left₀ i left = left

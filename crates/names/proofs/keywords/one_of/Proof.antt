@@ -6,14 +6,14 @@ use Prim.Native.Nat.{_-_, _≤_}
 use native.Mathlib.Omega.{arith}
 use lib.ListN.{length, drop, length-drop}
 use denote.Ref.{now}
-use Rattle.names.specs.Keywords.{among, wordsOf}
+use Rattle.names.specs.Keywords.{isOneOf, cutWords}
 use Rattle.names.proofs.KeywordLaws.{turn, words-none}
 use Rattle.names.proofs.keywords.one_of.Statement.{statement}
 use Rattle.names.proofs.keywords.one_of.Tie as tie
 
 abbrev Inv-loop : tie.InvT-loop
 Inv-loop name words len at₀ at = (at ≤ length words)
-    × (among name (wordsOf (length name) (drop at words)) ≡ among name (wordsOf (length name) words))
+    × (isOneOf name (cutWords (length name) (drop at words)) ≡ isOneOf name (cutWords (length name) words))
 
 abbrev μ-loop : tie.MeasureT-loop
 μ-loop name words len at₀ at = length words - at
@@ -42,7 +42,7 @@ loop-again c =
     )
 
 returns-2 : tie.Need-returns-2 Inv-loop μ-loop
-unfolding among
+unfolding isOneOf
 returns-2 c =
     let l = c .before .loop in
     let d = c .before .before .before .before .args in

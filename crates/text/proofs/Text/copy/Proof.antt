@@ -7,7 +7,7 @@ use native.Mathlib.Nat.{add-zero, add-assoc}
 use native.Mathlib.Omega.{arith}
 use lib.ListN.{length, drop, drop-of-length-le, length-set}
 use denote.Ref.{now}
-use Rattle.text.specs.Text.{textAt}
+use Rattle.text.specs.Text.{stateAt}
 use Rattle.text.proofs.Laws.{Left, left-all, left-more, left-none, drop-unit}
 use Rattle.text.proofs.Places.{stored}
 use Rattle.text.proofs.Text.copy.Statement.{statement}
@@ -15,7 +15,7 @@ use Rattle.text.proofs.Text.copy.Tie as tie
 
 abbrev Inv-loop : tie.InvT-loop
 Inv-loop buf₀ s at i₀ buf i = (i ≤ length s) × (length buf ≡ length buf₀)
-    × Left buf (textAt (at + i)) (drop i s) buf₀ (textAt at) s
+    × Left buf (stateAt (at + i)) (drop i s) buf₀ (stateAt at) s
 
 abbrev μ-loop : tie.MeasureT-loop
 μ-loop buf₀ s at i₀ buf i = length s - i
@@ -32,7 +32,7 @@ loop-again c =
       simp length-set (omega arith),
       rw (← add-assoc)
           (left-more (rw (drop-unit _ _ (d .loop-test .taken)) at (l .inv .2))
-          (stored (l .buf) (textAt (at + l .i)) _ (omega arith))),
+          (stored (l .buf) (stateAt (at + l .i)) _ (omega arith))),
     )
 
 returns : tie.Need-returns Inv-loop μ-loop

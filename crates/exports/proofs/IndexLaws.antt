@@ -1,0 +1,109 @@
+-- What the index and the field reader give is what is told at the boundary: by what is found for a number, and by what stands
+-- at a position. Assumes nothing.
+use mathlib.Core.Path.{_≡_, refl, sym, ap, _∙_}
+use mathlib.Core.List.{List, [], _∷_}
+use mathlib.Core.Option.{Option, none, some}
+use Prim.Native.Nat.{ℕ, _-_, _≤_}
+use native.Mathlib.Omega.{arith}
+use lib.ListN.{drop}
+use Rattle.text.specs.Bytes.{Str}
+use Rattle.row.specs.Rows.{rows, restOf}
+use Rattle.row.specs.Line.{textAt, spanned}
+use Rattle.row.specs.declared.Span.{Span}
+use Rattle.tree.specs.Tree as tree
+use Rattle.tree.specs.Tree.{Arm, slot, group, Node}
+use Rattle.tree.proofs.OtherLines.{never}
+use Rattle.codegen_types.specs.Out.{Out}
+use Rattle.nodes.specs.Index.{nth, entryWith, Indexed, Finds}
+use Rattle.nodes.specs.declared.Entry.{Entry}
+use Rattle.nodes.specs.declared.Found.the-variants as found
+use Rattle.nodes.proofs.Laws.{nth-is}
+use Rattle.nodes.proofs.NameLaws.{names-out}
+use Rattle.field.specs.Field.{SlotIn, GroupIn, ReadsFirst}
+use Rattle.field.specs.declared.Slot.{Slot}
+use Rattle.field.specs.declared.Group.{Group}
+use Rattle.field.specs.declared.Field.the-variants as field
+use Rattle.requests.specs.Told.{Passed}
+use Rattle.requests.specs.declared.Pass.{Pass}
+use Rattle.exports.specs.Boundary.{numberPass, lengthPass, PassTold, NodeSaid, kindOf, FieldSaid}
+
+-- a pass, told by its number and length
+pub pass-told : (o : Out Str) (l l′ : Str) (r p : Pass) (number size : ℕ) → Passed o l l′ r → r ≡ p → number ≡ numberPass p
+    → size ≡ lengthPass p → PassTold o l l′ number size
+pass-told o l l′ r p number size h e n m =
+    let z = sym e ∙ h .says in
+    record { number-is = n ∙ ap numberPass z; length-is = m ∙ ap lengthPass z; text = h .text }
+
+-- the text of the row at a position, for whoever knows where the next begins, is what a span spans
+abbrev Spans : Str → Span → ℕ → ℕ → Type 0
+Spans s p at next = rows (drop next s) ≡ restOf (rows (drop at s)) → spanned s p ≡ textAt (rows (drop at s))
+
+-- ---- the node with a number
+
+module _ (s : Str) (ns : List Node) (index : List ℕ) (x : Indexed s ns index) (k : ℕ) where
+  pub node-past : 64 ≤ k → NodeSaid s (nth k ns) 15 0 0 0 0
+  node-past h = rw (names-out k ns (omega (arith, x .few))) (refl, refl, refl, refl, refl)
+
+  pub node-none : found.Nothing ≡ entryWith index k → NodeSaid s (nth k ns) 15 0 0 0 0
+  node-none e = go (nth k ns) (rw (← e) at (nth-is s ns index k x))
+    where
+      go : (o : Option Node) → Finds s index found.Nothing o → NodeSaid s o 15 0 0 0 0
+      go (some n) h = absurd h
+      go none h = (refl, refl, refl, refl, refl)
+
+  pub node-some : (e : Entry) (p : Span) → found.At e ≡ entryWith index k → Spans s p (e .at) (e .params)
+      → NodeSaid s (nth k ns) 0 (e .id) (p .start) (p .end - p .start) (e .fields)
+  node-some e p i text = go (nth k ns) (rw (← i) at (nth-is s ns index k x))
+    where
+      go : (o : Option Node) → Finds s index (found.At e) o
+          → NodeSaid s o 0 (e .id) (p .start) (p .end - p .start) (e .fields)
+      go (some n) h = record {
+        number-is = refl;
+        id-is = h .id;
+        module-is = text (h .after) ∙ h .theMod;
+        fields-here = h .fields;
+      }
+      go none h = absurd h
+
+-- ---- the field at a position
+
+module _ (s : Str) (p : Span) where
+  pub slot-told : (r : Slot) (fs : List tree.Field) → ReadsFirst s (field.Slot r) fs → Spans s p (r .at) (r .typ)
+      → FieldSaid s fs 0 (r .kind) (p .start) (p .end - p .start) (r .next)
+  slot-told r [] h text = never cc
+  slot-told r (f ∷ fs) h text = record {
+    number-is = refl;
+    kind-is = kind (f .arm) (h .0);
+    name-is = name (f .arm) (h .0);
+    fields-here = h .1;
+  }
+    where
+      kind : (a : Arm) → SlotIn s r (f .name) (f .discriminant) a → r .kind ≡ kindOf a
+      kind (slot sl) i = sym (i .slot .kind)
+      kind (group id) i = absurd i
+
+      name : (a : Arm) → SlotIn s r (f .name) (f .discriminant) a → spanned s p ≡ f .name
+      name (slot sl) i = text (i .after) ∙ i .name
+      name (group id) i = absurd i
+
+  pub group-told : (g : Group) (fs : List tree.Field) → ReadsFirst s (field.Group g) fs → Spans s p (g .at) (g .next)
+      → FieldSaid s fs 0 19 (p .start) (p .end - p .start) (g .next)
+  group-told g [] h text = never cc
+  group-told g (f ∷ fs) h text = record {
+    number-is = refl;
+    kind-is = kind (f .arm) (h .0);
+    name-is = name (f .arm) (h .0);
+    fields-here = h .1;
+  }
+    where
+      kind : (a : Arm) → GroupIn s g (f .name) (f .discriminant) a → 19 ≡ kindOf a
+      kind (slot sl) i = absurd i
+      kind (group id) i = refl
+
+      name : (a : Arm) → GroupIn s g (f .name) (f .discriminant) a → spanned s p ≡ f .name
+      name (slot sl) i = absurd i
+      name (group id) i = text (i .after) ∙ i .name-is
+
+pub nothing-told : (s : Str) (fs : List tree.Field) → ReadsFirst s field.Nothing fs → FieldSaid s fs 15 0 0 0 0
+nothing-told s [] h = (refl, refl, refl, refl, refl)
+nothing-told s (f ∷ fs) h = absurd (h .0)

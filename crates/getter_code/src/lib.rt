@@ -1,0 +1,246 @@
+// The code of a slot's getter: what `getter_text` of codegen.rs gives beside the result type and the default's declaration.
+use field::Slot;
+use terms::kinds;
+use text::Text;
+ghost use mathlib.Core.Path.{_≡_};
+ghost use mathlib.Core.Bool.{true, false};
+ghost use lib.Dec.{eqb};
+ghost use Rattle.text.specs.Bytes.{cond};
+ghost use Rattle.text.specs.Lines.{stringify};
+ghost use Rattle.text.specs.Text.{Wrote};
+ghost use Rattle.tree.specs.Tree as tree;
+ghost use Rattle.field.specs.Slot.{SlotIs};
+ghost use Rattle.codegen_types.specs.Primitive.{primitiveText};
+ghost use Rattle.codegen.specs.Getter.{void, pointerDefault, fromPointer, capability, untyped};
+ghost use Rattle.codegen.specs.Getter.{isFallible, fragmentOf, getterCode};
+ghost use Rattle.getter_code.specs.Parts.{fromPointerHead, capabilityHead, anyPointerHead};
+ghost use Rattle.getter_code.specs.Parts.{nullHead, absent, someEnd};
+
+fn void(is_fn: bool, t: Text, buf: &mut [u8]) -> Text
+    ensures { λ r. ⌜ Wrote (now (buf .entry)) t (void «is_fn») (now (buf .exit)) r ⌝ }
+{
+    if is_fn {
+        return t;
+    }
+    t.bytes(buf, b"()")
+}
+
+// The default of a pointer: its constant, if it is explicit.
+fn pointer_default(explicit: u64, name: &[u8], t: Text, buf: &mut [u8]) -> Text
+    ensures { λ r. ⌜ Wrote (now (buf .entry)) t (pointerDefault explicit (now (name .entry))) (now (buf .exit)) r ⌝ }
+{
+    if explicit == 1 {
+        let t = t.bytes(buf, b"::core::option::Option::Some(&_private::");
+        let t = names::default_name(t, buf, name);
+        return t.bytes(buf, b"[..])");
+    }
+    t.bytes(buf, b"::core::option::Option::None")
+}
+
+fn from_pointer_head(is_reader: bool, t: Text, buf: &mut [u8]) -> Text
+    ensures { λ r. ⌜ Wrote (now (buf .entry)) t (fromPointerHead «is_reader») (now (buf .exit)) r ⌝ }
+{
+    if is_reader {
+        return t.bytes(
+            buf,
+            b"::traits::FromPointerReader::get_from_pointer(&self.reader.get_pointer_field(",
+        );
+    }
+    t.bytes(
+        buf,
+        b"::traits::FromPointerBuilder::get_from_pointer(self.builder.get_pointer_field(",
+    )
+}
+
+// The value of a pointer field, with its default.
+fn from_pointer(
+    root: &[u8],
+    is_reader: bool,
+    offset: u64,
+    explicit: u64,
+    name: &[u8],
+    t: Text,
+    buf: &mut [u8],
+) -> Text
+    ensures { λ r. ⌜ Wrote (now (buf .entry)) t
+        (fromPointer (now (root .entry)) «is_reader» offset (pointerDefault explicit (now (name .entry)))) (now (buf .exit)) r ⌝ }
+{
+    let t = t.bytes(buf, root);
+    let t = from_pointer_head(is_reader, t, buf);
+    let t = t.number(buf, offset);
+    let t = t.bytes(buf, b"), ");
+    let t = pointer_default(explicit, name, t, buf);
+    t.bytes(buf, b")")
+}
+
+fn capability_head(is_reader: bool, t: Text, buf: &mut [u8]) -> Text
+    ensures { λ r. ⌜ Wrote (now (buf .entry)) t (capabilityHead «is_reader») (now (buf .exit)) r ⌝ }
+{
+    if is_reader {
+        return t.bytes(buf, b"match self.reader.get_pointer_field(");
+    }
+    t.bytes(buf, b"match self.builder.get_pointer_field(")
+}
+
+// The capability of an interface field.
+fn capability(root: &[u8], is_reader: bool, offset: u64, t: Text, buf: &mut [u8]) -> Text
+    ensures { λ r. ⌜ Wrote (now (buf .entry)) t (capability (now (root .entry)) «is_reader» offset) (now (buf .exit)) r ⌝ }
+{
+    let t = capability_head(is_reader, t, buf);
+    let t = t.number(buf, offset);
+    let t = t.bytes(
+        buf,
+        b").get_capability() { ::core::result::Result::Ok(c) => ::core::result::Result::Ok(",
+    );
+    let t = t.bytes(buf, root);
+    t.bytes(
+        buf,
+        b"::capability::FromClientHook::new(c)), ::core::result::Result::Err(e) => ::core::result::Result::Err(e)}",
+    )
+}
+
+fn any_pointer_head(is_reader: bool, t: Text, buf: &mut [u8]) -> Text
+    ensures { λ r. ⌜ Wrote (now (buf .entry)) t (anyPointerHead «is_reader») (now (buf .exit)) r ⌝ }
+{
+    if is_reader {
+        return t.bytes(
+            buf,
+            b"::any_pointer::Reader::new(self.reader.get_pointer_field(",
+        );
+    }
+    t.bytes(
+        buf,
+        b"::any_pointer::Builder::new(self.builder.get_pointer_field(",
+    )
+}
+
+// The value of an AnyPointer field: of a parameter's type, or untyped.
+fn untyped(
+    root: &[u8],
+    is_reader: bool,
+    parameter: bool,
+    offset: u64,
+    t: Text,
+    buf: &mut [u8],
+) -> Text
+    ensures { λ r. ⌜ Wrote (now (buf .entry)) t (untyped (now (root .entry)) «is_reader» parameter offset) (now (buf .exit)) r ⌝ }
+{
+    if parameter {
+        return from_pointer(root, is_reader, offset, 0, b"", t, buf);
+    }
+    let t = t.bytes(buf, root);
+    let t = any_pointer_head(is_reader, t, buf);
+    let t = t.number(buf, offset);
+    t.bytes(buf, b"))")
+}
+
+// getter_fragment of a slot whose default is of its type.
+fn fragment(
+    root: &[u8],
+    name: &[u8],
+    slot: Slot,
+    is_reader: bool,
+    is_fn: bool,
+    t: Text,
+    buf: &mut [u8],
+) -> Text
+    ensures { λ r. ⌜ ((s : tree.Slot) → SlotIs slot s → s .default .kind ≡ tree.kind (s .ty) → Wrote (now (buf .entry)) t
+        (fragmentOf (now (root .entry)) (now (name .entry)) s «is_reader» «is_fn» (primitiveText (slot .kind)))
+        (now (buf .exit)) r) ⌝ }
+{
+    let kind = slot.kind;
+    let bits = slot.bits;
+    if kind == kinds::VOID {
+        return void(is_fn, t, buf);
+    }
+    if kind == kinds::BOOL {
+        let mask = codegen::getter_mask(kind, bits);
+        return calls::get_bool_field(t, buf, is_reader, slot.offset, mask);
+    }
+    if kind <= kinds::FLOAT64 {
+        return codegen::get_number(is_reader, kind, slot.offset, bits, t, buf);
+    }
+    if kind == kinds::ENUM {
+        let mask = codegen::getter_mask(kind, bits);
+        return calls::get_enum_field(t, buf, is_reader, slot.offset, mask);
+    }
+    if kind == kinds::INTERFACE {
+        return capability(root, is_reader, slot.offset, t, buf);
+    }
+    if kind == kinds::ANY_POINTER {
+        return untyped(root, is_reader, slot.id != 0, slot.offset, t, buf);
+    }
+    from_pointer(root, is_reader, slot.offset, slot.explicit, name, t, buf)
+}
+
+// is_fallible, whether the result can be an error: for an enum, a parameter and every pointer but AnyPointer it can.
+fn is_fallible(slot: Slot) -> bool
+    ensures { λ r. ⌜ ((s : tree.Slot) → SlotIs slot s → r ≡ isFallible (s .ty)) ⌝ }
+{
+    let kind = slot.kind;
+    if kind == kinds::ANY_POINTER {
+        return slot.id != 0;
+    }
+    kinds::FLOAT64 < kind
+}
+
+fn null_head(is_reader: bool, t: Text, buf: &mut [u8]) -> Text
+    ensures { λ r. ⌜ Wrote (now (buf .entry)) t (nullHead «is_reader») (now (buf .exit)) r ⌝ }
+{
+    if is_reader {
+        return t.bytes(buf, b"if self.reader.is_pointer_field_null(");
+    }
+    t.bytes(buf, b"if self.builder.is_pointer_field_null(")
+}
+
+// The line for a pointer that is null, and the start of the other.
+fn absent(fallible: bool, t: Text, buf: &mut [u8]) -> Text
+    ensures { λ r. ⌜ Wrote (now (buf .entry)) t (absent fallible) (now (buf .exit)) r ⌝ }
+{
+    if fallible {
+        return t.bytes(
+            buf,
+            b") {\n    core::result::Result::Ok(core::option::Option::None)\n} else {\n    ",
+        );
+    }
+    t.bytes(
+        buf,
+        b") {\n    ::core::option::Option::None\n} else {\n    ::core::option::Option::Some(",
+    )
+}
+
+fn some_end(fallible: bool, t: Text, buf: &mut [u8]) -> Text
+    ensures { λ r. ⌜ Wrote (now (buf .entry)) t (someEnd fallible) (now (buf .exit)) r ⌝ }
+{
+    if fallible {
+        return t.bytes(buf, b".map(::core::option::Option::Some)\n}\n");
+    }
+    t.bytes(buf, b")\n}\n")
+}
+
+// The code of a slot whose default is of its type: the fragment, or with an option the test and both answers.
+pub fn code(
+    root: &[u8],
+    name: &[u8],
+    slot: Slot,
+    is_reader: bool,
+    is_fn: bool,
+    t: Text,
+    buf: &mut [u8],
+) -> Text
+    ensures { λ r. ⌜ ((s : tree.Slot) → SlotIs slot s → s .default .kind ≡ tree.kind (s .ty) → Wrote (now (buf .entry)) t
+        (stringify (getterCode s «is_reader» (cond (eqb (s .option) 0) false true)
+        (fragmentOf (now (root .entry)) (now (name .entry)) s «is_reader» «is_fn» (primitiveText (slot .kind)))))
+        (now (buf .exit)) r) ⌝ }
+{
+    if slot.option == 0 {
+        let t = fragment(root, name, slot, is_reader, is_fn, t, buf);
+        return t.byte(buf, b'\n');
+    }
+    let fallible = is_fallible(slot);
+    let t = null_head(is_reader, t, buf);
+    let t = t.number(buf, slot.offset);
+    let t = absent(fallible, t, buf);
+    let t = fragment(root, name, slot, is_reader, is_fn, t, buf);
+    some_end(fallible, t, buf)
+}

@@ -1,0 +1,48 @@
+/*
+ * Reads a sheet from standard input and prints the setter of the first field of its first node.
+ *
+ *     cc -Icrates/exports examples/c/setter.c target/staticlib/libexports.a -o setter
+ *     ./setter < examples/is_free.sheet
+ */
+#include "kitlubas.h"
+
+#include <stdio.h>
+#include <stdlib.h>
+
+/* One byte more than a sheet may have, so that a longer one is seen to be. */
+static uint8_t sheet[65537];
+static uint64_t sheet_index[1025];
+
+static int refused(const char *what, uint64_t number, size_t line)
+{
+    fprintf(stderr, "%s: refused %u line %zu\n", what, (unsigned)number, line);
+    return EXIT_FAILURE;
+}
+
+int main(void)
+{
+    size_t sheet_len = fread(sheet, 1, sizeof sheet, stdin);
+    size_t index_len = kitlubas_index_size(sheet_len);
+    size_t line, module, module_len, fields, length;
+    uint64_t id;
+    uint8_t *text;
+    uint64_t number = kitlubas_index(sheet, sheet_len, sheet_index, index_len, &line);
+
+    if (number != 0)
+        return refused("the sheet", number, line);
+    number = kitlubas_node(sheet, sheet_len, sheet_index, index_len, 0, &id, &module, &module_len, &fields);
+    if (number != 0)
+        return refused("the node", number, 0);
+
+    /* Without room the answer is 22 and the text's length, or another refusal. */
+    number = kitlubas_text_at(sheet, sheet_len, sheet_index, index_len, 0, fields, KITLUBAS_SETTER, 0, &length, NULL, 0);
+    if (number != 22)
+        return refused("the setter", number, 0);
+    text = malloc(length);
+    if (text == NULL)
+        return EXIT_FAILURE;
+    kitlubas_text_at(sheet, sheet_len, sheet_index, index_len, 0, fields, KITLUBAS_SETTER, 0, &length, text, length);
+    fwrite(text, 1, length, stdout);
+    free(text);
+    return EXIT_SUCCESS;
+}

@@ -1,0 +1,258 @@
+//! The library itself, called with what the crate never passes: any index, any position, any number. It returns, and
+//! writes only what it is lent.
+
+use crate::common::{sheet, Random, WARD};
+
+// The crate calls the others.
+#[path = "../../src/boundary/declarations.rs"]
+#[allow(dead_code)]
+mod declarations;
+
+/// What stands around every slice that is lent.
+const GUARD: u8 = 0xA5;
+const ROOM: usize = 64;
+
+/// The text of a request by its numbers, or the number of the refusal.
+pub fn text(sheet: &[u8], (id, place): (u64, u64), request: u64, leaf: u64) -> Result<String, u64> {
+    let mut buf = vec![0; 65_536];
+    let (mut fill, mut line) = (0, 0);
+    let number = unsafe {
+        declarations::kitlubas_answer(
+            sheet.as_ptr(),
+            sheet.len(),
+            id,
+            place,
+            request,
+            leaf,
+            &mut fill,
+            &mut line,
+            buf.as_mut_ptr(),
+            buf.len(),
+        )
+    };
+    match number {
+        0 => Ok(String::from_utf8(buf[..fill].to_vec()).expect("texts are ASCII")),
+        number => Err(number),
+    }
+}
+
+/// The index of a sheet, with so many numbers, and what was answered; nothing behind the numbers is written.
+fn index(bytes: &[u8], length: usize) -> ((u64, usize), Vec<u64>) {
+    let guard = u64::from(GUARD);
+    let mut index = vec![guard; length + ROOM];
+    let mut line = usize::MAX;
+    let number =
+        unsafe { declarations::kitlubas_index(bytes.as_ptr(), bytes.len(), index.as_mut_ptr(), length, &mut line) };
+    assert!(index[length..].iter().all(|number| *number == guard), "a number behind the index was written");
+    index.truncate(length);
+    ((number, line), index)
+}
+
+fn admit(bytes: &[u8]) -> (u64, usize) {
+    let mut line = usize::MAX;
+    let number = unsafe { declarations::kitlubas_admit(bytes.as_ptr(), bytes.len(), &mut line) };
+    (number, line)
+}
+
+fn index_size(length: usize) -> usize {
+    unsafe { declarations::kitlubas_index_size(length) }
+}
+
+/// A buffer between guards.
+struct Lent {
+    bytes: Vec<u8>,
+    length: usize,
+}
+
+impl Lent {
+    fn new(length: usize) -> Lent {
+        Lent { bytes: vec![GUARD; length + 2 * ROOM], length }
+    }
+
+    fn start(&mut self) -> *mut u8 {
+        self.bytes[ROOM..].as_mut_ptr()
+    }
+
+    /// Nothing changed before so many bytes of the buffer, and nothing behind it.
+    fn check(&self, kept: usize) {
+        let (before, behind) = (&self.bytes[..ROOM + kept.min(self.length)], &self.bytes[ROOM + self.length..]);
+        assert!(before.iter().chain(behind).all(|byte| *byte == GUARD), "a byte was written that was not lent");
+    }
+}
+
+/// A number below a bound, mostly.
+fn any(random: &mut Random, bound: usize) -> u64 {
+    if random.below(8) == 0 {
+        random.next()
+    } else {
+        random.below(bound) as u64
+    }
+}
+
+/// Asks something over any index, by an id and a place: nothing before the fill count changes.
+fn answer_anything(bytes: &[u8], index: &[u64], random: &mut Random) {
+    let length = [0, 1, 50, 1000][random.below(4)];
+    let kept = random.below(length + 2);
+    let (mut fill, mut line, mut lent) = (kept, 0, Lent::new(length));
+    let number = unsafe {
+        declarations::kitlubas_answer_in(
+            bytes.as_ptr(),
+            bytes.len(),
+            index.as_ptr(),
+            index.len(),
+            any(random, 10),
+            any(random, 9),
+            any(random, 10),
+            any(random, 11),
+            &mut fill,
+            &mut line,
+            lent.start(),
+            length,
+        )
+    };
+    lent.check(kept);
+    assert_eq!(number == 21, kept > length);
+    assert!(if number == 0 { kept <= fill && fill <= length } else { fill == kept });
+}
+
+/// A position, mostly one at which a line begins.
+fn position(bytes: &[u8], random: &mut Random) -> usize {
+    let at = any(random, bytes.len() + 2) as usize;
+    let rest = bytes.get(at..).unwrap_or_default();
+    match rest.iter().position(|byte| *byte == b'\n') {
+        Some(end) if random.below(4) != 0 => at + end + 1,
+        _ => at,
+    }
+}
+
+/// Asks for the text of something over any index, by a node's number and a position.
+fn text_of_anything(bytes: &[u8], index: &[u64], random: &mut Random) {
+    let length = [0, 1, 50, 1000][random.below(4)];
+    let (mut text_len, mut lent) = (usize::MAX, Lent::new(length));
+    let number = unsafe {
+        declarations::kitlubas_text_at(
+            bytes.as_ptr(),
+            bytes.len(),
+            index.as_ptr(),
+            index.len(),
+            any(random, 3) as usize,
+            position(bytes, random),
+            any(random, 10),
+            any(random, 11),
+            &mut text_len,
+            lent.start(),
+            length,
+        )
+    };
+    lent.check(0);
+    match number {
+        0 => assert!(text_len <= length),
+        22 => assert!(text_len > length),
+        _ => assert_eq!(text_len, 0),
+    }
+}
+
+/// The node with a number, over any index: its four values, or nothing where they are 0.
+fn node(bytes: &[u8], index: &[u64], number: usize) -> Option<(u64, usize, usize, usize)> {
+    let (mut id, mut module, mut module_len, mut fields) = (9, 9, 9, 9);
+    let refusal = unsafe {
+        declarations::kitlubas_node(
+            bytes.as_ptr(),
+            bytes.len(),
+            index.as_ptr(),
+            index.len(),
+            number,
+            &mut id,
+            &mut module,
+            &mut module_len,
+            &mut fields,
+        )
+    };
+    match refusal {
+        0 => return Some((id, module, module_len, fields)),
+        number => assert_eq!((number, id, module, module_len, fields), (15, 0, 0, 0, 0)),
+    }
+    None
+}
+
+/// The field at a position, of any bytes: its four values, or nothing where they are 0.
+fn field(bytes: &[u8], at: usize) -> Option<(u64, usize, usize, usize)> {
+    let (mut kind, mut name, mut name_len, mut next) = (9, 9, 9, 9);
+    let refusal = unsafe {
+        declarations::kitlubas_field(bytes.as_ptr(), bytes.len(), at, &mut kind, &mut name, &mut name_len, &mut next)
+    };
+    match refusal {
+        0 => return Some((kind, name, name_len, next)),
+        number => assert_eq!((number, kind, name, name_len, next), (15, 0, 0, 0, 0)),
+    }
+    None
+}
+
+#[test]
+fn the_size_of_an_index() {
+    assert!((0..70_000).chain([usize::MAX, usize::MAX / 2 + 1]).all(|length| index_size(length) <= 1025));
+}
+
+/// An index of any length is answered as its sheet is admitted; the whole one has the nodes.
+#[test]
+fn an_index_of_any_length() {
+    let ward = sheet(WARD);
+    let size = index_size(ward.len());
+    for length in (0..size + 3).step_by(1 + size / 200) {
+        assert_eq!(index(&ward, length).0, (0, 0));
+        assert_eq!(index(&ward[..ward.len() - 1], length).0, admit(&ward[..ward.len() - 1]));
+    }
+    let (answer, whole) = index(&ward, size);
+    assert_eq!(answer, (0, 0));
+    assert_eq!(node(&ward, &whole, 0).map(|node| node.0), Some(7));
+    assert_eq!(node(&ward, &whole, 1).map(|node| node.0), Some(9));
+    assert_eq!([2, 63, 64, usize::MAX].map(|number| node(&ward, &whole, number)), [None; 4]);
+}
+
+/// The index of the bytes, one that is cut, damaged or random, over the bytes and over damaged ones.
+#[test]
+fn any_index_over_any_bytes() {
+    let ward = sheet(WARD);
+    let size = index_size(ward.len());
+    let (_, whole) = index(&ward, size);
+    let mut random = Random(7);
+    for round in 0..20_000 {
+        let mut numbers = whole[..if round % 3 == 0 { random.below(size + 1) } else { size }].to_vec();
+        for _ in 0..random.below(4) {
+            if !numbers.is_empty() {
+                let at = random.below(numbers.len().min(40));
+                numbers[at] = if random.below(2) == 0 { random.next() } else { random.below(ward.len() + 9) as u64 };
+            }
+        }
+        let mut bytes = ward[..if round % 5 == 0 { random.below(ward.len() + 1) } else { ward.len() }].to_vec();
+        if round % 2 == 0 && !bytes.is_empty() {
+            let at = random.below(bytes.len());
+            bytes[at] = b"RNPFGTSUVW 0123456789\n"[random.below(22)];
+        }
+        answer_anything(&bytes, &numbers, &mut random);
+        text_of_anything(&bytes, &numbers, &mut random);
+        node(&bytes, &numbers, random.below(3));
+    }
+}
+
+/// At every position of any bytes there is a field whose name lies in them, or none.
+#[test]
+fn fields_at_every_position() {
+    let ward = sheet(WARD);
+    let mut fields = 0;
+    for at in 0..=ward.len() + 2 {
+        if let Some((kind, name, name_len, next)) = field(&ward, at) {
+            assert!(kind <= 19 && at < name && name + name_len < next && next <= ward.len());
+            fields += usize::from(at == 0 || ward[at - 1] == b'\n');
+        }
+    }
+    assert_eq!(fields, 8);
+    assert!([usize::MAX, usize::MAX - 1, 1 << 32].iter().all(|at| field(&ward, *at).is_none()));
+    let mut random = Random(8);
+    for _ in 0..20_000 {
+        let mut bytes = ward.clone();
+        let at = random.below(bytes.len());
+        bytes[at] = random.next() as u8;
+        field(&bytes, random.below(bytes.len() + 1));
+    }
+}
