@@ -41,6 +41,9 @@
 extern "C" {
 #endif
 
+/* How many numbers a field has, as kitlubas_field puts them for kitlubas_text. */
+enum { KITLUBAS_FIELD_SIZE = 14 };
+
 /* What is asked of a field. Any other number is refused as a leaf that there is not. */
 enum {
     KITLUBAS_TYPE_TEXT = 0,               /* the text of a slot's type, at a leaf */
@@ -97,14 +100,6 @@ uint64_t kitlubas_answer_in(const uint8_t *s, size_t s_len, const uint64_t *inde
                             size_t buf_len);
 
 /*
- * The text of a request for the field that stands at a position of the sheet, in the node with a number, from 0: positions
- * come from kitlubas_node and kitlubas_field. 0: the text begins buf, and *size is its length. 22: buf is too short, and
- * *size is the length that the text has. Any other refusal: *size is 0. After a refusal the bytes of buf may be any.
- */
-uint64_t kitlubas_text_at(const uint8_t *s, size_t s_len, const uint64_t *index, size_t index_len, size_t node, size_t at,
-                          uint64_t request, uint64_t leaf, size_t *size, uint8_t *buf, size_t buf_len);
-
-/*
  * The node with a number, from 0: *id becomes its id, *at the place of its module in the sheet, *size the length of that,
  * and *first the position of its first field. 0, or 15 where there is none; the four are then 0.
  */
@@ -114,10 +109,21 @@ uint64_t kitlubas_node(const uint8_t *s, size_t s_len, const uint64_t *index, si
 /*
  * The field that stands at a position of the sheet: *kind becomes the kind of its type, 0 to 18 as schema.capnp's Type
  * numbers them, or 19 for a group; *at the place of its name in the sheet, *size the length of that; and *next the position
- * after the field. 0, or 15 where there is none, as after the last field of a node; the four are then 0.
+ * after the field. 0, or 15 where there is none, as after the last field of a node; the four are then 0. Where field has
+ * KITLUBAS_FIELD_SIZE numbers or more, the first ones become those of the field; a shorter one stays as it was.
  */
-uint64_t kitlubas_field(const uint8_t *s, size_t s_len, size_t from, uint64_t *kind, size_t *at, size_t *size,
-                        size_t *next);
+uint64_t kitlubas_field(const uint8_t *s, size_t s_len, size_t from, uint64_t *field, size_t field_len, uint64_t *kind,
+                        size_t *at, size_t *size, size_t *next);
+
+/*
+ * The text of a request for a field of the node with a number, from 0: field has the numbers that kitlubas_field put for it.
+ * 0: the text begins buf, and *size is its length. 22: buf is too short, and *size is the length that the text has. Any
+ * other refusal: *size is 0. After a refusal the bytes of buf may be any. Over any other numbers it returns; fewer than
+ * KITLUBAS_FIELD_SIZE are no field, which is 15.
+ */
+uint64_t kitlubas_text(const uint8_t *s, size_t s_len, const uint64_t *index, size_t index_len, size_t node,
+                       const uint64_t *field, size_t field_len, uint64_t request, uint64_t leaf, size_t *size,
+                       uint8_t *buf, size_t buf_len);
 
 /*
  * The writers put their text into buf from the fill count `at` on and answer the new fill count. Bytes past the end of buf

@@ -23,8 +23,8 @@ int main(void)
 {
     size_t sheet_len = fread(sheet, 1, sizeof sheet, stdin);
     size_t index_len = kitlubas_index_size(sheet_len);
-    size_t line, module, module_len, fields, length;
-    uint64_t id;
+    size_t line, module, module_len, fields, name, name_len, next, length;
+    uint64_t id, kind, field[KITLUBAS_FIELD_SIZE];
     uint8_t *text;
     uint64_t number = kitlubas_index(sheet, sheet_len, sheet_index, index_len, &line);
 
@@ -33,15 +33,20 @@ int main(void)
     number = kitlubas_node(sheet, sheet_len, sheet_index, index_len, 0, &id, &module, &module_len, &fields);
     if (number != 0)
         return refused("the node", number, 0);
+    number = kitlubas_field(sheet, sheet_len, fields, field, KITLUBAS_FIELD_SIZE, &kind, &name, &name_len, &next);
+    if (number != 0)
+        return refused("the field", number, 0);
 
     /* Without room the answer is 22 and the text's length, or another refusal. */
-    number = kitlubas_text_at(sheet, sheet_len, sheet_index, index_len, 0, fields, KITLUBAS_SETTER, 0, &length, NULL, 0);
+    number = kitlubas_text(sheet, sheet_len, sheet_index, index_len, 0, field, KITLUBAS_FIELD_SIZE, KITLUBAS_SETTER, 0,
+                           &length, NULL, 0);
     if (number != 22)
         return refused("the setter", number, 0);
     text = malloc(length);
     if (text == NULL)
         return EXIT_FAILURE;
-    kitlubas_text_at(sheet, sheet_len, sheet_index, index_len, 0, fields, KITLUBAS_SETTER, 0, &length, text, length);
+    kitlubas_text(sheet, sheet_len, sheet_index, index_len, 0, field, KITLUBAS_FIELD_SIZE, KITLUBAS_SETTER, 0, &length,
+                  text, length);
     fwrite(text, 1, length, stdout);
     free(text);
     return EXIT_SUCCESS;

@@ -1,6 +1,8 @@
 //! capnpc's codegen.rs: the functions cut from it, and the calls by which the rest of this package reaches those that
 //! are private there.
 #![allow(dead_code)]
+// capnpc's own lines stay as they are.
+#![allow(clippy::needless_question_mark)]
 
 use self::FormattedText::{BlankLine, Branch, Indent, Line};
 use crate::codegen_types::{Leaf, RustTypeInfo};

@@ -49,7 +49,11 @@ mod raw {
 }
 
 fn found(value: u64, there: bool) -> Option<u64> {
-    if there { Some(value) } else { None }
+    if there {
+        Some(value)
+    } else {
+        None
+    }
 }
 
 fn tested(answer: u8) -> Option<bool> {

@@ -114,7 +114,11 @@ impl<'a> Pair<'a> {
         let tag = self.record.as_reader().get_data(Kind::Uint16, offset as usize, None) as u16;
         let member = if random.below(2) == 0 { tag } else { random.bits(2) as u16 };
         let ours = kitlubas::tag_is(&self.section, offset, member);
-        if (offset + 1) * 2 <= self.section.len() as u32 { ours == Some(tag == member) } else { ours.is_none() }
+        if (offset + 1) * 2 <= self.section.len() as u32 {
+            ours == Some(tag == member)
+        } else {
+            ours.is_none()
+        }
     }
 
     fn pointer(&mut self, random: &mut Random) -> bool {

@@ -21,6 +21,9 @@ mod declarations;
 use crate::{NodeId, Place, Refusal, Request};
 use std::ops::Range;
 
+/// How many numbers the library has for a field.
+const FIELD_SIZE: usize = 14;
+
 /// The most bytes that a name has in snake case.
 const SNAKE_SIZE: usize = 127;
 
@@ -33,8 +36,12 @@ pub struct NodeRow {
     pub fields: usize,
 }
 
+/// What the library has read of a field: numbers that only it looks into.
+pub type FieldNumbers = [u64; FIELD_SIZE];
+
 /// What the library tells of a field.
 pub struct FieldRow {
+    pub numbers: FieldNumbers,
     /// The number of its kind.
     pub kind: u64,
     /// Where its name stands in the sheet.
@@ -135,12 +142,12 @@ pub fn answer_in(
     Refusal::told(number, line).map(|()| after)
 }
 
-/// The length of the text of a request for the field at a position of the node with a number; the text then begins
-/// `buf`. Where there is no text, the bytes of `buf` may have changed.
-pub fn text_at(
+/// The length of the text of a request for a field of the node with a number; the text then begins `buf`. Where there is
+/// no text, the bytes of `buf` may have changed.
+pub fn text(
     (sheet, index): (&[u8], &[u64]),
     node: usize,
-    at: usize,
+    field: &FieldNumbers,
     request: Request,
     buf: &mut [u8],
 ) -> Result<usize, NoText> {
@@ -149,13 +156,14 @@ pub fn text_at(
     // Sound: addresses and lengths are those of the slices, `buf` is borrowed exclusively, and `length` is a local
     // variable.
     let number = unsafe {
-        declarations::kitlubas_text_at(
+        declarations::kitlubas_text(
             sheet.as_ptr(),
             sheet.len(),
             index.as_ptr(),
             index.len(),
             node,
-            at,
+            field.as_ptr(),
+            field.len(),
             request.number(),
             request.leaf(),
             &mut length,
@@ -188,12 +196,23 @@ pub fn node((sheet, index): (&[u8], &[u64]), number: usize) -> Option<NodeRow> {
 
 /// The field that stands at a position.
 pub fn field(sheet: &[u8], at: usize) -> Option<FieldRow> {
+    let mut numbers = [0; FIELD_SIZE];
     let (mut kind, mut name, mut name_len, mut next) = (0, 0, 0, 0);
-    // Sound: the address and the length are the slice's, and the others are four local variables.
+    // Sound: the first address and length are the slice's, and the others are five local variables.
     let refusal = unsafe {
-        declarations::kitlubas_field(sheet.as_ptr(), sheet.len(), at, &mut kind, &mut name, &mut name_len, &mut next)
+        declarations::kitlubas_field(
+            sheet.as_ptr(),
+            sheet.len(),
+            at,
+            numbers.as_mut_ptr(),
+            numbers.len(),
+            &mut kind,
+            &mut name,
+            &mut name_len,
+            &mut next,
+        )
     };
-    (refusal == 0).then(|| FieldRow { kind, name: name..name + name_len, next })
+    (refusal == 0).then(|| FieldRow { numbers, kind, name: name..name + name_len, next })
 }
 
 /// A name of a sheet in snake case.

@@ -1,7 +1,7 @@
 //! A field of a node, and its texts.
 #![forbid(unsafe_code)]
 
-use crate::boundary::{self, NoText};
+use crate::boundary::{self, FieldNumbers, NoText};
 use crate::{Kind, Place, Refusal, Request, Sheet};
 use std::fmt;
 use std::iter::FusedIterator;
@@ -15,8 +15,7 @@ pub struct Field<'a, 's> {
     sheet: &'a Sheet<'s>,
     /// The number of its node, from 0.
     node: usize,
-    /// Where it stands in the sheet.
-    at: usize,
+    numbers: FieldNumbers,
     place: Place,
     name: &'s str,
     kind: Kind,
@@ -101,7 +100,7 @@ impl<'s> Field<'_, 's> {
     /// The length of the text, which is put from `start` on into this much room.
     fn text_behind(&self, request: Request, out: &mut Vec<u8>, start: usize, room: usize) -> Result<usize, NoText> {
         out.resize(start + room, 0);
-        boundary::text_at(self.sheet.parts(), self.node, self.at, request, &mut out[start..])
+        boundary::text(self.sheet.parts(), self.node, &self.numbers, request, &mut out[start..])
     }
 }
 
@@ -134,10 +133,11 @@ impl<'a, 's> Iterator for Fields<'a, 's> {
 
     fn next(&mut self) -> Option<Field<'a, 's>> {
         let row = boundary::field(self.sheet.bytes(), self.at)?;
-        let Fields { sheet, node, at, place } = *self;
+        let Fields { sheet, node, place, .. } = *self;
         self.at = row.next;
         self.place = Place(place.0 + 1);
-        Some(Field { sheet, node, at, place, name: sheet.word(row.name), kind: Kind::of(row.kind) })
+        let (name, kind) = (sheet.word(row.name), Kind::of(row.kind));
+        Some(Field { sheet, node, numbers: row.numbers, place, name, kind })
     }
 }
 

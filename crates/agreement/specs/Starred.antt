@@ -116,17 +116,17 @@ reads place v = number (bindO (runSetter (asked place Setter) v some16) (runGett
 -- ---- the table
 
 -- a text and what it must be: as it stands, or as lines
-pub record Case : Type 0 where
+pub record StarredCase : Type 0 where
   pub computed : Str
   pub expected : Str
 
-abbrev row : Str → String → Case
+abbrev row : Str → String → StarredCase
 row s e = record { computed = s; expected = ascii e }
 
-abbrev rowOf : Str → List String → Case
+abbrev rowOf : Str → List String → StarredCase
 rowOf s ls = record { computed = s; expected = ended (map ascii ls) }
 
-pub table : List Case
+pub table : List StarredCase
 table =
     -- `camel_to_snake_case`, the name of wardName's default, `module_name`
     row (camelToSnakeCase (ascii "bedId")) "bed_id"
@@ -203,7 +203,7 @@ table =
     ∷ []
 
 -- every row's text is what it must be
-pub starred : map (λ (r : Case). r .computed) table ≡ map (λ (r : Case). r .expected) table
+pub starred : map (λ (r : StarredCase). r .computed) table ≡ map (λ (r : StarredCase). r .expected) table
 unfolding table same keywords.isOneOf isKeyword isAscii taken snakeFrom camelToSnakeCase defaultName moduleName joined printed
     sheetRows nodeRows paramRows fieldRows wordRows typeRows scopeCount rowText columns padded decimal admitted readSheet
     readNodes read.readNode readMembers readParams groupIds readFields fieldsUpTo read.readField overlap among readSlot readWords

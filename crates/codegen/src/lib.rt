@@ -4,7 +4,6 @@ use field::Slot;
 use terms::kinds;
 use text::Text;
 ghost use mathlib.Core.Path.{_≡_};
-ghost use mathlib.Core.Option.{some};
 ghost use lib.Dec.{eqb, leb};
 ghost use mathlib.Core.Bool.{true, false};
 ghost use Rattle.text.specs.Bytes.{ascii, cond, both};
@@ -13,47 +12,32 @@ ghost use Rattle.tree.specs.Tree as tree;
 ghost use Rattle.field.specs.Slot.{SlotIs};
 ghost use Rattle.calls.specs.Calls.{getDataField, setBoolField, setDataField, zeroData};
 ghost use Rattle.calls.specs.Mask.{maskText};
-ghost use Rattle.codegen.specs.Default.{value, integer, floatZero, primDefault, getterMask};
+ghost use Rattle.codegen.specs.Default.{value, floatZero, primDefault, getterMask};
 ghost use Rattle.codegen.specs.Given.{Given};
 ghost use Rattle.codegen.specs.Haser.{haserRequest, tagTestLine};
 ghost use Rattle.codegen_types.specs.Primitive.{primitiveText};
 
-// A number in decimal: signed for Int8 to Int64, otherwise as its bits.
-fn integer(kind: u64, bits: u64) -> Mask
-    ensures { λ r. ⌜ maskText r ≡ some (integer (value kind bits)) ⌝ }
-{
-    if kind == kinds::INT8 {
-        return Mask::Signed { half: 0x80, bits };
-    }
-    if kind == kinds::INT16 {
-        return Mask::Signed { half: 0x8000, bits };
-    }
-    if kind == kinds::INT32 {
-        return Mask::Signed {
-            half: 0x8000_0000,
-            bits,
-        };
-    }
-    if kind == kinds::INT64 {
-        return Mask::Signed {
-            half: 0x8000_0000_0000_0000,
-            bits,
-        };
-    }
-    Mask::Plain(bits)
-}
-
-// The mask of a getter: the default's bits, looked at as a number.
+// The mask of a getter: the default's bits, looked at as a number, which is signed for Int8 to Int64.
 pub fn getter_mask(kind: u64, bits: u64) -> Mask
     ensures { λ r. ⌜ maskText r ≡ getterMask (value kind bits) ⌝ }
 {
     if bits == 0 {
         return Mask::None;
     }
-    if kind == kinds::BOOL {
-        return Mask::True;
+    match kind {
+        kinds::BOOL => Mask::True,
+        kinds::INT8 => Mask::Signed { half: 0x80, bits },
+        kinds::INT16 => Mask::Signed { half: 0x8000, bits },
+        kinds::INT32 => Mask::Signed {
+            half: 0x8000_0000,
+            bits,
+        },
+        kinds::INT64 => Mask::Signed {
+            half: 0x8000_0000_0000_0000,
+            bits,
+        },
+        _ => Mask::Plain(bits),
     }
-    integer(kind, bits)
 }
 
 // Whether a float is 0.0 or -0.0: its bits are 0, or its sign's bit alone.
@@ -70,19 +54,21 @@ fn is_float_zero(sign: u64, bits: u64) -> bool
 fn prim_default(kind: u64, bits: u64) -> Mask
     ensures { λ r. ⌜ Given (primDefault (value kind bits)) (λ mask. maskText r ≡ mask) ⌝ }
 {
-    if kind == kinds::FLOAT32 {
-        if is_float_zero(0x8000_0000, bits) {
-            return Mask::None;
-        }
-        return Mask::U32(bits);
+    match kind {
+        kinds::FLOAT32 => {
+            if is_float_zero(0x8000_0000, bits) {
+                return Mask::None;
+            }
+            Mask::U32(bits)
+        },
+        kinds::FLOAT64 => {
+            if is_float_zero(0x8000_0000_0000_0000, bits) {
+                return Mask::None;
+            }
+            Mask::U64(bits)
+        },
+        _ => getter_mask(kind, bits),
     }
-    if kind == kinds::FLOAT64 {
-        if is_float_zero(0x8000_0000_0000_0000, bits) {
-            return Mask::None;
-        }
-        return Mask::U64(bits);
-    }
-    getter_mask(kind, bits)
 }
 
 // The get of a number, masked by its default.
@@ -139,13 +125,10 @@ pub fn zero_number(kind: u64, offset: u64, t: Text, buf: &mut [u8]) -> Text
 pub fn is_pointer(kind: u64) -> bool
     ensures { λ r. ⌜ r ≡ both (leb 12 kind) (cond (eqb kind 15) false true) ⌝ }
 {
-    if kind < kinds::TEXT {
-        return false;
+    match kind {
+        kinds::VOID..=kinds::FLOAT64 | kinds::ENUM => false,
+        _ => true,
     }
-    if kind == kinds::ENUM {
-        return false;
-    }
-    true
 }
 
 // A haser's line that tests the tag, where the field has a discriminant.

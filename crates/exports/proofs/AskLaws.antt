@@ -16,7 +16,7 @@ use Rattle.requests.specs.declared.Answer.{Answer}
 use Rattle.requests.specs.declared.Answer.the-variants.{Done, Refused}
 use Rattle.requests.proofs.LeafLaws.{more}
 use Rattle.requests.specs.declared.Accessor.the-variants.{TypeText}
-use Rattle.exports.specs.Boundary.{numberIn, lineIn, fillIn, replyOf, ask, accessors, accessorOf, Said, Asked}
+use Rattle.exports.specs.Boundary.{numberIn, lineIn, fillIn, replyOf, ask, accessors, accessorNumbered, Said, Asked}
 
 -- a request that comes to o, asked at the state t of a fill count
 module _ (l : Str) (fill : ℕ) (o : Outcome) (t : Text) (l′ : Str) (r : Answer) (at : t ≡ stateAt fill)
@@ -56,8 +56,8 @@ said-refused fill r k line e = rw e (record { number-is = refl; line-is = refl; 
 -- a number that is none of the nine
 pub no-accessor :
     (n leaf : ℕ) → (n ≡ 0 → ⊥) → (n ≡ 1 → ⊥) → (n ≡ 2 → ⊥) → (n ≡ 3 → ⊥) → (n ≡ 4 → ⊥) → (n ≡ 5 → ⊥) → (n ≡ 6 → ⊥) → (n ≡ 7 → ⊥)
-    → (n ≡ 8 → ⊥) → TypeText (2 ^ 64 - 1) ≡ accessorOf n leaf
-unfolding accessorOf
+    → (n ≡ 8 → ⊥) → TypeText (2 ^ 64 - 1) ≡ accessorNumbered n leaf
+unfolding accessorNumbered
 no-accessor n leaf a b c d e f g h i =
     let z : 9 ≤ n = more n 8 (more n 7 (more n 6 (more n 5 (more n 4 (more n 3 (more n 2 (more n 1 (more n 0
     (omega arith) a) b) c) d) e) f) g) h) i in

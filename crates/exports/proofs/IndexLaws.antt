@@ -12,6 +12,7 @@ use Rattle.row.specs.Line.{textAt, spanned}
 use Rattle.row.specs.declared.Span.{Span}
 use Rattle.tree.specs.Tree as tree
 use Rattle.tree.specs.Tree.{Arm, slot, group, Node}
+use Rattle.tree.specs.Fields.{FieldsHere}
 use Rattle.tree.proofs.OtherLines.{never}
 use Rattle.codegen_types.specs.Out.{Out}
 use Rattle.nodes.specs.Index.{nth, entryWith, Indexed, Finds}
@@ -19,13 +20,16 @@ use Rattle.nodes.specs.declared.Entry.{Entry}
 use Rattle.nodes.specs.declared.Found.the-variants as found
 use Rattle.nodes.proofs.Laws.{nth-is}
 use Rattle.nodes.proofs.NameLaws.{names-out}
-use Rattle.field.specs.Field.{SlotIn, GroupIn, ReadsFirst}
+use Rattle.field.specs.Field.{SlotIn, GroupIn, ReadsFirst, FindsField}
+use Rattle.field.specs.Numbers.{withField}
 use Rattle.field.specs.declared.Slot.{Slot}
 use Rattle.field.specs.declared.Group.{Group}
+use Rattle.field.specs.declared.Field.{Field}
 use Rattle.field.specs.declared.Field.the-variants as field
+use Rattle.field.proofs.NumbersLaws.{field-put}
 use Rattle.requests.specs.Told.{Passed}
 use Rattle.requests.specs.declared.Pass.{Pass}
-use Rattle.exports.specs.Boundary.{numberPass, lengthPass, PassTold, NodeSaid, kindOf, FieldSaid}
+use Rattle.exports.specs.Boundary.{numberPass, lengthPass, PassTold, NodeSaid, kindTold, FieldSaid, FirstPut}
 
 -- a pass, told by its number and length
 pub pass-told : (o : Out Str) (l l′ : Str) (r p : Pass) (number size : ℕ) → Passed o l l′ r → r ≡ p → number ≡ numberPass p
@@ -78,7 +82,7 @@ module _ (s : Str) (p : Span) where
     fields-here = h .1;
   }
     where
-      kind : (a : Arm) → SlotIn s r (f .name) (f .discriminant) a → r .kind ≡ kindOf a
+      kind : (a : Arm) → SlotIn s r (f .name) (f .discriminant) a → r .kind ≡ kindTold a
       kind (slot sl) i = sym (i .slot .kind)
       kind (group id) i = absurd i
 
@@ -96,7 +100,7 @@ module _ (s : Str) (p : Span) where
     fields-here = h .1;
   }
     where
-      kind : (a : Arm) → GroupIn s g (f .name) (f .discriminant) a → 19 ≡ kindOf a
+      kind : (a : Arm) → GroupIn s g (f .name) (f .discriminant) a → 19 ≡ kindTold a
       kind (slot sl) i = absurd i
       kind (group id) i = refl
 
@@ -107,3 +111,14 @@ module _ (s : Str) (p : Span) where
 pub nothing-told : (s : Str) (fs : List tree.Field) → ReadsFirst s field.Nothing fs → FieldSaid s fs 15 0 0 0 0
 nothing-told s [] h = (refl, refl, refl, refl, refl)
 nothing-told s (f ∷ fs) h = absurd (h .0)
+
+-- the numbers that were put are those of the field that was read
+pub first-put : (s : Str) (from : ℕ) (r : Field) (l l′ : List ℕ)
+    → ((fs : List tree.Field) → FieldsHere (rows (drop from s)) fs → ReadsFirst s r fs) → l′ ≡ withField l r
+    → FirstPut s from l l′
+unfolding nth
+first-put s from r l l′ h e room fs here = rw (e, field-put l r room) (go fs (h fs here))
+  where
+    go : (fs : List tree.Field) → ReadsFirst s r fs → FindsField s r (nth 0 fs)
+    go [] i = i
+    go (f ∷ fs) i = i .0

@@ -20,8 +20,10 @@ use Rattle.tree.specs.Read.{Admitted, sheet, refused}
 use Rattle.tree.specs.Fields.{FieldsHere}
 use Rattle.nodes.specs.Index.{nth, Indexed, ForAll}
 use Rattle.codegen_types.specs.Out.{Out, ok, _then_}
+use Rattle.field.specs.Field.{FindsField}
+use Rattle.field.specs.Numbers.{fieldSize, fieldIn}
 use Rattle.requests.specs.Requests.{accessorText, ofField, Outcome, outcomeOf, entryAnswer, entryBuffer}
-use Rattle.requests.specs.Told.{passOf, firstOf}
+use Rattle.requests.specs.Told.{passOf, inNode}
 use Rattle.requests.specs.declared.Pass.{Pass}
 use Rattle.requests.specs.declared.Pass.the-variants as pass
 use Rattle.requests.specs.declared.Request.{Request}
@@ -96,12 +98,12 @@ accessors leaf =
     ∷ Setter ∷ Haser true ∷ Haser false ∷ Zeroing ∷ []
 
 -- any other number asks for a type's text at a leaf that there is not: 15, in its place among the refusals
-unfoldable pub accessorOf : ℕ → ℕ → Accessor
-accessorOf number leaf = getD (accessors leaf) number (TypeText (2 ^ 64 - 1))
+unfoldable pub accessorNumbered : ℕ → ℕ → Accessor
+accessorNumbered number leaf = getD (accessors leaf) number (TypeText (2 ^ 64 - 1))
 
 -- the request for such a text of the field at a place
 abbrev pub requestOf : ℕ → ℕ → ℕ → Request
-requestOf number place leaf = ofField place (accessorOf number leaf)
+requestOf number place leaf = ofField place (accessorNumbered number leaf)
 
 -- over a fill count, an answer leaves fill′, and is told by a number and a line
 pub record Said (a : text.Answer) (fill fill′ number line : ℕ) : Type 0 where
@@ -139,12 +141,12 @@ pub record PassTold (o : Out Str) (l l′ : Str) (number size : ℕ) : Type 0 wh
   pub length-is : size ≡ lengthPass (passOf (length l) o)
   pub text : (w : Str) → o ≡ ok w → length w ≤ length l → l′ ≡ text.placed l 0 w
 
--- a text of the first of the fields at a position, in the node with a number
-abbrev pub TextTold : Str → List ℕ → ℕ → ℕ → Accessor → Str → Str → ℕ → ℕ → Type 0
-TextTold s index node at accessor l l′ number size =
+-- a text of the field with these numbers, in the node with a number
+abbrev pub TextTold : Str → List ℕ → ℕ → List ℕ → Accessor → Str → Str → ℕ → ℕ → Type 0
+TextTold s index node numbers accessor l l′ number size =
     ForAll (line.textAt (rows s)) s index
-    (λ sh. (fields : List tree.Field) → FieldsHere (rows (drop at s)) fields
-    → PassTold (firstOf (sh .nodes) node fields then λ f. accessorText sh f accessor) l l′ number size)
+    (λ sh. (o : Option tree.Field) → FindsField s (fieldIn numbers) o
+    → PassTold (inNode (sh .nodes) node o then λ at. accessorText sh at accessor) l l′ number size)
 
 -- a node is told by its id, the place and the length of its module in s, and where its first field stands
 pub record NodeIs (s : Str) (n : Node) (number id at size first : ℕ) : Type 0 where
@@ -164,14 +166,14 @@ NodeTold s index k number id at size first =
     (ns : List Node) → Indexed s ns index → NodeSaid s (nth k ns) number id at size first
 
 -- a field's kind: that of a slot's type, or 19 for a group
-abbrev pub kindOf : Arm → ℕ
-kindOf (slot sl) = tree.kind (sl .ty)
-kindOf (group id) = 19
+abbrev pub kindTold : Arm → ℕ
+kindTold (slot sl) = tree.kind (sl .ty)
+kindTold (group id) = 19
 
 -- a field is told by its kind, the place and the length of its name in s, and where those after it stand
 pub record FieldTold (s : Str) (f : tree.Field) (fs : List tree.Field) (number kind at size next : ℕ) : Type 0 where
   pub number-is : number ≡ 0
-  pub kind-is : kind ≡ kindOf (f .arm)
+  pub kind-is : kind ≡ kindTold (f .arm)
   pub name-is : take size (drop at s) ≡ f .name
   pub fields-here : FieldsHere (rows (drop next s)) fs
 
@@ -184,3 +186,9 @@ FieldSaid s (f ∷ fs) number kind at size next = FieldTold s f fs number kind a
 abbrev pub FirstTold : Str → ℕ → ℕ → ℕ → ℕ → ℕ → ℕ → Type 0
 FirstTold s from number kind at size next =
     (fs : List tree.Field) → FieldsHere (rows (drop from s)) fs → FieldSaid s fs number kind at size next
+
+-- the numbers that are put into l, where there is room for them, are those of the first of the fields at a position
+abbrev pub FirstPut : Str → ℕ → List ℕ → List ℕ → Type 0
+FirstPut s from l numbers =
+    fieldSize ≤ length l → (fs : List tree.Field) → FieldsHere (rows (drop from s)) fs
+    → FindsField s (fieldIn numbers) (nth 0 fs)

@@ -16,8 +16,8 @@ ghost use lib.ListN.{length, take};
 ghost use Rattle.tree.specs.Read.{admitted};
 ghost use Rattle.nodes.specs.Index.{indexSize};
 ghost use Rattle.sheet.specs.Admission.{IndexOf};
-ghost use Rattle.exports.specs.Boundary.{Told, Asked, ask, accessorOf, requestOf};
-ghost use Rattle.exports.specs.Boundary.{OverIndex, TextTold, NodeTold, FirstTold};
+ghost use Rattle.exports.specs.Boundary.{Told, Asked, ask, accessorNumbered, requestOf};
+ghost use Rattle.exports.specs.Boundary.{OverIndex, TextTold, NodeTold, FirstTold, FirstPut};
 
 // What stands for the kind of a group.
 const GROUP: u64 = 19;
@@ -72,25 +72,25 @@ pub extern "C" fn kitlubas_answer_in(
     say(answer, fill, line)
 }
 
-// The text with a number of the field that stands at a position, in the node with a number, from 0: 0, and the text from the
-// start of the buffer on; 22 where it is longer than the buffer; or its refusal. `size` becomes the text's length, 0 for a
-// refusal. Where the answer is not 0, the bytes of the buffer may be any.
+// The text with a number of the field with these numbers, as `kitlubas_field` puts them, in the node with a number, from 0: 0,
+// and the text from the start of the buffer on; 22 where it is longer than the buffer; or its refusal. `size` becomes the text's
+// length, 0 for a refusal. Where the answer is not 0, the bytes of the buffer may be any.
 #[no_mangle]
-pub extern "C" fn kitlubas_text_at(
+pub extern "C" fn kitlubas_text(
     s: &[u8],
     index: &[u64],
     node: usize,
-    at: usize,
+    field: &[u64],
     request: u64,
     leaf: u64,
     size: &mut usize,
     buf: &mut [u8],
 ) -> u64
-    ensures { λ r. ⌜ TextTold (now (s .entry)) (now (index .entry)) node at (accessorOf request leaf)
+    ensures { λ r. ⌜ TextTold (now (s .entry)) (now (index .entry)) node (now (field .entry)) (accessorNumbered request leaf)
         (now (buf .entry)) (now (buf .exit)) r (now (size .exit)) ⌝ }
 {
     let accessor = accessor_of(request, leaf);
-    let pass = requests::text_at(s, index, node, at, accessor, buf);
+    let pass = requests::text(s, index, node, field::get(field), accessor, buf);
     match pass {
         Pass::Whole(n) => {
             *size = n;
@@ -142,21 +142,26 @@ pub extern "C" fn kitlubas_node(
 }
 
 // The field that stands at a position: the kind of its type, or 19 for a group, the place and the length of its name in the
-// sheet, and the position after it. 15 where there is none, and all of them become 0.
+// sheet, and the position after it. 15 where there is none, and all of them become 0. The field's numbers are put into `field`,
+// if there is room for them.
 #[no_mangle]
 pub extern "C" fn kitlubas_field(
     s: &[u8],
     from: usize,
+    field: &mut [u64],
     kind: &mut u64,
     at: &mut usize,
     size: &mut usize,
     next: &mut usize,
 ) -> u64
-    ensures field { λ r. ⌜ FirstTold (now (s .entry)) from r (now (kind .exit)) (now (at .exit)) (now (size .exit))
+    ensures told { λ r. ⌜ FirstTold (now (s .entry)) from r (now (kind .exit)) (now (at .exit)) (now (size .exit))
         (now (next .exit)) ⌝ }
     ensures within { λ r. ⌜ now (at .exit) + now (size .exit) ≤ length (now (s .entry)) ⌝ }
+    ensures put { λ r. ⌜ FirstPut (now (s .entry)) from (now (field .entry)) (now (field .exit)) ⌝ }
 {
-    match field::read(s, from) {
+    let read = field::read(s, from);
+    field::put(read, field);
+    match read {
         Field::Slot(slot) => {
             let Span { start, end } = row::text_span(s, slot.at, slot.typ);
             *kind = slot.kind;

@@ -9,7 +9,7 @@ pub use index::kitlubas_field;
 pub use index::kitlubas_index;
 pub use index::kitlubas_index_size;
 pub use index::kitlubas_node;
-pub use index::kitlubas_text_at;
+pub use index::kitlubas_text;
 use requests::Accessor;
 use requests::Answer;
 use requests::Request;
@@ -19,7 +19,7 @@ ghost use Rattle.names.specs.Names.{camelToSnakeCase, defaultName, moduleName};
 ghost use Rattle.text.specs.Decimal.{decimal};
 ghost use Rattle.text.specs.Lines.{Line, BlankLine, Branch, none, toLines, stringify, ended};
 ghost use Rattle.requests.specs.Told.{inNumbers};
-ghost use Rattle.exports.specs.Boundary.{Fills, FillsName, Signed, Told, Asked, ask, Said, accessorOf, requestOf};
+ghost use Rattle.exports.specs.Boundary.{Fills, FillsName, Signed, Told, Asked, ask, Said, accessorNumbered, requestOf};
 ghost use mathlib.Core.Path.{_≡_};
 
 // The number in decimal.
@@ -139,7 +139,7 @@ fn say(answer: Answer, fill: &mut usize, line: &mut usize) -> u64
 // same as functions, 5 is the setter, 6 and 7 are the hasers of reader and builder, 8 is the zeroing. Any other number asks for a
 // leaf that there is not.
 fn accessor_of(number: u64, leaf: u64) -> Accessor
-    ensures { λ r. ⌜ r ≡ accessorOf number leaf ⌝ }
+    ensures { λ r. ⌜ r ≡ accessorNumbered number leaf ⌝ }
 {
     match number {
         0 => Accessor::TypeText { leaf },

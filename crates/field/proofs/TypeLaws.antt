@@ -19,10 +19,9 @@ use Rattle.row.specs.declared.Line.the-variants as line
 use Rattle.row.proofs.Line.{the-type}
 use Rattle.tree.specs.Tree as tree
 use Rattle.tree.specs.Tree.{Ty, plain, list, enum, struct, interface, anyPointer, parameter, Scopes, end}
-use Rattle.tree.specs.Reader.{Rows, Reading, Reader, got, no, mapR, times}
+use Rattle.tree.specs.Reader.{Rows, Reading, Reader, got, no, mapR, times, On}
 use Rattle.tree.specs.Read as read
 use Rattle.tree.specs.Read.{readType, typeFrom, branded}
-use Rattle.tree.specs.Index.{On}
 use Rattle.tree.proofs.OtherLines.{not-type}
 use Rattle.types.specs.Find.{After, kindAt, owed, pastRows}
 use Rattle.types.proofs.Laws.{as-type, on-map, on-all, past-type, past-next, past-none}

@@ -1,3 +1,4 @@
 pub mod Slot
 pub mod Field
 pub mod Parts
+pub mod Numbers

@@ -8,7 +8,7 @@ use Rattle.row.specs.Line.{textAt}
 use Rattle.tree.specs.Tree as tree
 use Rattle.tree.specs.Tree.{Ty, plain, list, enum, struct, interface, anyPointer, parameter}
 use Rattle.tree.specs.Read.{readType, hasWords, readWords}
-use Rattle.tree.specs.Index.{Has}
+use Rattle.tree.specs.Reader.{Has}
 use Rattle.field.specs.declared.Slot.{Slot}
 
 -- a field that is a slot: its name, its discriminant and the slot

@@ -1,5 +1,5 @@
 // A field of the sheet by value, read once: what its F or G row says, its type's row and its V row, where its name, type and
-// words stand, and where the next field begins.
+// words stand, and where the next field begins. A caller may hold it as numbers.
 use row::Line;
 use terms::kinds;
 ghost use mathlib.Core.Path.{_≡_};
@@ -16,6 +16,15 @@ ghost use Rattle.nodes.specs.Index.{nth};
 ghost use Rattle.field.specs.Slot.{SlotField, SlotHere};
 ghost use Rattle.field.specs.Field.{GroupHere, ReadsFirst, Fewer, FindsField};
 ghost use Rattle.field.specs.Parts.{Gets, TypeIs, mostWords, SlotRead};
+ghost use Rattle.field.specs.Numbers.{slotNumbers, groupNumbers, begun, withField, slotIn, groupIn, fieldIn};
+
+// How many numbers are room enough for any field: what it is, and the thirteen of a slot.
+pub const FIELD_SIZE: usize = 14;
+
+// What the first number says of a field that is there; 0 stands for nothing.
+const SLOT: u64 = 1;
+
+const GROUP: u64 = 2;
 
 // A slot. The numbers of its F row:
 pub struct Slot {
@@ -235,4 +244,100 @@ pub fn at_place(s: &[u8], from: usize, place: u64) -> Field
         }
     }
     read(s, at)
+}
+
+// Puts a slot's numbers.
+fn put_slot(slot: Slot, numbers: &mut [u64])
+    requires { ⌜ 14 ≤ length (now numbers) ⌝ }
+    ensures { λ r. ⌜ now (numbers .exit) ≡ begun (slotNumbers slot) (now (numbers .entry)) ⌝ }
+{
+    numbers[0] = SLOT;
+    numbers[1] = slot.offset;
+    numbers[2] = slot.discriminant;
+    numbers[3] = slot.explicit;
+    numbers[4] = slot.option;
+    numbers[5] = slot.kind;
+    numbers[6] = slot.id;
+    numbers[7] = slot.default;
+    numbers[8] = slot.bits;
+    numbers[9] = slot.at as u64;
+    numbers[10] = slot.typ as u64;
+    numbers[11] = slot.words as u64;
+    numbers[12] = slot.count;
+    numbers[13] = slot.next as u64;
+}
+
+// Puts a group's numbers; those after them stay.
+fn put_group(group: Group, numbers: &mut [u64])
+    requires { ⌜ 14 ≤ length (now numbers) ⌝ }
+    ensures { λ r. ⌜ now (numbers .exit) ≡ begun (groupNumbers group) (now (numbers .entry)) ⌝ }
+{
+    numbers[0] = GROUP;
+    numbers[1] = group.id;
+    numbers[2] = group.discriminant;
+    numbers[3] = group.at as u64;
+    numbers[4] = group.next as u64;
+}
+
+// Puts a field's numbers, if there is room for any field.
+pub fn put(field: Field, numbers: &mut [u64])
+    ensures { λ r. ⌜ now (numbers .exit) ≡ withField (now (numbers .entry)) field ⌝ }
+{
+    if numbers.len() < FIELD_SIZE {
+        return;
+    }
+    match field {
+        Field::Slot(slot) => put_slot(slot, numbers),
+        Field::Group(group) => put_group(group, numbers),
+        Field::Nothing => numbers[0] = 0,
+    }
+}
+
+// The slot with these numbers.
+fn slot_in(numbers: &[u64]) -> Slot
+    requires { ⌜ 14 ≤ length (now numbers) ⌝ }
+    ensures { λ r. ⌜ r ≡ slotIn (now (numbers .entry)) ⌝ }
+{
+    Slot {
+        offset: numbers[1],
+        discriminant: numbers[2],
+        explicit: numbers[3],
+        option: numbers[4],
+        kind: numbers[5],
+        id: numbers[6],
+        default: numbers[7],
+        bits: numbers[8],
+        at: numbers[9] as usize,
+        typ: numbers[10] as usize,
+        words: numbers[11] as usize,
+        count: numbers[12],
+        next: numbers[13] as usize,
+    }
+}
+
+// The group with these numbers.
+fn group_in(numbers: &[u64]) -> Group
+    requires { ⌜ 14 ≤ length (now numbers) ⌝ }
+    ensures { λ r. ⌜ r ≡ groupIn (now (numbers .entry)) ⌝ }
+{
+    Group {
+        id: numbers[1],
+        discriminant: numbers[2],
+        at: numbers[3] as usize,
+        next: numbers[4] as usize,
+    }
+}
+
+// The field with these numbers: nothing where they are too few, or the first says neither a slot nor a group.
+pub fn get(numbers: &[u64]) -> Field
+    ensures { λ r. ⌜ r ≡ fieldIn (now (numbers .entry)) ⌝ }
+{
+    if numbers.len() < FIELD_SIZE {
+        return Field::Nothing;
+    }
+    match numbers[0] {
+        SLOT => Field::Slot(slot_in(numbers)),
+        GROUP => Field::Group(group_in(numbers)),
+        _ => Field::Nothing,
+    }
 }

@@ -5,7 +5,7 @@ use mathlib.Core.Bool.{Bool, true, false, not}
 use mathlib.Core.List.{List, [], _∷_, _++_, append-assoc}
 use Prim.Native.Nat.{ℕ, zero, suc, _<_, _≤_}
 use native.Mathlib.Omega.{arith}
-use borrow.Author.Tests.{eq-eqb, ne-eqb, eqb-true, le-leb, lt-leb}
+use borrow.Author.Tests.{ne-eqb, le-leb, lt-leb}
 use lib.Dec.{eqb}
 use lib.ListN.{getD, drop}
 use Rattle.text.specs.Bytes.{Str, ascii, cond, both, same}
@@ -16,8 +16,7 @@ use Rattle.tree.specs.Tree as tree
 use Rattle.tree.specs.Tree.{Ty, plain, list, enum, struct, interface, anyPointer, parameter, kind, Scopes, Sheet}
 use Rattle.row.specs.Rows.{rows}
 use Rattle.tree.specs.Read.{readType}
-use Rattle.tree.specs.Reader.{Reading}
-use Rattle.tree.specs.Index.{On}
+use Rattle.tree.specs.Reader.{Reading, On}
 use Rattle.codegen_types.specs.Out.{Out, ok, refused, _then_, refusalOf}
 use Rattle.codegen_types.specs.Leaf.{display}
 use Rattle.codegen_types.specs.TypeString.{typeString, getQualifiedModule, primitives, isPointer}
@@ -352,30 +351,6 @@ module _ (sheet : Sheet) (s : tree.Slot) (isReader isFn : Bool) (r : Slot) (is :
           fails-result sheet (s .ty) (r .id) typ (is .id) (rw (is .kind) lo) (λ e. n15 (sym (is .kind) ∙ e))
           (λ e. n17 (sym (is .kind) ∙ e))
           (λ e. any (sym (is .kind) ∙ e))
-
--- ---- the code's tests
-
--- untyped: kind 18 and id 0
-module _ (k a : ℕ) (b : Bool) (e : b ≡ both (eqb k 18) (eqb a 0)) where
-  pub untyped-kind : b ≡ true → k ≡ 18
-  untyped-kind t = go (eqb k 18) refl (sym e ∙ t)
-    where
-      go : (x : Bool) → eqb k 18 ≡ x → both x (eqb a 0) ≡ true → k ≡ 18
-      go true f g = eqb-true k 18 f
-      go false f g = let z : _≡_ {A = ℕ} 0 1 = cc in let w : ⊥ = omega arith in absurd w
-
-  pub untyped-id : b ≡ true → a ≡ 0
-  untyped-id t = go (eqb k 18) (eqb a 0) refl (sym e ∙ t)
-    where
-      go : (x y : Bool) → eqb a 0 ≡ y → both x y ≡ true → a ≡ 0
-      go true true f g = eqb-true a 0 f
-      go true false f g = let z : _≡_ {A = ℕ} 0 1 = cc in let w : ⊥ = omega arith in absurd w
-      go false y f g = let z : _≡_ {A = ℕ} 0 1 = cc in let w : ⊥ = omega arith in absurd w
-
-  pub typed : b ≡ false → k ≡ 18 → a ≡ 0 → ⊥
-  typed f h i =
-      let g : both (eqb k 18) (eqb a 0) ≡ true = rw (eq-eqb k 18 h, eq-eqb a 0 i) refl in
-      let z : _≡_ {A = ℕ} 0 1 = cc in omega arith
 
 -- ---- the arms' texts: behind the arrow, of the type that is read in the sheet
 

@@ -17,7 +17,7 @@ use Rattle.row.specs.Rows.{rows}
 use Rattle.tree.specs.Tree as tree
 use Rattle.tree.specs.Tree.{kind, Sheet}
 use Rattle.tree.specs.Read.{hasWords, readWords}
-use Rattle.tree.specs.Index.{Has}
+use Rattle.tree.specs.Reader.{Has}
 use Rattle.codegen_types.specs.Out.{Out, ok, refused, refusalOf}
 use Rattle.codegen_types.specs.TypeString.{typeString}
 use Rattle.codegen_types.specs.Primitive.{primitiveText}

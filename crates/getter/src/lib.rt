@@ -10,13 +10,12 @@ use text::Text;
 ghost use mathlib.Core.Path.{_≡_};
 ghost use mathlib.Core.Bool.{Bool};
 ghost use lib.ListN.{drop};
-ghost use lib.Dec.{eqb};
-ghost use Rattle.text.specs.Bytes.{Str, both};
+ghost use Rattle.text.specs.Bytes.{Str};
 ghost use Rattle.text.specs.Text.{Wrote};
 ghost use Rattle.row.specs.Rows.{rows};
 ghost use Rattle.tree.specs.Tree as tree;
 ghost use Rattle.tree.specs.Read.{readType};
-ghost use Rattle.tree.specs.Index.{On};
+ghost use Rattle.tree.specs.Reader.{On};
 ghost use Rattle.nodes.specs.Index.{ForAll};
 ghost use Rattle.codegen_types.specs.Out.{ok, _then_, refusalOf};
 ghost use Rattle.codegen_types.specs.TypeString.{typeString, getQualifiedModule};
@@ -152,16 +151,6 @@ fn fallible_result(
     Written { text: t, refusal }
 }
 
-// Whether a type of this kind and id is an AnyPointer that is no parameter.
-fn is_untyped(kind: u64, id: u64) -> bool
-    ensures { λ r. ⌜ r ≡ both (eqb kind 18) (eqb id 0) ⌝ }
-{
-    if kind == kinds::ANY_POINTER {
-        return id == 0;
-    }
-    false
-}
-
 // The result type of a getter. Its refusal is the type's.
 fn result_type(
     root: &[u8],
@@ -183,18 +172,19 @@ fn result_type(
         return codegen_types::whole(t);
     }
     let t = arrow(is_fn, t, buf);
-    if kind == kinds::ENUM {
-        return enum_result(root, s, index, slot.id, t, buf);
-    }
-    if kind == kinds::INTERFACE {
-        return fallible_result(root, s, index, slot.typ, Leaf::Client, false, t, buf);
-    }
     let leaf = module_leaf(is_reader);
     let option = slot.option != 0;
-    if is_untyped(kind, slot.id) {
-        return optional_type(root, s, index, slot.typ, leaf, option, t, buf);
+    match kind {
+        kinds::ENUM => enum_result(root, s, index, slot.id, t, buf),
+        kinds::INTERFACE => fallible_result(root, s, index, slot.typ, Leaf::Client, false, t, buf),
+        kinds::ANY_POINTER => {
+            if slot.id == 0 {
+                return optional_type(root, s, index, slot.typ, leaf, option, t, buf);
+            }
+            fallible_result(root, s, index, slot.typ, leaf, option, t, buf)
+        },
+        _ => fallible_result(root, s, index, slot.typ, leaf, option, t, buf),
     }
-    fallible_result(root, s, index, slot.typ, leaf, option, t, buf)
 }
 
 // The declaration of the default, if there is one.

@@ -4,8 +4,8 @@ use mathlib.Core.Bool.{Bool, true, false, not}
 use mathlib.Core.List.{[], _++_, append-assoc}
 use Prim.Native.Nat.{ℕ, _≤_, _<_}
 use native.Mathlib.Omega.{arith}
-use borrow.Author.Tests.{ne-eqb, le-leb, lt-leb, lt-ltb, le-ltb, leb-true, leb-false}
-use lib.Dec.{eqb, leb, ltb}
+use borrow.Author.Tests.{ne-eqb, le-leb, lt-leb}
+use lib.Dec.{eqb}
 use Rattle.text.specs.Bytes.{Str, ascii, unit, cond}
 use Rattle.text.specs.Decimal.{decimal}
 use Rattle.text.specs.Lines.{toLines, flatMap, stringify, ended}
@@ -76,20 +76,20 @@ fallible-pointer t a h e = sym (rw e (whole (isParameter t)) ∙ parameter-is t 
     whole true = refl
     whole false = refl
 
-pub fallible-other : (t : Ty) (k : ℕ) → kind t ≡ k → (k ≡ 18 → ⊥) → ltb 11 k ≡ isFallible t
-fallible-other t k e h = sym (rw (no-parameter t (λ f. h (sym e ∙ f)), e, ne-eqb k 18 h) (go (leb k 11) refl))
-  where
-    go : (b : Bool) → leb k 11 ≡ b → cond b false true ≡ ltb 11 k
-    go true f = sym (le-ltb 11 k (leb-true k 11 f))
-    go false f = sym (lt-ltb 11 k (leb-false k 11 f))
+module _ (t : Ty) (k : ℕ) (e : kind t ≡ k) (n18 : k ≡ 18 → ⊥) where
+  pub fallible-never : k < 12 → false ≡ isFallible t
+  fallible-never lt = sym (rw (no-parameter t (λ f. n18 (sym e ∙ f)), e, ne-eqb k 18 n18, le-leb k 11 (omega arith)) refl)
+
+  pub fallible-always : 12 ≤ k → true ≡ isFallible t
+  fallible-always le = sym (rw (no-parameter t (λ f. n18 (sym e ∙ f)), e, ne-eqb k 18 n18, lt-leb k 11 le) refl)
 
 module _ (root name : Str) (s : Slot) (isReader isFn : Bool) (typ : Str) (k : ℕ) (is : kind (s .ty) ≡ k)
     (n0 : k ≡ 0 → ⊥) (n1 : k ≡ 1 → ⊥) where
-  pub fragment-number : k ≤ 11
+  pub fragment-number : k < 12
       → getDataField isReader typ (s .offset) (getterMask (s .default)) ≡ fragmentOf root name s isReader isFn typ
-  fragment-number h = sym (rw (is, ne-eqb k 0 n0, ne-eqb k 1 n1, le-leb k 11 h) refl)
+  fragment-number lt = sym (rw (is, ne-eqb k 0 n0, ne-eqb k 1 n1, le-leb k 11 (omega arith)) refl)
 
-  pub fragment-pointer : 11 < k → (k ≡ 15 → ⊥) → (k ≡ 17 → ⊥) → (k ≡ 18 → ⊥)
+  pub fragment-pointer : 12 ≤ k → (k ≡ 15 → ⊥) → (k ≡ 17 → ⊥) → (k ≡ 18 → ⊥)
       → fromPointer root isReader (s .offset) (pointerDefault (s .explicit) name) ≡ fragmentOf root name s isReader isFn typ
   fragment-pointer h n15 n17 n18 =
       sym (rw (is, ne-eqb k 0 n0, ne-eqb k 1 n1, lt-leb k 11 h, ne-eqb k 15 n15, ne-eqb k 17 n17, ne-eqb k 18 n18) refl)

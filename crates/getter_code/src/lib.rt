@@ -150,27 +150,28 @@ fn fragment(
 {
     let kind = slot.kind;
     let bits = slot.bits;
-    if kind == kinds::VOID {
-        return void(is_fn, t, buf);
+    match kind {
+        kinds::VOID => void(is_fn, t, buf),
+        kinds::BOOL => {
+            let mask = codegen::getter_mask(kind, bits);
+            calls::get_bool_field(t, buf, is_reader, slot.offset, mask)
+        },
+        kinds::INT8..=kinds::FLOAT64 => codegen::get_number(
+            is_reader,
+            kind,
+            slot.offset,
+            bits,
+            t,
+            buf,
+        ),
+        kinds::ENUM => {
+            let mask = codegen::getter_mask(kind, bits);
+            calls::get_enum_field(t, buf, is_reader, slot.offset, mask)
+        },
+        kinds::INTERFACE => capability(root, is_reader, slot.offset, t, buf),
+        kinds::ANY_POINTER => untyped(root, is_reader, slot.id != 0, slot.offset, t, buf),
+        _ => from_pointer(root, is_reader, slot.offset, slot.explicit, name, t, buf),
     }
-    if kind == kinds::BOOL {
-        let mask = codegen::getter_mask(kind, bits);
-        return calls::get_bool_field(t, buf, is_reader, slot.offset, mask);
-    }
-    if kind <= kinds::FLOAT64 {
-        return codegen::get_number(is_reader, kind, slot.offset, bits, t, buf);
-    }
-    if kind == kinds::ENUM {
-        let mask = codegen::getter_mask(kind, bits);
-        return calls::get_enum_field(t, buf, is_reader, slot.offset, mask);
-    }
-    if kind == kinds::INTERFACE {
-        return capability(root, is_reader, slot.offset, t, buf);
-    }
-    if kind == kinds::ANY_POINTER {
-        return untyped(root, is_reader, slot.id != 0, slot.offset, t, buf);
-    }
-    from_pointer(root, is_reader, slot.offset, slot.explicit, name, t, buf)
 }
 
 // is_fallible, whether the result can be an error: for an enum, a parameter and every pointer but AnyPointer it can.
@@ -178,10 +179,11 @@ fn is_fallible(slot: Slot) -> bool
     ensures { λ r. ⌜ ((s : tree.Slot) → SlotIs slot s → r ≡ isFallible (s .ty)) ⌝ }
 {
     let kind = slot.kind;
-    if kind == kinds::ANY_POINTER {
-        return slot.id != 0;
+    match kind {
+        kinds::VOID..=kinds::FLOAT64 => false,
+        kinds::ANY_POINTER => slot.id != 0,
+        _ => true,
     }
-    kinds::FLOAT64 < kind
 }
 
 fn null_head(is_reader: bool, t: Text, buf: &mut [u8]) -> Text

@@ -14,9 +14,8 @@ use Rattle.row.specs.Rows.{restOf}
 use Rattle.row.specs.Line.{lineOf, lineAt, textOf, textAt, asParameter}
 use Rattle.row.specs.declared.Line.{Line}
 use Rattle.row.specs.declared.Line.the-variants.{Root, Node, Parameter, Field, Group, Typ, Scope, Unbound, Value, Word, Bad}
-use Rattle.tree.specs.Reader.{Rows, Reading, got, no, Reader, _then_}
+use Rattle.tree.specs.Reader.{Rows, Reading, got, no, Reader, _then_, On}
 use Rattle.tree.specs.Read.{readParams}
-use Rattle.tree.specs.Index.{On}
 use Rattle.tree.proofs.OtherLines.{never}
 use Rattle.nodes.specs.Index.{namesOf, nth, rowsAfter}
 

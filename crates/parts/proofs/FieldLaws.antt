@@ -19,10 +19,9 @@ use Rattle.row.specs.declared.Line.{Line}
 use Rattle.row.specs.declared.Line.the-variants as line
 use Rattle.tree.specs.Tree as tree
 use Rattle.tree.specs.Tree.{Arm, slot, group}
-use Rattle.tree.specs.Reader.{Rows, Reading, got, no, _then_}
+use Rattle.tree.specs.Reader.{Rows, Reading, got, no, _then_, On}
 use Rattle.tree.specs.Read.{readSlot, field, readField}
 use Rattle.tree.specs.Fields.{FieldsHere, none, more}
-use Rattle.tree.specs.Index.{On}
 use Rattle.field.specs.Slot.{SlotField, SlotHere}
 use Rattle.field.specs.Field.{SlotIn, GroupHere, GroupIn}
 use Rattle.field.specs.declared.Slot as code

@@ -17,10 +17,9 @@ use Rattle.row.specs.Rows.{restOf}
 use Rattle.row.specs.Line.{lineAt, asWord}
 use Rattle.row.specs.declared.Line.{Line as RowLine}
 use Rattle.row.specs.declared.Line.the-variants as line
-use Rattle.tree.specs.Reader.{Rows, Reading, Reader, got, no, _then_}
+use Rattle.tree.specs.Reader.{Rows, Reading, Reader, got, no, _then_, On, Has}
 use Rattle.tree.specs.Read.{readWordsUpTo, readWords}
 use Rattle.tree.proofs.OtherLines.{not-word}
-use Rattle.tree.specs.Index.{On, Has}
 use Rattle.types.proofs.Laws.{on-map, on-one}
 use Rattle.codegen.specs.WordArray.{bytesFrom, wordBytes, wordsLines, wordArrayDeclaration}
 use Rattle.pointer_constants.specs.Words.{wordsAt, wordCode, wordsText}

@@ -13,7 +13,7 @@ ghost use Rattle.text.specs.Text.{Wrote};
 ghost use Rattle.row.specs.Rows.{rows};
 ghost use Rattle.tree.specs.Read.{readWords};
 ghost use Rattle.names.specs.Names.{defaultName};
-ghost use Rattle.tree.specs.Index.{Has};
+ghost use Rattle.tree.specs.Reader.{Has};
 ghost use Rattle.codegen.specs.WordArray.{wordBytes, wordArrayDeclaration};
 ghost use Rattle.pointer_constants.specs.Words.{wordsAt, wordCode, wordsText};
 

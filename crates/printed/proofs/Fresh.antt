@@ -10,7 +10,7 @@ use Rattle.text.specs.Bytes.{cond, both, either, unit}
 use Rattle.tree.specs.Tree.{Arm, slot, group}
 use Rattle.tree.specs.Read.{among, overlap, groupId}
 use Rattle.tree.specs.WellFormed.{distinct}
-use Rattle.tree.proofs.NodeLaws.{among-append}
+use Rattle.tree.proofs.AmongLaws.{among-append}
 
 -- whether each number is new to those seen and to those in front of it
 unfoldable pub fresh : List ℕ → List ℕ → Bool

@@ -15,8 +15,7 @@ use Rattle.tree.specs.Tree as tree
 use Rattle.tree.specs.Tree.{Ty, Arm, slot, group, Node, Sheet}
 use Rattle.tree.specs.Fields.{FieldsHere}
 use Rattle.tree.specs.Read.{readType}
-use Rattle.tree.specs.Reader.{Reading, got, no}
-use Rattle.tree.specs.Index.{On, Has}
+use Rattle.tree.specs.Reader.{Reading, got, no, On, Has}
 use Rattle.tree.proofs.OtherLines.{never}
 use Rattle.codegen_types.specs.Out.{Out, ok, refused, _then_}
 use Rattle.codegen_types.specs.TypeString.{typeString}

@@ -1,6 +1,6 @@
 -- Laws of one pass: what its text comes to, in each way in which it ends, and whose text it is. Assumes nothing.
 use mathlib.Core.Path.{_≡_, refl, sym, _∙_}
-use mathlib.Core.List.{List, [], _∷_}
+use mathlib.Core.List.{List}
 use mathlib.Core.Option.{Option, none, some}
 use Prim.Native.Nat.{ℕ, _-_, _^_, _≤_, _<_}
 use native.Mathlib.Omega.{arith}
@@ -23,10 +23,10 @@ use Rattle.nodes.specs.declared.Entry.{Entry}
 use Rattle.nodes.specs.declared.Found.the-variants as found
 use Rattle.nodes.proofs.Laws.{nth-is}
 use Rattle.nodes.proofs.NameLaws.{names-out}
-use Rattle.field.specs.Field.{FieldIs, ReadsFirst}
+use Rattle.field.specs.Field.{FieldIs, FindsField}
 use Rattle.field.specs.declared.Field.{Field}
 use Rattle.field.specs.declared.Field.the-variants as field
-use Rattle.requests.specs.Told.{Passed, firstOf}
+use Rattle.requests.specs.Told.{Passed, inNode}
 use Rattle.requests.specs.declared.Pass.{Pass}
 use Rattle.requests.specs.declared.Pass.the-variants as pass
 use Rattle.requests.proofs.LentLaws.{text-end}
@@ -74,46 +74,44 @@ module _ (o : Out Str) (l l′ : Str) {t₀ : Text} (z : t₀ ≡ stateAt 0) (r 
 
 -- ---- whose text it is
 
-module _ (s : Str) (nodes : List Node) (index : List ℕ) (x : Indexed s nodes index) (k : ℕ) (fields : List tree.Field)
+module _ (s : Str) (nodes : List Node) (index : List ℕ) (x : Indexed s nodes index) (k : ℕ) (o : Option tree.Field)
     (g : Node × tree.Field → Out Str) (l l′ : Str) where
-  no-node : nth k nodes ≡ none → Passed (firstOf nodes k fields then g) l l′ (pass.Refused 15)
+  no-node : nth k nodes ≡ none → Passed (inNode nodes k o then g) l l′ (pass.Refused 15)
   no-node e = rw e (refused-so l l′ 15)
 
   -- a number that no node can have, and one that none has
-  pub past-nodes : 64 ≤ k → Passed (firstOf nodes k fields then g) l l′ (pass.Refused 15)
+  pub past-nodes : 64 ≤ k → Passed (inNode nodes k o then g) l l′ (pass.Refused 15)
   past-nodes h = no-node (names-out k nodes (omega (arith, x .few)))
 
-  pub nobody : found.Nothing ≡ entryWith index k → Passed (firstOf nodes k fields then g) l l′ (pass.Refused 15)
+  pub nobody : found.Nothing ≡ entryWith index k → Passed (inNode nodes k o then g) l l′ (pass.Refused 15)
   nobody e = go (nth k nodes) refl (rw (← e) at (nth-is s nodes index k x))
     where
-      go : (o : Option Node) → nth k nodes ≡ o → Finds s index found.Nothing o
-          → Passed (firstOf nodes k fields then g) l l′ (pass.Refused 15)
+      go : (m : Option Node) → nth k nodes ≡ m → Finds s index found.Nothing m
+          → Passed (inNode nodes k o then g) l l′ (pass.Refused 15)
       go (some n) e h = absurd h
       go none e h = no-node e
 
   -- a node without such a field, and with it
-  module _ (e : Entry) (f : Field) (there : found.At e ≡ entryWith index k) (first : ReadsFirst s f fields) where
+  module _ (e : Entry) (f : Field) (there : found.At e ≡ entryWith index k) (is : FindsField s f o) where
     entry-is : Finds s index (found.At e) (nth k nodes)
     entry-is = rw (← there) at (nth-is s nodes index k x)
 
-    pub no-field : f ≡ field.Nothing → Passed (firstOf nodes k fields then g) l l′ (pass.Refused 15)
-    unfolding nth
-    no-field i = go (nth k nodes) refl fields (rw i at first)
+    pub no-field : f ≡ field.Nothing → Passed (inNode nodes k o then g) l l′ (pass.Refused 15)
+    no-field i = go (nth k nodes) refl o (rw i at is)
       where
-        go : (o : Option Node) → nth k nodes ≡ o → (fs : List tree.Field) → ReadsFirst s field.Nothing fs
-            → Passed (firstOf nodes k fs then g) l l′ (pass.Refused 15)
-        go none h fs c = rw h (refused-so l l′ 15)
-        go (some n) h [] c = rw h (refused-so l l′ 15)
-        go (some n) h (y ∷ fs) c = absurd (c .0)
+        go : (m : Option Node) → nth k nodes ≡ m → (o : Option tree.Field) → FindsField s field.Nothing o
+            → Passed (inNode nodes k o then g) l l′ (pass.Refused 15)
+        go none h o c = rw h (refused-so l l′ 15)
+        go (some n) h none c = rw h (refused-so l l′ 15)
+        go (some n) h (some y) c = absurd c
 
-    pub first-passed : (r : Pass) → (f ≡ field.Nothing → ⊥)
+    pub field-passed : (r : Pass) → (f ≡ field.Nothing → ⊥)
         → ((at : Node × tree.Field) → at .0 .tagOffset ≡ e .«tag_offset» → FieldIs s f (at .1) → Passed (g at) l l′ r)
-        → Passed (firstOf nodes k fields then g) l l′ r
-    unfolding nth
-    first-passed r i p = go (nth k nodes) refl entry-is fields first
+        → Passed (inNode nodes k o then g) l l′ r
+    field-passed r i p = go (nth k nodes) refl entry-is o is
       where
-        go : (o : Option Node) → nth k nodes ≡ o → Finds s index (found.At e) o → (fs : List tree.Field) → ReadsFirst s f fs
-            → Passed (firstOf nodes k fs then g) l l′ r
-        go none h b fs c = absurd b
-        go (some n) h b [] c = absurd (i c)
-        go (some n) h b (y ∷ fs) c = rw h (p (n, y) (sym (b .tag-offset)) (c .0))
+        go : (m : Option Node) → nth k nodes ≡ m → Finds s index (found.At e) m → (o : Option tree.Field) → FindsField s f o
+            → Passed (inNode nodes k o then g) l l′ r
+        go none h b o c = absurd b
+        go (some n) h b none c = absurd (i c)
+        go (some n) h b (some y) c = rw h (p (n, y) (sym (b .tag-offset)) c)

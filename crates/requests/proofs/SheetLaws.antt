@@ -12,10 +12,9 @@ use Rattle.row.specs.Line.{lineAt, textAt}
 use Rattle.row.specs.declared.Line.{Line}
 use Rattle.row.specs.declared.Line.the-variants as line
 use Rattle.tree.specs.Tree.{Node, Sheet}
-use Rattle.tree.specs.Reader.{Rows, Reading, got, no, _then_}
+use Rattle.tree.specs.Reader.{Rows, Reading, got, no, _then_, On}
 use Rattle.tree.specs.Read.{readNodes, Admitted, sheet, refused, numbered, admitted}
 use Rattle.tree.specs.Read as read
-use Rattle.tree.specs.Index.{On}
 use Rattle.tree.proofs.OtherLines.{never}
 use Rattle.nodes.specs.Index.{Indexed, sheetOf}
 use Rattle.sheet.specs.Admission.{verdict, IndexOf}

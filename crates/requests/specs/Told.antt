@@ -1,9 +1,10 @@
 -- What the entry answers, and what its parts tell of every sheet that has these bytes and this index. Assumes nothing.
 use mathlib.Core.Path.{_≡_}
 use mathlib.Core.List.{List}
+use mathlib.Core.Option.{Option}
 use Prim.Native.Nat.{ℕ, _-_, _^_, _≤_, min}
 use lib.Dec.{ltb}
-use lib.ListN.{length, drop}
+use lib.ListN.{length}
 use Rattle.text.specs.Bytes.{Str, cond}
 use Rattle.row.specs.Rows.{rows}
 use Rattle.row.specs.Line.{textAt}
@@ -11,12 +12,11 @@ use Rattle.text.specs.Answer as text
 use Rattle.text.specs.declared.Text.{Text}
 use Rattle.tree.specs.Tree as tree
 use Rattle.tree.specs.Tree.{Node, Sheet}
-use Rattle.tree.specs.Fields.{FieldsHere}
 use Rattle.codegen_types.specs.Out.{Out, ok, refused, _then_}
 use Rattle.codegen_types.specs.Written.{Writes}
 use Rattle.codegen_types.specs.declared.Written.{Written}
 use Rattle.nodes.specs.Index.{nth, Indexed, ForAll}
-use Rattle.field.specs.Field.{FieldIs}
+use Rattle.field.specs.Field.{FieldIs, FindsField}
 use Rattle.field.specs.declared.Field.{Field}
 use Rattle.field.specs.declared.Field.the-variants as field
 use Rattle.requests.specs.Requests.{there, fieldAt, accessorText, requestText, Outcome, outcome, entryAnswer, entryBuffer}
@@ -48,9 +48,9 @@ pub record Passed (o : Out Str) (l l′ : Str) (r : Pass) : Type 0 where
   pub says : r ≡ passOf (length l) o
   pub text : (w : Str) → o ≡ ok w → length w ≤ length l → l′ ≡ text.placed l 0 w
 
--- the node with a number, from 0, and the first of some fields; 15 where there is none
-abbrev pub firstOf : List Node → ℕ → List tree.Field → Out (Node × tree.Field)
-firstOf nodes number fields = there (nth number nodes) then λ n. there (nth 0 fields) then λ f. ok (n, f)
+-- the node with a number, from 0, and a field, if there is one; 15 where there is no such node or no field
+abbrev pub inNode : List Node → ℕ → Option tree.Field → Out (Node × tree.Field)
+inNode nodes number o = there (nth number nodes) then λ n. there o then λ f. ok (n, f)
 
 -- a field that was found and the offset of its node's tag; nothing where there is none, which is 15
 abbrev pub Locates : Str → Located → Out (Node × tree.Field) → Type 0
@@ -85,13 +85,13 @@ module _ (s index : List ℕ) where
   RequestAnswered id request l t l′ r =
       ForAll (textAt (rows s)) s index (λ sheet. Answered l t (outcome (requestText sheet id request)) l′ r)
 
-  -- one pass for a field that was read, and for the first of the fields at a position, in the node with a number
+  -- one pass for a field that was read, by the tag of its node, and by the number of its node
   abbrev pub FieldPassed : ℕ → Field → Accessor → Str → Str → Pass → Type 0
   FieldPassed tag f accessor l l′ r =
       OfField (textAt (rows s)) s index tag f (λ sheet at. Passed (accessorText sheet at accessor) l l′ r)
 
-  abbrev pub FirstPassed : ℕ → ℕ → Accessor → Str → Str → Pass → Type 0
-  FirstPassed number at accessor l l′ r =
+  abbrev pub TextPassed : ℕ → Field → Accessor → Str → Str → Pass → Type 0
+  TextPassed number f accessor l l′ r =
       ForAll (textAt (rows s)) s index
-      (λ sheet. (fields : List tree.Field) → FieldsHere (rows (drop at s)) fields
-      → Passed (firstOf (sheet .nodes) number fields then λ at. accessorText sheet at accessor) l l′ r)
+      (λ sheet. (o : Option tree.Field) → FindsField s f o
+      → Passed (inNode (sheet .nodes) number o then λ at. accessorText sheet at accessor) l l′ r)

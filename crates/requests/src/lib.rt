@@ -1,7 +1,7 @@
 // The public entry: a request of a node of a sheet, over any bytes, any text state and any buffer. The answer is the whole
 // text, or one refusal of document 01 that changes nothing. A request is measured over an empty buffer, which finds its refusal
 // or its length, before the first byte is written. Whoever holds a sheet's index asks over it, and has the text of a field that
-// stands at a position in one pass.
+// was read in one pass.
 use codegen_types::Leaf;
 use codegen_types::Lifetime;
 use codegen_types::Refusal;
@@ -22,7 +22,7 @@ ghost use Rattle.nodes.specs.Index.{indexSize};
 ghost use Rattle.field.specs.declared.Field.the-variants as field-is;
 ghost use Rattle.requests.specs.Requests.{leafOf, leafSaid, outcomeOf};
 ghost use Rattle.requests.specs.Told.{LocatedIn, AccessorWritten, FieldAnswered, PlaceAnswered, RequestAnswered, Answered};
-ghost use Rattle.requests.specs.Told.{FieldPassed, FirstPassed};
+ghost use Rattle.requests.specs.Told.{FieldPassed, TextPassed};
 ghost use Rattle.requests.specs.declared.Accessor.the-variants.{TypeText, Haser};
 
 // How many numbers are room enough for the index of a sheet of at most 3,072 bytes.
@@ -389,17 +389,17 @@ fn pass_field(
     Pass::Whole(n)
 }
 
-// The text of the field that stands at a position, in the node with a number, from 0, in one pass from the start of the buffer
-// on: 15 where there is no such node or no field. There are at most 64 nodes.
-pub fn text_at(
+// The text of a field that was read, in the node with a number, from 0, in one pass from the start of the buffer on: 15 where
+// there is no such node or no field. There are at most 64 nodes.
+pub fn text(
     s: &[u8],
     index: &[u64],
     node: usize,
-    at: usize,
+    field: Field,
     accessor: Accessor,
     buf: &mut [u8],
 ) -> Pass
-    ensures { λ r. ⌜ FirstPassed (now (s .entry)) (now (index .entry)) node at accessor
+    ensures { λ r. ⌜ TextPassed (now (s .entry)) (now (index .entry)) node field accessor
         (now (buf .entry)) (now (buf .exit)) r ⌝ }
 {
     if 64 <= node {
@@ -408,7 +408,6 @@ pub fn text_at(
     let Found::At(entry) = nodes::nth(index, node) else {
         return Pass::Refused(refusals::NOT_THERE);
     };
-    let field = field::read(s, at);
     match field {
         Field::Nothing => Pass::Refused(refusals::NOT_THERE),
         _ => pass_field(s, index, entry.tag_offset, field, accessor, buf),

@@ -167,8 +167,8 @@ textAt [] = []
 textAt (r ∷ rs) = textOf r
 
 -- a span lies within s, and the bytes that it spans
-abbrev pub Within : Str → Span → Type 0
-Within s p = (p .start ≤ p .end) × (p .end ≤ length s)
+abbrev pub SpanWithin : Str → Span → Type 0
+SpanWithin s p = (p .start ≤ p .end) × (p .end ≤ length s)
 
 abbrev pub spanned : Str → Span → Str
 spanned s p = take (p .end - p .start) (drop (p .start) s)

@@ -12,7 +12,7 @@ ghost use Rattle.row.specs.Rows.{rowLen, rows, joined, restOf, lineNo, u
 ghost use Rattle.row.specs.Line.{rootLine, nodeLine, parameterLine, fieldLine, groupLine};
 ghost use Rattle.row.specs.Line.{typeLine, scopeLine, unboundLine, valueLine, wordLine};
 ghost use Rattle.row.specs.Line.{mostA, mostB, mostC, mostCount, mostBits, reader, lineOf, lineAt, textStart, textAt};
-ghost use Rattle.row.specs.Line.{Within, spanned};
+ghost use Rattle.row.specs.Line.{SpanWithin, spanned};
 ghost use Rattle.row.specs.declared.Line.the-variants.{Bad};
 ghost use Rattle.text.specs.Bytes.{Str};
 
@@ -456,7 +456,7 @@ fn text_start(letter: u8) -> usize
 // Where the text of the row from `at` to `e` stands.
 fn span_to(s: &[u8], at: usize, e: usize) -> Span
     requires { ⌜ (at < e) × (e ≤ length (now s)) ⌝ }
-    ensures within { λ r. ⌜ Within (now (s .entry)) r ⌝ }
+    ensures within { λ r. ⌜ SpanWithin (now (s .entry)) r ⌝ }
     ensures text { λ r. ⌜ (e ≡ at + rowLen (drop at (now (s .entry)))
         → spanned (now (s .entry)) r ≡ textAt (rows (drop at (now (s .entry))))) ⌝ }
 {
@@ -487,7 +487,7 @@ pub fn text(s: &[u8], at: usize) -> &[u8]
 
 // Where the text of the row at a position stands, for whoever knows where the next row begins: no end is sought.
 pub fn text_span(s: &[u8], at: usize, next: usize) -> Span
-    ensures within { λ r. ⌜ Within (now (s .entry)) r ⌝ }
+    ensures within { λ r. ⌜ SpanWithin (now (s .entry)) r ⌝ }
     ensures text { λ r. ⌜ (rows (drop next (now (s .entry))) ≡ restOf (rows (drop at (now (s .entry))))
         → spanned (now (s .entry)) r ≡ textAt (rows (drop at (now (s .entry))))) ⌝ }
 {

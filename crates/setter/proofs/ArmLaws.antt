@@ -22,9 +22,8 @@ use Rattle.names.specs.declared.Snake.{Snake}
 use Rattle.names.proofs.Laws.{name-of}
 use Rattle.tree.specs.Tree as tree
 use Rattle.tree.specs.Tree.{Ty, plain, list, kind, Sheet, Value}
-use Rattle.tree.specs.Reader.{Rows, Reading}
+use Rattle.tree.specs.Reader.{Rows, Reading, On}
 use Rattle.tree.specs.Read.{readType}
-use Rattle.tree.specs.Index.{On}
 use Rattle.types.specs.Find.{kindAt}
 use Rattle.types.proofs.Laws.{on-one, on-two, on-has}
 use Rattle.codegen_types.specs.Out.{Out, ok, refused, _then_, refusalOf}

@@ -179,7 +179,7 @@ module _ (root : Str) (tag : ℕ) (name : Str) (d : ℕ) where
 -- ---- prim_default is refused but for kinds 1 to 11
 
 module _ (k b : ℕ) where
-  pub within : 1 ≤ k → k ≤ 11 → refusalOf (primDefault (value k b)) ≡ None
+  pub within : 1 ≤ k → k < 12 → refusalOf (primDefault (value k b)) ≡ None
   unfolding primDefault
   within lo hi = go (eqb k 1) (leb 2 k) (leb k 9) (eqb k 10) (eqb k 11) refl refl refl refl refl _ _ _ _
     where
@@ -200,7 +200,7 @@ module _ (k b : ℕ) where
   unfolding primDefault
   below lo = rw (let z : k ≡ 0 = omega arith in z) refl
 
-  pub above : 11 < k → refusalOf (primDefault (value k b)) ≡ Number 11
+  pub above : 12 ≤ k → refusalOf (primDefault (value k b)) ≡ Number 11
   unfolding primDefault
   above hi =
       rw (

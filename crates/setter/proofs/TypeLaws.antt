@@ -9,10 +9,9 @@ use Rattle.row.specs.Rows.{restOf}
 use Rattle.row.specs.Line.{lineAt}
 use Rattle.tree.specs.Tree as tree
 use Rattle.tree.specs.Tree.{Ty, plain, list, enum, struct, interface, anyPointer, parameter, kind, Scopes, end}
-use Rattle.tree.specs.Reader.{Rows, Reader, got, mapR, times}
+use Rattle.tree.specs.Reader.{Rows, Reader, got, mapR, times, On}
 use Rattle.tree.specs.Read as read
 use Rattle.tree.specs.Read.{readType, typeFrom, branded}
-use Rattle.tree.specs.Index.{On}
 use Rattle.types.specs.Find.{kindAt}
 use Rattle.types.proofs.TypeLaws.{type-kind}
 use Rattle.types.proofs.Laws.{on-map, on-all, as-type}
@@ -86,7 +85,7 @@ plain-is anyPointer a k h e le = let z : ⊥ = omega arith in absurd z
 plain-is (parameter i j) a k h e le = let z : ⊥ = omega arith in absurd z
 
 -- the kind that is left
-pub last-kind : (s : tree.Slot) (r : Slot) → SlotIs r s → 13 < r .kind → (r .kind ≡ 14 → ⊥) → (r .kind ≡ 15 → ⊥)
+pub last-kind : (s : tree.Slot) (r : Slot) → SlotIs r s → 14 ≤ r .kind → (r .kind ≡ 14 → ⊥) → (r .kind ≡ 15 → ⊥)
     → (r .kind ≡ 16 → ⊥) → (r .kind ≡ 17 → ⊥) → r .kind ≡ 18
 last-kind s r is lo n14 n15 n16 n17 = go (s .ty) (is .id) (is .kind)
   where

@@ -10,7 +10,7 @@ use Rattle.row.specs.Rows.{rows}
 use Rattle.tree.specs.Tree as tree
 use Rattle.tree.specs.Tree.{Ty, Sheet}
 use Rattle.tree.specs.Read.{readType}
-use Rattle.tree.specs.Index.{On}
+use Rattle.tree.specs.Reader.{On}
 use Rattle.codegen_types.specs.Out.{Out, ok, _then_}
 use Rattle.codegen_types.specs.TypeString.{typeString}
 use Rattle.codegen_types.specs.declared.Leaf.the-variants.{Owned}

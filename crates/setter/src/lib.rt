@@ -12,7 +12,7 @@ use terms::refusals;
 use text::Text;
 ghost use mathlib.Core.Path.{_≡_};
 ghost use mathlib.Core.List.{_++_, List};
-ghost use Prim.Native.Nat.{_≤_};
+ghost use Prim.Native.Nat.{_<_};
 ghost use lib.Dec.{eqb, leb};
 ghost use lib.ListN.{drop};
 ghost use Rattle.text.specs.Text.{Wrote};
@@ -20,7 +20,7 @@ ghost use Rattle.text.specs.Bytes.{Str, either};
 ghost use Rattle.row.specs.Rows.{restOf, rows};
 ghost use Rattle.tree.specs.Tree as tree;
 ghost use Rattle.tree.specs.Read.{readType};
-ghost use Rattle.tree.specs.Index.{On};
+ghost use Rattle.tree.specs.Reader.{On};
 ghost use Rattle.names.specs.Names.{nameOf};
 ghost use Rattle.nodes.specs.Index.{ForAll, sheetOf};
 ghost use Rattle.types.specs.Find.{kindAt};
@@ -40,43 +40,39 @@ ghost use Rattle.setter.specs.Typed.{Types, inputType, setEnd, initStart
 fn default_refusal(slot: Slot) -> Refusal
     ensures { λ r. ⌜ r ≡ refusalOf (primDefault (value (slot .default) (slot .bits))) ⌝ }
 {
-    if slot.default < 1 {
-        return Refusal::Number(refusals::SETTER_DEFAULT);
+    let kind = slot.default;
+    match kind {
+        kinds::BOOL..=kinds::FLOAT64 => Refusal::None,
+        _ => Refusal::Number(refusals::SETTER_DEFAULT),
     }
-    if slot.default <= 11 {
-        return Refusal::None;
-    }
-    Refusal::Number(refusals::SETTER_DEFAULT)
 }
 
 // The setter of a slot whose type has one row: kinds 0 to 13.
 fn plain_setter(root: &[u8], slot: Slot, name: Snake, tag: u64, t: Text, buf: &mut [u8]) -> Written
-    ensures { λ r. ⌜ ((ns : List tree.Node) (sl : tree.Slot) → SlotIs slot sl → slot .kind ≤ 13
+    ensures { λ r. ⌜ ((ns : List tree.Node) (sl : tree.Slot) → SlotIs slot sl → slot .kind < 14
         → Writes (setterTextOf (sheetOf (now (root .entry)) ns) tag (nameOf name) (slot .discriminant) sl)
         (now (buf .entry)) t (now (buf .exit)) r) ⌝ }
 {
     let kind = slot.kind;
-    if kind == kinds::VOID {
-        return codegen_types::whole(setter_code::void(name, slot, tag, t, buf));
+    match kind {
+        kinds::VOID => codegen_types::whole(setter_code::void(name, slot, tag, t, buf)),
+        kinds::BOOL => {
+            let text = setter_code::boolean(name, slot, tag, t, buf);
+            Written {
+                text,
+                refusal: default_refusal(slot),
+            }
+        },
+        kinds::TEXT => codegen_types::whole(setter_code::text(root, name, slot, tag, t, buf)),
+        kinds::DATA => codegen_types::whole(setter_code::data(root, name, slot, tag, t, buf)),
+        _ => {
+            let text = setter_code::number(name, slot, tag, t, buf);
+            Written {
+                text,
+                refusal: default_refusal(slot),
+            }
+        },
     }
-    if kind == kinds::BOOL {
-        let text = setter_code::boolean(name, slot, tag, t, buf);
-        return Written {
-            text,
-            refusal: default_refusal(slot),
-        };
-    }
-    if kind <= kinds::FLOAT64 {
-        let text = setter_code::number(name, slot, tag, t, buf);
-        return Written {
-            text,
-            refusal: default_refusal(slot),
-        };
-    }
-    if kind == kinds::TEXT {
-        return codegen_types::whole(setter_code::text(root, name, slot, tag, t, buf));
-    }
-    codegen_types::whole(setter_code::data(root, name, slot, tag, t, buf))
 }
 
 // What a setter takes where its type has several SetterInput impls, for the type at a position.
@@ -180,10 +176,10 @@ fn element_kind(s: &[u8], at: usize) -> u64
 fn several_inputs(kind: u64) -> bool
     ensures { λ r. ⌜ r ≡ either (leb kind 12) (eqb kind 15) ⌝ }
 {
-    if kind <= kinds::TEXT {
-        return true;
+    match kind {
+        kinds::VOID..=kinds::TEXT | kinds::ENUM => true,
+        _ => false,
     }
-    kind == kinds::ENUM
 }
 
 // What the setter of a list takes, for the list type at a position.
@@ -211,8 +207,8 @@ fn list_setter(
 ) -> Written
     ensures { λ r. ⌜ ForAll (now (root .entry)) (now (s .entry)) (now (index .entry)) (λ sheet.
         (f : SlotField) → SlotHere (now (s .entry)) slot f → slot .kind ≡ 14
-        → Writes (setterTextOf sheet tag (nameOf name) (slot .discriminant) (f .slot)) (now (buf .entry)) t (now
-        (buf .exit)) r) ⌝ }
+        → Writes (setterTextOf sheet tag (nameOf name) (slot .discriminant) (f .slot))
+        (now (buf .entry)) t (now (buf .exit)) r) ⌝ }
 {
     let t = setter_code::set_open(name, t, buf);
     let Written {
@@ -249,7 +245,7 @@ fn enum_refusal(slot: Slot) -> Refusal
     if slot.explicit == 0 {
         return Refusal::None;
     }
-    if slot.default == 15 {
+    if slot.default == kinds::ENUM {
         return Refusal::None;
     }
     Refusal::Number(refusals::ENUM_DEFAULT)
@@ -267,8 +263,8 @@ fn enum_setter(
 ) -> Written
     ensures { λ r. ⌜ ((root : Str) → ForAll root (now (s .entry)) (now (index .entry)) (λ sheet.
         (f : SlotField) → SlotHere (now (s .entry)) slot f → slot .kind ≡ 15
-        → Writes (setterTextOf sheet tag (nameOf name) (slot .discriminant) (f .slot)) (now (buf .entry)) t (now
-        (buf .exit)) r)) ⌝ }
+        → Writes (setterTextOf sheet tag (nameOf name) (slot .discriminant) (f .slot))
+        (now (buf .entry)) t (now (buf .exit)) r)) ⌝ }
 {
     let t = setter_code::set_open(name, t, buf);
     let Written {
@@ -300,8 +296,8 @@ fn struct_setter(
 ) -> Written
     ensures { λ r. ⌜ ForAll (now (root .entry)) (now (s .entry)) (now (index .entry)) (λ sheet.
         (f : SlotField) → SlotHere (now (s .entry)) slot f → slot .kind ≡ 16
-        → Writes (setterTextOf sheet tag (nameOf name) (slot .discriminant) (f .slot)) (now (buf .entry)) t (now
-        (buf .exit)) r) ⌝ }
+        → Writes (setterTextOf sheet tag (nameOf name) (slot .discriminant) (f .slot))
+        (now (buf .entry)) t (now (buf .exit)) r) ⌝ }
 {
     let t = setter_code::set_open(name, t, buf);
     let Written {
@@ -334,8 +330,8 @@ fn interface_setter(
 ) -> Written
     ensures { λ r. ⌜ ForAll (now (root .entry)) (now (s .entry)) (now (index .entry)) (λ sheet.
         (f : SlotField) → SlotHere (now (s .entry)) slot f → slot .kind ≡ 17
-        → Writes (setterTextOf sheet tag (nameOf name) (slot .discriminant) (f .slot)) (now (buf .entry)) t (now
-        (buf .exit)) r) ⌝ }
+        → Writes (setterTextOf sheet tag (nameOf name) (slot .discriminant) (f .slot))
+        (now (buf .entry)) t (now (buf .exit)) r) ⌝ }
 {
     let t = setter_code::set_open(name, t, buf);
     let Written { text: t, refusal } = type_string::type_string(
@@ -368,8 +364,8 @@ fn parameter_setter(
 ) -> Written
     ensures { λ r. ⌜ ForAll (now (root .entry)) (now (s .entry)) (now (index .entry)) (λ sheet.
         (f : SlotField) → SlotHere (now (s .entry)) slot f → slot .kind ≡ 18 → (slot .id ≡ 0 → ⊥)
-        → Writes (setterTextOf sheet tag (nameOf name) (slot .discriminant) (f .slot)) (now (buf .entry)) t (now
-        (buf .exit)) r) ⌝ }
+        → Writes (setterTextOf sheet tag (nameOf name) (slot .discriminant) (f .slot))
+        (now (buf .entry)) t (now (buf .exit)) r) ⌝ }
 {
     let t = setter_code::initn_open(name, t, buf);
     let Written {
@@ -405,29 +401,30 @@ fn setter_of(
 ) -> Written
     ensures { λ r. ⌜ ForAll (now (root .entry)) (now (s .entry)) (now (index .entry)) (λ sheet.
         (f : SlotField) → SlotHere (now (s .entry)) slot f
-        → Writes (setterTextOf sheet tag (nameOf name) (slot .discriminant) (f .slot)) (now (buf .entry)) t (now
-        (buf .exit)) r) ⌝ }
+        → Writes (setterTextOf sheet tag (nameOf name) (slot .discriminant) (f .slot))
+        (now (buf .entry)) t (now (buf .exit)) r) ⌝ }
 {
     let kind = slot.kind;
-    if kind <= kinds::DATA {
-        return plain_setter(root, slot, name, tag, t, buf);
+    match kind {
+        kinds::VOID..=kinds::DATA => plain_setter(root, slot, name, tag, t, buf),
+        kinds::LIST => list_setter(root, s, index, slot, name, tag, t, buf),
+        kinds::ENUM => enum_setter(s, index, slot, name, tag, t, buf),
+        kinds::STRUCT => struct_setter(root, s, index, slot, name, tag, t, buf),
+        kinds::INTERFACE => interface_setter(root, s, index, slot, name, tag, t, buf),
+        _ => {
+            if slot.id == 0 {
+                return codegen_types::whole(setter_code::any_pointer(
+                    root,
+                    name,
+                    slot,
+                    tag,
+                    t,
+                    buf,
+                ));
+            }
+            parameter_setter(root, s, index, slot, name, tag, t, buf)
+        },
     }
-    if kind == kinds::LIST {
-        return list_setter(root, s, index, slot, name, tag, t, buf);
-    }
-    if kind == kinds::ENUM {
-        return enum_setter(s, index, slot, name, tag, t, buf);
-    }
-    if kind == kinds::STRUCT {
-        return struct_setter(root, s, index, slot, name, tag, t, buf);
-    }
-    if kind == kinds::INTERFACE {
-        return interface_setter(root, s, index, slot, name, tag, t, buf);
-    }
-    if slot.id == 0 {
-        return codegen_types::whole(setter_code::any_pointer(root, name, slot, tag, t, buf));
-    }
-    parameter_setter(root, s, index, slot, name, tag, t, buf)
 }
 
 // The text of a slot's setter, by the offset of its node's tag.

@@ -13,10 +13,9 @@ use Rattle.row.specs.Rows.{rows, restOf, lineNo}
 use Rattle.row.specs.Line.{lineAt, textAt}
 use Rattle.row.specs.declared.Line.{Line}
 use Rattle.tree.specs.Tree.{Node, Sheet}
-use Rattle.tree.specs.Reader.{Rows, Reading, got, no, Reader, _then_}
+use Rattle.tree.specs.Reader.{Rows, Reading, got, no, Reader, _then_, On}
 use Rattle.tree.specs.Read.{readNodes, readSheet, Admitted, numbered, admitted}
 use Rattle.tree.specs.Walked.{passed}
-use Rattle.tree.specs.Index.{On}
 use Rattle.tree.specs.declared.Walk.{Walk}
 use Rattle.tree.specs.declared.Walk.the-variants.{Next, Refused}
 use Rattle.tree.proofs.OtherLines.{never, not-root}

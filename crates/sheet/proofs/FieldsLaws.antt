@@ -23,7 +23,7 @@ use Rattle.tree.proofs.OtherLines.{never, not-a-field, not-parameter}
 use Rattle.tree.proofs.WalkLaws.{passed-map}
 use Rattle.tree.proofs.TailLaws.{Tail, tail-rest, tail-length, tail-size, leaves-passed, leaves-slot}
 use Rattle.tree.proofs.FieldLaws.{fields-here}
-use Rattle.tree.proofs.NodeLaws.{among-append}
+use Rattle.tree.proofs.AmongLaws.{among-append}
 use Rattle.sheet.proofs.RoomLaws.{group-room}
 use Rattle.sheet.specs.Admission.{groupsAfter}
 use Rattle.row.specs.declared.Line.the-variants as line

@@ -9,10 +9,9 @@ use Rattle.text.specs.Bytes.{Str, cond, both}
 use Rattle.row.specs.Rows.{rows, restOf, size}
 use Rattle.row.specs.Line.{textAt}
 use Rattle.tree.specs.Tree.{Field, Node, Sheet}
-use Rattle.tree.specs.Reader.{Rows, Reading, got, no, Reader, _then_, mapR}
+use Rattle.tree.specs.Reader.{Rows, Reading, got, no, Reader, _then_, mapR, On}
 use Rattle.tree.specs.Read.{among, readFields, groupIds, readParams, readMembers, Admitted, sheet, refused}
 use Rattle.tree.specs.Walked.{passed, walked}
-use Rattle.tree.specs.Index.{On}
 use Rattle.tree.specs.declared.Walk.{Walk}
 use Rattle.tree.specs.declared.Walk.the-variants.{Next, Refused}
 use Rattle.nodes.specs.Index.{entryAt, namesOf, firstMark, indexSize, Marked, EntryIs, Indexed}

@@ -4,4 +4,4 @@ pub mod UnboundLaws
 pub mod SlotLaws
 pub mod TailLaws
 pub mod FieldLaws
-pub mod NodeLaws
+pub mod AmongLaws

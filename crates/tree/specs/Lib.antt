@@ -5,5 +5,4 @@ pub mod Print
 pub mod WellFormed
 pub mod Examples
 pub mod Walked
-pub mod Index
 pub mod Fields

@@ -69,3 +69,13 @@ module _ {A : Type 0} where
 
   abbrev pub onWord : (ℕ → Reader A) → Reader A → Reader A
   onWord f other rs = asWord {A = Reader A} (lineAt rs) (λ w rs. f w (restOf rs)) other rs
+
+-- a fact of what is read, if anything is
+abbrev pub On : {A : Type 0} → Reading A → (A → Type 0) → Type 0
+On (got a rs) P = P a
+On (no k rs) P = Unit {0}
+
+-- something is read, and a fact of it
+abbrev pub Has : {A : Type 0} → Reading A → (A → Type 0) → Type 0
+Has (got a rs) P = P a
+Has (no k rs) P = ⊥

@@ -197,8 +197,8 @@ fn words(s: &[u8], at: usize, has: bool) -> Walk
 
 // What belongs to an F row with this explicit flag: a type, a V row and its words.
 pub fn slot(s: &[u8], at: usize, explicit: u64) -> Walk
-    ensures { λ r. ⌜ ((o p : ℕ) → walked (now (s .entry)) r ≡ passed (readSlot o explicit p (rows (drop at (now
-        (s .entry)))))) ⌝ }
+    ensures { λ r. ⌜ ((o p : ℕ) → walked (now (s .entry)) r
+        ≡ passed (readSlot o explicit p (rows (drop at (now (s .entry)))))) ⌝ }
 {
     match typ(s, at, 16) {
         Walk::Next { at: v } => {

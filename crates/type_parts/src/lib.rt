@@ -49,32 +49,24 @@ pub fn displayed(root: &[u8], path: &[u8], leaf: Leaf, t: Text, buf: &mut [u8]) 
 pub fn plain(root: &[u8], kind: u64, leaf: Leaf, t: Text, buf: &mut [u8]) -> Text
     ensures { λ r. ⌜ Wrote (now (buf .entry)) t (plainString (now (root .entry)) leaf kind) (now (buf .exit)) r ⌝ }
 {
-    if kind == kinds::TEXT {
-        return displayed(root, b"::text::", leaf, t, buf);
+    match kind {
+        kinds::TEXT => displayed(root, b"::text::", leaf, t, buf),
+        kinds::DATA => displayed(root, b"::data::", leaf, t, buf),
+        _ => codegen_types::type_name(t, buf, kind),
     }
-    if kind == kinds::DATA {
-        return displayed(root, b"::data::", leaf, t, buf);
-    }
-    codegen_types::type_name(t, buf, kind)
 }
 
 // The list module for an element of this kind, with its colons.
 fn list_module(kind: u64, t: Text, buf: &mut [u8]) -> Text
     ensures { λ r. ⌜ Wrote (now (buf .entry)) t (ascii "::" ++ listModule kind ++ ascii "::") (now (buf .exit)) r ⌝ }
 {
-    if kind == kinds::STRUCT {
-        return t.bytes(buf, b"::struct_list::");
+    match kind {
+        kinds::LIST => t.bytes(buf, b"::list_list::"),
+        kinds::ENUM => t.bytes(buf, b"::enum_list::"),
+        kinds::STRUCT => t.bytes(buf, b"::struct_list::"),
+        kinds::INTERFACE => t.bytes(buf, b"::capability_list::"),
+        _ => t.bytes(buf, b"::primitive_list::"),
     }
-    if kind == kinds::ENUM {
-        return t.bytes(buf, b"::enum_list::");
-    }
-    if kind == kinds::LIST {
-        return t.bytes(buf, b"::list_list::");
-    }
-    if kind == kinds::INTERFACE {
-        return t.bytes(buf, b"::capability_list::");
-    }
-    t.bytes(buf, b"::primitive_list::")
 }
 
 // A list's text up to its element's.

@@ -20,10 +20,9 @@ use Rattle.row.specs.Line.{lineAt}
 use Rattle.row.specs.declared.Line.{Line}
 use Rattle.row.specs.declared.Line.the-variants.{Scope, Unbound}
 use Rattle.tree.specs.Tree.{list, struct, Scopes, end, Binds, stop, Node, Sheet}
-use Rattle.tree.specs.Reader.{Rows, Reading, got, no, times}
+use Rattle.tree.specs.Reader.{Rows, Reading, got, no, times, On, Has}
 use Rattle.tree.specs.Read as read
 use Rattle.tree.specs.Read.{readType, typeFrom, readBinding}
-use Rattle.tree.specs.Index.{On, Has}
 use Rattle.nodes.specs.Index.{namesOf, sheetOf, Indexed}
 use Rattle.codegen_types.specs.Out.{Out, ok, refused, _then_}
 use Rattle.codegen_types.specs.Leaf.{bareName, display, lifetimeComma, maybeColons, leafArguments}

@@ -9,10 +9,9 @@ use Rattle.text.specs.Bytes.{Str}
 use Rattle.text.specs.declared.Text.{Text}
 use Rattle.row.specs.Rows.{rows}
 use Rattle.tree.specs.Tree.{list, struct, end, stop}
-use Rattle.tree.specs.Reader.{times}
+use Rattle.tree.specs.Reader.{times, On}
 use Rattle.tree.specs.Read as read
 use Rattle.tree.specs.Read.{readType, typeFrom, readBinding}
-use Rattle.tree.specs.Index.{On}
 use Rattle.nodes.specs.Index.{namesOf, ForAll}
 use Rattle.codegen_types.specs.Out.{Out, ok, refused, _then_}
 use Rattle.codegen_types.specs.TypeString.{typeString, Scope, scopesOf, bindingsOf, allOf, argumentsOf, accumulate}

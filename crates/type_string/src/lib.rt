@@ -13,7 +13,7 @@ use type_parts::Arguments;
 use types::TypeRow;
 ghost use lib.ListN.{drop};
 ghost use Rattle.row.specs.Rows.{rows};
-ghost use Rattle.tree.specs.Index.{On};
+ghost use Rattle.tree.specs.Reader.{On};
 ghost use Rattle.tree.specs.Read.{readType};
 ghost use Rattle.nodes.specs.Index.{ForAll};
 ghost use Rattle.codegen_types.specs.TypeString.{typeString};

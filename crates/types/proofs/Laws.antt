@@ -24,12 +24,11 @@ use Rattle.row.specs.declared.Line.{Line}
 use Rattle.row.specs.declared.Line.the-variants.{Root, Node, Parameter, Field, Group, Typ, Scope, Unbound, Value, Word, Bad}
 use Rattle.tree.specs.Tree as tree
 use Rattle.tree.specs.Tree.{Ty, Scopes, Binds, Sheet, end, stop, bound, inherit, bind}
-use Rattle.tree.specs.Reader.{Rows, Reading, got, no, Reader, _then_, mapR, times, onType}
+use Rattle.tree.specs.Reader.{Rows, Reading, got, no, Reader, _then_, mapR, times, onType, On, Has}
 use Rattle.tree.specs.Read as read
 use Rattle.tree.specs.Read.{readType, typeFrom, readBinding, among}
 use Rattle.codegen_types.specs.TypeString as typeString
 use Rattle.codegen_types.specs.TypeString.{orElse, scopeOf, scopesOf, bindingsOf}
-use Rattle.tree.specs.Index.{On, Has}
 use Rattle.types.specs.Find.{After, owed, pastRows, lastScope, ScopeHere, ScopeIs}
 
 -- what holds for a letter's lines and for all others
@@ -88,10 +87,7 @@ pub on-two : {A : Type 0} (P Q R : A → Type 0) (g : Reading A) → ((a : A) �
 on-two P Q R (got a rs) f h k = f a h k
 on-two P Q R (no n rs) f h k = tt
 
--- what holds of a reading holds of what was read, and of what is known to be read
-pub on-got : {A : Type 0} (P : A → Type 0) (g : Reading A) (a : A) (q : Rows) → On g P → g ≡ got a q → P a
-on-got P g a q h e = rw e at h
-
+-- what holds of a reading holds of what is known to be read
 pub on-has : {A : Type 0} (P : A → Type 0) (g : Reading A) (a : A) → On g P → Has g (λ b. b ≡ a) → P a
 on-has P (got b q) a h e = rw (← e) h
 on-has P (no k q) a h e = absurd e

@@ -20,12 +20,11 @@ use Rattle.row.specs.Line.{lineAt, asScope}
 use Rattle.row.specs.declared.Line.{Line}
 use Rattle.row.specs.declared.Line.the-variants as line
 use Rattle.tree.specs.Tree.{Node, Sheet, end}
-use Rattle.tree.specs.Reader.{Rows, times}
+use Rattle.tree.specs.Reader.{Rows, times, On}
 use Rattle.tree.specs.Read as read
 use Rattle.tree.specs.Read.{readType}
 use Rattle.codegen_types.specs.TypeString.{Scope, scopeOf, scopesOf}
 use Rattle.tree.proofs.OtherLines.{never}
-use Rattle.tree.specs.Index.{On}
 use Rattle.types.specs.Find.{lastScope, pastRows, owed}
 use Rattle.types.specs.Find.{orNone, LastScopes, Noted, ScopeIs, ScopeAt, ScopeHere}
 use Rattle.types.proofs.Laws.{on-one, scope-counts, scope-none, scope-other, scope-this, scope-next}

@@ -20,7 +20,7 @@ use Rattle.row.specs.declared.Line.{Line}
 use Rattle.row.specs.declared.Line.the-variants.{Typ, Scope, Unbound}
 use Rattle.tree.specs.Tree.{Ty, plain, list, enum, struct, interface, parameter, anyPointer, Scopes, end, inherit, bind, Binds}
 use Rattle.tree.specs.Tree.{stop, unbound, bound, kind, Sheet}
-use Rattle.tree.specs.Reader.{Rows, Reading, got, no, Reader, _then_, mapR, times}
+use Rattle.tree.specs.Reader.{Rows, Reading, got, no, Reader, _then_, mapR, times, On, Has}
 use Rattle.tree.specs.Read as read
 use Rattle.tree.specs.Read.{readType, typeFrom, readBinding, pointer, branded}
 use Rattle.tree.proofs.OtherLines.{not-type, not-scope, not-unbound}
@@ -30,7 +30,6 @@ use Rattle.codegen_types.specs.TypeString.{typeString, scopesOf, bindingsOf, an
 use Rattle.codegen_types.specs.TypeString.{elementLeaf}
 use Rattle.codegen_types.specs.declared.Leaf.{Leaf}
 use Rattle.codegen_types.specs.declared.Leaf.the-variants.{Owned}
-use Rattle.tree.specs.Index.{On, Has}
 use Rattle.types.specs.Find.{After, kindAt, typeRow, TypeRowAt, pastRows, firstScope, ScopeHere}
 use Rattle.types.specs.declared.TypeRow.{TypeRow}
 use Rattle.types.proofs.Laws.{on-map, on-one, on-two, on-all, as-type, as-unbound, past-binding}

@@ -11,10 +11,9 @@ use Rattle.row.specs.Rows.{rows, restOf}
 use Rattle.row.specs.Line.{lineOf, lineAt, asType, asScope}
 use Rattle.row.specs.declared.Line.{Line}
 use Rattle.tree.specs.Tree.{Node, Sheet, end}
-use Rattle.tree.specs.Reader.{Rows, Reading, got, no}
+use Rattle.tree.specs.Reader.{Rows, Reading, got, no, On, Has}
 use Rattle.tree.specs.Read as read
-pub use Rattle.tree.specs.Index.{On, Has}
-use Rattle.nodes.specs.Index.{Indexed, lookup}
+pub use Rattle.nodes.specs.Index.{Indexed, lookup}
 pub use Rattle.nodes.specs.Index.{sheetOf}
 unfoldable pub use Rattle.nodes.specs.Index.{namesOf}
 use Rattle.nodes.specs.declared.Found.{Found}

@@ -4,8 +4,11 @@ use super::corners::{group, node, slot, Corner};
 use super::filled;
 use crate::sheet::{Binding, Node, Scope, Sheet, Slot, Type, MAX_BYTES, MAX_LEVEL, MAX_NODES};
 
+/// The nodes of a sheet, by how much of it there is.
+pub type Shape = fn(usize) -> Vec<Node>;
+
 /// Shapes that grow with their sheet, each by the longest thing that some walk can walk over.
-pub const GROWING: [(&str, fn(usize) -> Vec<Node>); 7] = [
+pub const GROWING: [(&str, Shape); 7] = [
     ("nest", nest),
     ("far", far),
     ("repeats", repeats),
@@ -16,7 +19,7 @@ pub const GROWING: [(&str, fn(usize) -> Vec<Node>); 7] = [
 ];
 
 /// The largest sheet of a growing shape that is not over `size` bytes.
-pub fn growing(shape: fn(usize) -> Vec<Node>, size: usize) -> Sheet {
+pub fn growing(shape: Shape, size: usize) -> Sheet {
     filled(size, shape)
 }
 

@@ -55,8 +55,11 @@ const REQUESTS: [(&str, Request); 8] = [
     ("zero", Request::Zero),
 ];
 
+/// What makes a slot.
+type Maker = fn() -> Slot;
+
 /// Slots by the names of their cases.
-const SLOTS: [(&str, fn() -> Slot); 9] = [
+const SLOTS: [(&str, Maker); 9] = [
     ("bool", || slot("isFree", Type::Plain(1)).default(1, 1, true)),
     ("int8", || slot("rankInWard", Type::Plain(2)).default(2, 251, true)),
     ("float64", || slot("weight", Type::Plain(11)).default(11, 1.5f64.to_bits(), true).tagged(3)),

@@ -14,6 +14,9 @@ pub const SIZES: [(&str, usize); 3] = [("16K", MAX_BYTES / 4), ("32K", MAX_BYTES
 /// A case's name and how its sheet is made.
 type Made = (String, Box<dyn Fn() -> Vec<u8>>);
 
+/// A sheet by its size.
+type OfSize = fn(usize) -> Sheet;
+
 /// The sheets that the whole program is measured on: ordinary ones, growing shapes, and nodes without fields.
 pub fn whole() -> Vec<Made> {
     let mut sheets: Vec<Made> = Vec::new();
@@ -34,7 +37,7 @@ pub fn whole() -> Vec<Made> {
 
 /// The sheets that admission is measured on.
 pub fn admitted() -> Vec<Made> {
-    let shapes: [(&str, fn(usize) -> Sheet); 7] = [
+    let shapes: [(&str, OfSize); 7] = [
         ("ordinary", ordinary),
         ("groups", |size| filled(size, groups)),
         ("groups-one-mark", |size| filled(size, groups_one_mark)),

@@ -46,19 +46,6 @@ extern "C" {
         buf: *mut u8,
         buf_len: usize,
     ) -> u64;
-    pub fn kitlubas_text_at(
-        s: *const u8,
-        s_len: usize,
-        index: *const u64,
-        index_len: usize,
-        node: usize,
-        at: usize,
-        request: u64,
-        leaf: u64,
-        size: *mut usize,
-        buf: *mut u8,
-        buf_len: usize,
-    ) -> u64;
     pub fn kitlubas_node(
         s: *const u8,
         s_len: usize,
@@ -74,9 +61,25 @@ extern "C" {
         s: *const u8,
         s_len: usize,
         from: usize,
+        field: *mut u64,
+        field_len: usize,
         kind: *mut u64,
         at: *mut usize,
         size: *mut usize,
         next: *mut usize,
+    ) -> u64;
+    pub fn kitlubas_text(
+        s: *const u8,
+        s_len: usize,
+        index: *const u64,
+        index_len: usize,
+        node: usize,
+        field: *const u64,
+        field_len: usize,
+        request: u64,
+        leaf: u64,
+        size: *mut usize,
+        buf: *mut u8,
+        buf_len: usize,
     ) -> u64;
 }

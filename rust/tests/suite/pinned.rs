@@ -117,11 +117,13 @@ fn all_texts_differ() {
     assert_eq!(texts.len(), REQUESTS.len() + LEAVES.len());
 }
 
-/// The header's constants are those of the two tables and the number of a type's text, and ask for the same texts.
+/// The header's constants are the size of a field, those of the two tables and the number of a type's text, and ask for
+/// the same texts.
 #[test]
 fn the_numbers_of_the_header() {
     let numbers = constants(&fs::read_to_string(file("crates/exports/kitlubas.h")).expect("the header can be read"));
-    assert_eq!(numbers.len(), 1 + REQUESTS.len() + LEAVES.len());
+    assert_eq!(numbers.len(), 2 + REQUESTS.len() + LEAVES.len());
+    assert_eq!(numbers["KITLUBAS_FIELD_SIZE"], raw::FIELD_SIZE as u64);
     let bed = sheet(BED);
     for (name, _, place, text) in REQUESTS {
         assert_eq!(raw::text(&bed, (7, place), numbers[name], 0), Ok(text.into()), "{name}");

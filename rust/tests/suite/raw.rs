@@ -1,5 +1,5 @@
-//! The library itself, called with what the crate never passes: any index, any position, any number. It returns, and
-//! writes only what it is lent.
+//! The library itself, called with what the crate never passes: any index, any position, any numbers of a field. It
+//! returns, and writes only what it is lent.
 
 use crate::common::{sheet, Random, WARD};
 
@@ -11,6 +11,8 @@ mod declarations;
 /// What stands around every slice that is lent.
 const GUARD: u8 = 0xA5;
 const ROOM: usize = 64;
+/// How many numbers a field has.
+pub const FIELD_SIZE: usize = 14;
 
 /// The text of a request by its numbers, or the number of the refusal.
 pub fn text(sheet: &[u8], (id, place): (u64, u64), request: u64, leaf: u64) -> Result<String, u64> {
@@ -125,18 +127,31 @@ fn position(bytes: &[u8], random: &mut Random) -> usize {
     }
 }
 
-/// Asks for the text of something over any index, by a node's number and a position.
+/// The numbers of what stands at a position, whole, cut or damaged.
+fn numbers(bytes: &[u8], random: &mut Random) -> Vec<u64> {
+    let (mut numbers, _) = field(bytes, position(bytes, random), FIELD_SIZE);
+    for _ in 0..random.below(3) {
+        let at = random.below(FIELD_SIZE);
+        numbers[at] = any(random, if at == 0 { 4 } else { bytes.len() + 9 });
+    }
+    numbers.truncate(if random.below(8) == 0 { random.below(FIELD_SIZE) } else { FIELD_SIZE });
+    numbers
+}
+
+/// Asks for the text of something over any index, by a node's number and the numbers of a field.
 fn text_of_anything(bytes: &[u8], index: &[u64], random: &mut Random) {
     let length = [0, 1, 50, 1000][random.below(4)];
+    let field = numbers(bytes, random);
     let (mut text_len, mut lent) = (usize::MAX, Lent::new(length));
     let number = unsafe {
-        declarations::kitlubas_text_at(
+        declarations::kitlubas_text(
             bytes.as_ptr(),
             bytes.len(),
             index.as_ptr(),
             index.len(),
             any(random, 3) as usize,
-            position(bytes, random),
+            field.as_ptr(),
+            field.len(),
             any(random, 10),
             any(random, 11),
             &mut text_len,
@@ -146,7 +161,7 @@ fn text_of_anything(bytes: &[u8], index: &[u64], random: &mut Random) {
     };
     lent.check(0);
     match number {
-        0 => assert!(text_len <= length),
+        0 => assert!(text_len <= length && field.len() == FIELD_SIZE),
         22 => assert!(text_len > length),
         _ => assert_eq!(text_len, 0),
     }
@@ -175,17 +190,33 @@ fn node(bytes: &[u8], index: &[u64], number: usize) -> Option<(u64, usize, usize
     None
 }
 
-/// The field at a position, of any bytes: its four values, or nothing where they are 0.
-fn field(bytes: &[u8], at: usize) -> Option<(u64, usize, usize, usize)> {
+/// The four values of a field: its kind, where its name stands and how long that is, and where the next one stands.
+type Values = (u64, usize, usize, usize);
+
+/// The field at a position, of any bytes: so many numbers of which its own are the first, and its four values, or nothing
+/// where they are 0. Nothing behind the numbers is written.
+fn field(bytes: &[u8], at: usize, length: usize) -> (Vec<u64>, Option<Values>) {
+    let guard = u64::from(GUARD);
+    let mut field = vec![guard; length + ROOM];
     let (mut kind, mut name, mut name_len, mut next) = (9, 9, 9, 9);
     let refusal = unsafe {
-        declarations::kitlubas_field(bytes.as_ptr(), bytes.len(), at, &mut kind, &mut name, &mut name_len, &mut next)
+        declarations::kitlubas_field(
+            bytes.as_ptr(),
+            bytes.len(),
+            at,
+            field.as_mut_ptr(),
+            length,
+            &mut kind,
+            &mut name,
+            &mut name_len,
+            &mut next,
+        )
     };
-    match refusal {
-        0 => return Some((kind, name, name_len, next)),
-        number => assert_eq!((number, kind, name, name_len, next), (15, 0, 0, 0, 0)),
-    }
-    None
+    assert!(field[length..].iter().all(|number| *number == guard), "a number behind the field's was written");
+    field.truncate(length);
+    let values = (kind, name, name_len, next);
+    assert!(refusal == 0 || (refusal, values) == (15, (0, 0, 0, 0)));
+    (field, (refusal == 0).then_some(values))
 }
 
 #[test]
@@ -241,18 +272,34 @@ fn fields_at_every_position() {
     let ward = sheet(WARD);
     let mut fields = 0;
     for at in 0..=ward.len() + 2 {
-        if let Some((kind, name, name_len, next)) = field(&ward, at) {
+        if let (_, Some((kind, name, name_len, next))) = field(&ward, at, FIELD_SIZE) {
             assert!(kind <= 19 && at < name && name + name_len < next && next <= ward.len());
             fields += usize::from(at == 0 || ward[at - 1] == b'\n');
         }
     }
     assert_eq!(fields, 8);
-    assert!([usize::MAX, usize::MAX - 1, 1 << 32].iter().all(|at| field(&ward, *at).is_none()));
+    assert!([usize::MAX, usize::MAX - 1, 1 << 32].iter().all(|at| field(&ward, *at, FIELD_SIZE).1.is_none()));
     let mut random = Random(8);
     for _ in 0..20_000 {
         let mut bytes = ward.clone();
         let at = random.below(bytes.len());
         bytes[at] = random.next() as u8;
-        field(&bytes, random.below(bytes.len() + 1));
+        field(&bytes, random.below(bytes.len() + 1), random.below(FIELD_SIZE + 2));
+    }
+}
+
+/// A field's numbers are put where there is room for all of them; else nothing is, and its values are the same.
+#[test]
+fn numbers_of_any_length() {
+    let ward = sheet(WARD);
+    let (_, whole) = index(&ward, index_size(ward.len()));
+    let first = node(&ward, &whole, 0).expect("there is a node").3;
+    let (numbers, values) = field(&ward, first, FIELD_SIZE);
+    assert!(values.is_some());
+    for length in 0..2 * FIELD_SIZE {
+        let (others, same) = field(&ward, first, length);
+        assert_eq!(same, values);
+        let put = if length < FIELD_SIZE { &[][..] } else { &numbers };
+        assert!(others.starts_with(put) && others[put.len()..].iter().all(|number| *number == u64::from(GUARD)));
     }
 }

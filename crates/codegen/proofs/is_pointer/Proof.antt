@@ -1,21 +1,12 @@
--- `codegen::is_pointer` meets its contract. Assumes nothing.
-use borrow.Author.Tests.{le-leb, lt-leb, eq-eqb, ne-eqb}
+-- `codegen::is_pointer` meets its contract: the tests that led to each return. Assumes nothing.
+use borrow.Author.Tests.{le-leb, lt-leb, ne-eqb}
 use Rattle.codegen.proofs.is_pointer.Statement.{statement}
 use Rattle.codegen.proofs.is_pointer.Tie as tie
 
-returns : tie.Need-returns
-returns c =
-    simp (lt-leb _ _ (c .if1 .taken))
-
-returns-2 : tie.Need-returns-2
-returns-2 c =
-    let c1 = c .before in
-    simp (le-leb _ _ (c1 .if1 .left), eq-eqb _ _ (c .if2 .taken))
-
-returns-3 : tie.Need-returns-3
-returns-3 c =
-    let c1 = c .before in
-    simp (le-leb _ _ (c1 .if1 .left), ne-eqb _ _ (c .if2 .left))
-
 pub is-pointer-spec : {M : Type 1} → statement M
-is-pointer-spec = tie.close (tie.spec returns returns-2 returns-3)
+is-pointer-spec =
+    tie.close
+    (tie.spec
+    (λ c. simp (le-leb _ _ (c .if1 .left), ne-eqb _ _ (c .before .match .rest .1)))
+    (λ c. simp (c .match .keys1))
+    (λ c. simp (lt-leb _ _ (c .if1 .taken))))

@@ -9,55 +9,39 @@ use borrow.Author.Needs.{needs}
 use Rattle.setter.proofs.plain_setter.Statement.{statement}
 use Rattle.setter.proofs.plain_setter.Tie as tie
 
-last : (k : ℕ) → k ≤ 13 → 11 < k → (k ≡ 12 → ⊥) → k ≡ 13
-last k hi lo n = omega arith
+no-pointer : (k : ℕ) → k < 14 → (k ≡ 12 → ⊥) → (k ≡ 13 → ⊥) → k ≤ 11
+no-pointer k below n12 n13 = omega arith
 
 returns : tie.Need-returns
 returns c =
-    let c3 = c .before .before .before in
-    let c2 = c3 .before .before in
-    let c1 = c2 .before .before .before in
-    λ ns sl h le. void-here (sheetOf (c1 .args .root .now) ns) sl (c1 .args .slot) h (c1 .args .tag)
-    (nameOf (c1 .args .name)) (c1 .args .slot .discriminant) (c2 .if1 .taken) (c3 .void .ensures (c1 .args .root .now))
-    (c .whole .ensures)
+    let w = c .before .before .before in let m = w .before .before in let a = m .before .before .before .args in
+    λ ns sl h below. void-here (sheetOf (a .root .now) ns) sl (a .slot) h (a .tag) (nameOf (a .name)) (a .slot .discriminant)
+    (m .match .keys1) (w .void .ensures (a .root .now)) (c .whole .ensures)
 
 returns-2 : tie.Need-returns-2
 returns-2 c =
-    let c3 = c .before .before .before in
-    let c2 = c3 .before .before in
-    let c1 = c2 .before .before .before .before in
-    λ ns sl h le. bool-here (sheetOf (c1 .args .root .now) ns) sl (c1 .args .slot) h (c1 .args .tag)
-    (nameOf (c1 .args .name)) (c1 .args .slot .discriminant) (c2 .if2 .taken) (c3 .boolean .ensures (c1 .args .root .now)) refl
-    (c .default-refusal .ensures)
+    let w = c .before .before .before in let m = w .before .before in let a = m .before .before .before .args in
+    λ ns sl h below. bool-here (sheetOf (a .root .now) ns) sl (a .slot) h (a .tag) (nameOf (a .name)) (a .slot .discriminant)
+    (m .match .keys2) (w .boolean .ensures (a .root .now)) refl (c .default-refusal .ensures)
 
 returns-3 : tie.Need-returns-3
 returns-3 c =
-    let c5 = c .before .before .before in
-    let c4 = c5 .before .before in
-    let c3 = c4 .before in
-    let c2 = c3 .before in
-    let c1 = c2 .before .before .before in
-    λ ns sl h le. number-here (sheetOf (c1 .args .root .now) ns) sl (c1 .args .slot) h (c1 .args .tag)
-    (nameOf (c1 .args .name)) (c1 .args .slot .discriminant) (c2 .if1 .left) (c3 .if2 .left) (c4 .if3 .taken)
-    (c5 .number .ensures (c1 .args .root .now)) refl (c .default-refusal2 .ensures)
+    let w = c .before .before .before in let m = w .before .before in let a = m .before .before .before .args in
+    λ ns sl h below. text-here (sheetOf (a .root .now) ns) sl (a .slot) h (a .tag) (nameOf (a .name)) (a .slot .discriminant)
+    (m .match .keys3) (w .text .ensures) (c .whole2 .ensures)
 
 returns-4 : tie.Need-returns-4
 returns-4 c =
-    let c3 = c .before .before .before in
-    let c2 = c3 .before .before in
-    let c1 = c2 .before .before .before .before .before .before in
-    λ ns sl h le. text-here (sheetOf (c1 .args .root .now) ns) sl (c1 .args .slot) h (c1 .args .tag)
-    (nameOf (c1 .args .name)) (c1 .args .slot .discriminant) (c2 .if4 .taken) (c3 .text .ensures) (c .whole2 .ensures)
+    let w = c .before .before .before in let m = w .before .before in let a = m .before .before .before .args in
+    λ ns sl h below. data-here (sheetOf (a .root .now) ns) sl (a .slot) h (a .tag) (nameOf (a .name)) (a .slot .discriminant)
+    (m .match .keys4) (w .«data» .ensures) (c .whole3 .ensures)
 
 returns-5 : tie.Need-returns-5
 returns-5 c =
-    let c4 = c .before .before .before in
-    let c3 = c4 .before .before in
-    let c2 = c3 .before in
-    let c1 = c2 .before .before .before .before .before in
-    λ ns sl h le. data-here (sheetOf (c1 .args .root .now) ns) sl (c1 .args .slot) h (c1 .args .tag)
-    (nameOf (c1 .args .name)) (c1 .args .slot .discriminant) (last _ le (c2 .if3 .left) (c3 .if4 .left))
-    (c4 .«data» .ensures) (c .whole3 .ensures)
+    let w = c .before .before .before in let m = w .before .before in let a = m .before .before .before .args in
+    let ((((_, n0), n1), n12), n13) = m .match .rest in
+    λ ns sl h below. number-here (sheetOf (a .root .now) ns) sl (a .slot) h (a .tag) (nameOf (a .name)) (a .slot .discriminant)
+    n0 n1 (no-pointer _ below n12 n13) (w .number .ensures (a .root .now)) refl (c .default-refusal2 .ensures)
 
 pub plain-setter-spec : {M : Type 1} → statement M
 plain-setter-spec =
@@ -65,21 +49,21 @@ plain-setter-spec =
     (tie.spec
     (λ c κs. search needs)
     (λ c κs. search needs)
+    (λ c κs. search needs)
+    (λ c κs. search needs)
+    (λ c κs. search needs)
+    (λ c κs. search needs)
+    (λ c κs. search needs)
+    (λ c κs. search needs)
+    (λ c κs. search needs)
+    (λ c κs. search needs)
     (λ c. search needs)
     returns
-    (λ c κs. search needs)
-    (λ c κs. search needs)
     (λ c. search needs)
     returns-2
-    (λ c κs. search needs)
-    (λ c κs. search needs)
     (λ c. search needs)
     returns-3
-    (λ c κs. search needs)
-    (λ c κs. search needs)
     (λ c. search needs)
     returns-4
-    (λ c κs. search needs)
-    (λ c κs. search needs)
     (λ c. search needs)
     returns-5)

@@ -17,10 +17,9 @@ use lib.Seq.{length-take-le}
 use Rattle.text.specs.Bytes.{Str}
 use Rattle.row.specs.Rows.{rows}
 use Rattle.tree.specs.Tree.{Node, end, stop}
-use Rattle.tree.specs.Reader.{times}
+use Rattle.tree.specs.Reader.{times, On}
 use Rattle.tree.specs.Read as read
 use Rattle.tree.specs.Read.{readType, readBinding}
-use Rattle.tree.specs.Index.{On}
 use Rattle.nodes.specs.Index.{Indexed, sheetOf}
 use Rattle.codegen_types.specs.Out.{Out}
 use Rattle.codegen_types.specs.TypeString.{typeString, bindingsOf, allOf}

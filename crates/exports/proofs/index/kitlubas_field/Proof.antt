@@ -1,6 +1,7 @@
--- `exports::index::kitlubas_field` meets its contract: by what stands at the position, and the span of its name. Assumes nothing.
+-- `exports::index::kitlubas_field` meets its contract: by what stands at the position, the span of its name, and the numbers
+-- that were put of it. Assumes nothing.
 use native.Mathlib.Omega.{arith}
-use Rattle.exports.proofs.IndexLaws.{slot-told, group-told, nothing-told}
+use Rattle.exports.proofs.IndexLaws.{slot-told, group-told, nothing-told, first-put}
 use borrow.Author.Needs.{needs}
 use Rattle.exports.proofs.index.kitlubas_field.Statement.{statement}
 use Rattle.exports.proofs.index.kitlubas_field.Tie as tie
@@ -16,39 +17,55 @@ sub-size-2 c =
 returns : tie.Need-returns
 returns c =
     let at-slot = c .before .before in
-    let at-read = at-slot .before .before in
-    let start = at-read .before .before in
+    let at-put = at-slot .before .before .before .before in
+    let at-read = at-put .before .before in
+    let start = at-read .before .before .before in
+    let a = start .args in
     let inside = c .text-span .ensures .0 in (
       λ fs here.
-          slot-told (start .args .s .now) (c .text-span .result) _ fs
-          (rw (at-slot .slot .given .1) at ((at-read .read .ensures .0) fs here)) (c .text-span .ensures .1),
-      omega (arith, inside .0, inside .1),
+          slot-told (a .s .now) (c .text-span .result) _ fs
+          (rw (at-slot .read2 .given .1) at ((at-read .read .ensures .0) fs here)) (c .text-span .ensures .1),
+      (
+        omega (arith, inside .0, inside .1),
+        first-put (a .s .now) (a .from) _ (a .field .now) _ (at-read .read .ensures .0) (at-put .put .ensures),
+      ),
     )
 
 returns-2 : tie.Need-returns-2
 returns-2 c =
     let at-group = c .before .before in
-    let at-read = at-group .before .before in
-    let start = at-read .before .before in
+    let at-put = at-group .before .before .before .before in
+    let at-read = at-put .before .before in
+    let start = at-read .before .before .before in
+    let a = start .args in
     let inside = c .text-span2 .ensures .0 in (
       λ fs here.
-          group-told (start .args .s .now) (c .text-span2 .result) _ fs
-          (rw (at-group .group .given .1) at ((at-read .read .ensures .0) fs here)) (c .text-span2 .ensures .1),
-      omega (arith, inside .0, inside .1),
+          group-told (a .s .now) (c .text-span2 .result) _ fs
+          (rw (at-group .read3 .given .1) at ((at-read .read .ensures .0) fs here)) (c .text-span2 .ensures .1),
+      (
+        omega (arith, inside .0, inside .1),
+        first-put (a .s .now) (a .from) _ (a .field .now) _ (at-read .read .ensures .0) (at-put .put .ensures),
+      ),
     )
 
 returns-3 : tie.Need-returns-3
 returns-3 c =
-    let at-read = c .before .before in
-    let start = at-read .before .before in (
-      λ fs here. nothing-told (start .args .s .now) fs (rw (c .enum-told .given .1) at ((at-read .read .ensures .0) fs here)),
-      omega arith,
+    let at-put = c .before .before .before .before in
+    let at-read = at-put .before .before in
+    let start = at-read .before .before .before in
+    let a = start .args in (
+      λ fs here. nothing-told (a .s .now) fs (rw (c .enum-told .given .1) at ((at-read .read .ensures .0) fs here)),
+      (
+        omega arith,
+        first-put (a .s .now) (a .from) _ (a .field .now) _ (at-read .read .ensures .0) (at-put .put .ensures),
+      ),
     )
 
 pub kitlubas-field-spec : {M : Type 1} → statement M
 kitlubas-field-spec =
     tie.close
     (tie.spec
+    (λ c κs. search needs)
     (λ c κs. search needs)
     (λ c. search needs)
     (λ c κs. search needs)
@@ -57,6 +74,9 @@ kitlubas-field-spec =
     (λ c κs. search needs)
     sub-size-2
     (λ c. search needs)
+    (λ c. search needs)
     returns
+    (λ c. search needs)
     returns-2
+    (λ c. search needs)
     returns-3)

@@ -1,21 +1,21 @@
--- `requests::text_at` meets its contract: 15 where there is no node or no field, else the pass for the field. Assumes nothing.
+-- `requests::text` meets its contract: 15 where there is no node or no field, else the pass for the field. Assumes nothing.
 use mathlib.Core.Path.{sym, _∙_}
 use Rattle.row.specs.Line.{textAt}
 use Rattle.row.specs.Rows.{rows}
 use Rattle.nodes.specs.Index.{sheetOf}
 use Rattle.requests.specs.Requests.{accessorText}
 use Rattle.requests.proofs.FieldLaws.{not-nothing}
-use Rattle.requests.proofs.PassLaws.{past-nodes, nobody, no-field, first-passed}
+use Rattle.requests.proofs.PassLaws.{past-nodes, nobody, no-field, field-passed}
 use borrow.Author.Needs.{needs}
-use Rattle.requests.proofs.text_at.Statement.{statement}
-use Rattle.requests.proofs.text_at.Tie as tie
+use Rattle.requests.proofs.text.Statement.{statement}
+use Rattle.requests.proofs.text.Tie as tie
 
 returns : tie.Need-returns
 returns c =
     let start = c .before .before .before .before in
     let a = start .args in
-    λ nodes x fields here.
-    past-nodes (a .s .now) nodes (a .index .now) x (a .node) fields
+    λ nodes x o is.
+    past-nodes (a .s .now) nodes (a .index .now) x (a .node) o
     (λ at. accessorText (sheetOf (textAt (rows (a .s .now))) nodes) at (a .accessor)) _ _ (c .if1 .taken)
 
 returns-2 : tie.Need-returns-2
@@ -24,44 +24,41 @@ returns-2 c =
     let at-if1 = at-nth .before in
     let start = at-if1 .before .before .before .before in
     let a = start .args in
-    λ nodes x fields here.
-    nobody (a .s .now) nodes (a .index .now) x (a .node) fields
+    λ nodes x o is.
+    nobody (a .s .now) nodes (a .index .now) x (a .node) o
     (λ at. accessorText (sheetOf (textAt (rows (a .s .now))) nodes) at (a .accessor)) _ _
     (sym (c .enum-told .given .1) ∙ (at-nth .nth .ensures) (at-if1 .if1 .left))
 
 returns-3 : tie.Need-returns-3
 returns-3 c =
-    let at-read = c .before .before in
-    let at-entry = at-read .before .before in
+    let at-entry = c .before .before .before in
     let at-nth = at-entry .before .before in
     let at-if1 = at-nth .before in
     let start = at-if1 .before .before .before .before in
     let a = start .args in
-    λ nodes x fields here.
-    no-field (a .s .now) nodes (a .index .now) x (a .node) fields
+    λ nodes x o is.
+    no-field (a .s .now) nodes (a .index .now) x (a .node) o
     (λ at. accessorText (sheetOf (textAt (rows (a .s .now))) nodes) at (a .accessor)) _ _ _ _
-    (sym (at-entry .entry .given .1) ∙ (at-nth .nth .ensures) (at-if1 .if1 .left)) ((at-read .read .ensures .0) fields here)
-    (c .enum-told2 .given .1)
+    (sym (at-entry .entry .given .1) ∙ (at-nth .nth .ensures) (at-if1 .if1 .left)) is (c .enum-told2 .given .1)
 
 returns-4 : tie.Need-returns-4
 returns-4 c =
     let at-pass-field = c .before .before in
     let at-match2 = at-pass-field .before .before in
-    let at-read = at-match2 .before in
-    let at-entry = at-read .before .before in
+    let at-entry = at-match2 .before .before in
     let at-nth = at-entry .before .before in
     let at-if1 = at-nth .before in
     let start = at-if1 .before .before .before .before in
     let a = start .args in
-    λ nodes x fields here.
-    first-passed (a .s .now) nodes (a .index .now) x (a .node) fields
+    λ nodes x o is.
+    field-passed (a .s .now) nodes (a .index .now) x (a .node) o
     (λ at. accessorText (sheetOf (textAt (rows (a .s .now))) nodes) at (a .accessor)) _ _ _ _
-    (sym (at-entry .entry .given .1) ∙ (at-nth .nth .ensures) (at-if1 .if1 .left)) ((at-read .read .ensures .0) fields here)
-    _ (not-nothing _ (at-match2 .match2 .keys2))
+    (sym (at-entry .entry .given .1) ∙ (at-nth .nth .ensures) (at-if1 .if1 .left)) is _
+    (not-nothing _ (at-match2 .match2 .keys2))
     (λ at e h. (at-pass-field .pass-field .ensures) nodes x at e h)
 
-pub text-at-spec : {M : Type 1} → statement M
-text-at-spec =
+pub text-spec : {M : Type 1} → statement M
+text-spec =
     tie.close
     (tie.spec
     returns
@@ -69,7 +66,6 @@ text-at-spec =
     (λ c. search needs)
     (λ c. search needs)
     returns-2
-    (λ c κs. search needs)
     (λ c. search needs)
     (λ c κs. search needs)
     returns-3

@@ -1,0 +1,53 @@
+-- `exports::index::kitlubas_text` meets its contract: its arms are the cases of the pass. Assumes nothing.
+use mathlib.Core.Path.{refl}
+use Rattle.exports.proofs.IndexLaws.{pass-told}
+use borrow.Author.Needs.{needs}
+use Rattle.exports.proofs.index.kitlubas_text.Statement.{statement}
+use Rattle.exports.proofs.index.kitlubas_text.Tie as tie
+
+returns : tie.Need-returns
+returns c =
+    let at-pass = c .before in
+    let at-text = at-pass .before .before .before .before in
+    let at-get = at-text .before .before in
+    let at-accessor-of = at-get .before in
+    λ ns x o is.
+    rw (← at-accessor-of .accessor-of .ensures) (pass-told _ _ _ _ _ _ _ ((at-text .text .ensures) ns x o
+    (rw (at-get .get .ensures) is)) (at-pass .pass .given .1) refl refl)
+
+returns-2 : tie.Need-returns-2
+returns-2 c =
+    let at-pass2 = c .before in
+    let at-text = at-pass2 .before .before .before .before in
+    let at-get = at-text .before .before in
+    let at-accessor-of = at-get .before in
+    λ ns x o is.
+    rw (← at-accessor-of .accessor-of .ensures) (pass-told _ _ _ _ _ _ _ ((at-text .text .ensures) ns x o
+    (rw (at-get .get .ensures) is)) (at-pass2 .pass2 .given .1) refl refl)
+
+returns-3 : tie.Need-returns-3
+returns-3 c =
+    let at-pass3 = c .before in
+    let at-text = at-pass3 .before .before .before .before in
+    let at-get = at-text .before .before in
+    let at-accessor-of = at-get .before in
+    λ ns x o is.
+    rw (← at-accessor-of .accessor-of .ensures) (pass-told _ _ _ _ _ _ _ ((at-text .text .ensures) ns x o
+    (rw (at-get .get .ensures) is)) (at-pass3 .pass3 .given .1) refl refl)
+
+pub kitlubas-text-spec : {M : Type 1} → statement M
+kitlubas-text-spec =
+    tie.close
+    (tie.spec
+    (λ c κs. search needs)
+    (λ c κs. search needs)
+    (λ c κs. search needs)
+    (λ c. search needs)
+    (λ c. search needs)
+    (λ c. search needs)
+    (λ c. search needs)
+    returns
+    (λ c. search needs)
+    returns-2
+    (λ c. search needs)
+    returns-3)
