@@ -18,7 +18,7 @@ use Rattle.printed.proofs.Nodes.{nodeTests}
 use Rattle.printed.proofs.Sheets.{sheetTests, prints-read}
 use Rattle.printed.proofs.Tests.{holds}
 use Rattle.nodes.specs.Index.{byId, nth}
-use Rattle.codegen_types.specs.Out.{ok, _then_}
+use Rattle.codegen_types.specs.Out.{ok, orRefused, _then_}
 use Rattle.codegen_types.specs.TypeString.{nodeOf, getQualifiedModule}
 use Rattle.agreement.proofs.WholeLaws.{Whole, whole-graphic, whole-name}
 use Rattle.requests.specs.Requests.{there, fieldAt}
@@ -50,23 +50,16 @@ every-id test id (m ∷ l) n e h =
     go true here more e = let z : m ≡ n = cc in rw (← z) here
     go false here more e = more e
 
--- the two lookups of a node are one
+-- what may be missing is there
+or-ok : {A : Type 0} (k : ℕ) (o : Option A) (a : A) → orRefused k o ≡ ok a → o ≡ some a
+or-ok k none a e = refused-ok e
+or-ok k (some b) a e = ap some (ok-is e)
+
 node-by-id : (id : ℕ) (l : List Node) (n : Node) → nodeOf l id ≡ ok n → byId id l ≡ some n
-unfolding nodeOf byId
-node-by-id id [] n e = refused-ok e
-node-by-id id (m ∷ l) n e = go (eqb (m .id) id) (node-by-id id l n) e
-  where
-    go : (b : Bool) → (nodeOf l id ≡ ok n → byId id l ≡ some n) → cond b (ok m) (nodeOf l id) ≡ ok n
-        → cond b (some m) (byId id l) ≡ some n
-    go true more e = ap some (ok-is e)
-    go false more e = more e
+unfolding nodeOf
+node-by-id id l n e = or-ok 5 (byId id l) n e
 
 -- ---- a slot of an admitted sheet
-
--- what may be missing is there
-there-ok : {A : Type 0} (o : Option A) (a : A) → there o ≡ ok a → o ≡ some a
-there-ok none a e = refused-ok e
-there-ok (some b) a e = ap some (ok-is e)
 
 found-fits : (nodes : List Node) (id place : ℕ) (n : Node) (f : Field) → fieldAt nodes id place ≡ ok (n, f)
     → every nodeFits nodes ≡ true → fieldFits f ≡ true
@@ -75,9 +68,9 @@ found-fits nodes id place n f e h =
     let a = then-ok (there (byId id nodes)) (λ n. there (nth place (n .fields)) then λ f. ok (n, f)) (n, f) e in
     let m = a .value in
     let b = then-ok (there (nth place (m .fields))) (λ f. ok (m, f)) (n, f) (a .rest) in
-    let fits = every-id nodeFits id nodes m (there-ok (byId id nodes) m (a .first)) h in
+    let fits = every-id nodeFits id nodes m (or-ok 15 (byId id nodes) m (a .first)) h in
     let is : b .value ≡ f = ap (λ (x : Node × Field). x .1) (ok-is (b .rest)) in
-    rw (← is) (every-nth fieldFits place (m .fields) (b .value) (there-ok _ (b .value) (b .first)) (holds (nodeTests m) fits 9))
+    rw (← is) (every-nth fieldFits place (m .fields) (b .value) (or-ok 15 _ (b .value) (b .first)) (holds (nodeTests m) fits 9))
 
 -- the bounds of a slot
 pub record Bounds {s : Str} {id place : ℕ} (a : SlotAt s id place) : Type 0 where

@@ -28,6 +28,7 @@ use Rattle.tree.specs.Read.{readBinding, readScope, typeFrom, readType, valueOf
 use Rattle.tree.specs.Read.{among, overlap, fieldsUpTo, readFields, groupIds, readParams, readMembers, readNode, readNodes}
 use Rattle.tree.specs.Read.{readSheet}
 use Rattle.tree.specs.Print.{scopeCount, typeRows, wordRows, fieldRows, paramRows, nodeRows, sheetRows, printed}
+use Rattle.tree.specs.Worked.{slotWith, namedField, node, workedSheet}
 use Rattle.codegen_types.specs.Out.{ok}
 use Rattle.codegen_types.specs.TypeString as types
 use Rattle.codegen_types.specs.TypeString.{typeString, isPointer}
@@ -52,7 +53,6 @@ use Rattle.requests.specs.Told.{Answered}
 use Rattle.requests.specs.declared.Answer.the-variants.{Done}
 use Rattle.requests.specs.declared.Accessor.{Accessor}
 use Rattle.requests.specs.declared.Accessor.the-variants.{Getter, Setter, Haser}
-use Rattle.agreement.specs.Sheets.{slotWith, namedField, node}
 use Rattle.agreement.specs.Slots.{Generated, SlotAt, slotKind, tagAt, placeAt, expectedAt}
 use Rattle.agreement.specs.Claims.{Case}
 
@@ -96,7 +96,7 @@ bed = node 7 "bed" 3 4 (
 
 -- with the enum
 abbrev tree : Sheet
-tree = record { root = ascii "::capnp"; nodes = bed ∷ node 8 "status" 0 0 [] ∷ [] }
+tree = workedSheet (bed ∷ node 8 "status" 0 0 [] ∷ [])
 
 -- its bytes
 abbrev bytes : Str

@@ -1,5 +1,4 @@
 pub mod Slots
 pub mod Claims
-pub mod Sheets
 pub mod Examples
 pub mod Starred

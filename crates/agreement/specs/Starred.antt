@@ -21,13 +21,14 @@ use Rattle.row.specs.Line.{rootLine, nodeLine, parameterLine, fieldLine, groupL
 use Rattle.row.specs.Line.{typeLine, scopeLine, unboundLine, valueLine, wordLine}
 use Rattle.row.specs.Line.{mostA, mostB, mostC, mostCount, mostBits, reader, lineOf, lineAt, textStart, textOf, textAt}
 use Rattle.row.specs.Print.{columns, rowText}
-use Rattle.tree.specs.Tree.{Ty, plain, enum, struct, end, slot, group, Field, Sheet}
+use Rattle.tree.specs.Tree.{plain, enum, struct, end, group, Field, Sheet}
 use Rattle.tree.specs.Reader.{times}
 use Rattle.tree.specs.Read as read
 use Rattle.tree.specs.Read.{admitted}
 use Rattle.tree.specs.Read.{readBinding, readScope, typeFrom, readType, valueOf, readWordsUpTo, readWords, readSlot}
 use Rattle.tree.specs.Read.{among, overlap, fieldsUpTo, readFields, groupIds, readParams, readMembers, readNodes, readSheet}
 use Rattle.tree.specs.Print.{scopeCount, typeRows, wordRows, fieldRows, paramRows, nodeRows, sheetRows, printed}
+use Rattle.tree.specs.Worked.{namedField, loneSlot, node, workedSheet}
 use Rattle.codegen_types.specs.TypeString as types
 use Rattle.codegen_types.specs.TypeString.{typeString, scopesOf, nodeOf, argumentsOf, accumulate, outermostFirst}
 use Rattle.codegen_types.specs.TypeString.{angled, doBranding}
@@ -45,45 +46,37 @@ use Rattle.meaning.specs.Meaning.{writes, gets, getsIn, runOp, runLine, runLine
 use Rattle.requests.specs.Requests.{leafOf, fieldAt, typeText, accessorText, ofField, Outcome, gives, refuses, outcomeOf}
 use Rattle.requests.specs.declared.Accessor.{Accessor}
 use Rattle.requests.specs.declared.Accessor.the-variants.{TypeText, Getter, Setter, Haser, Zeroing}
-use Rattle.agreement.specs.Sheets.{slotWith, namedField, node}
 
 -- ---- the sheet
 
--- a slot that is no member of a union
-abbrev only : String → Ty → ℕ → ℕ → ℕ → Field
-only name t offset explicit bits = namedField name 65535 (slot (slotWith t offset explicit bits))
-
 -- the fields of a group: a Uint16 and an Enum at 4
 abbrev pair : List Field
-pair = only "count" (plain 7) 4 0 0 ∷ only "status" (enum 2 end) 4 0 0 ∷ []
+pair = loneSlot "count" (plain 7) 4 0 0 ∷ loneSlot "status" (enum 2 end) 4 0 0 ∷ []
 
 -- the bed, the enum status, the struct ward, and the bed's groups: two slots at 4, a tag too, and the two inside another
 abbrev tree : Sheet
-tree = record {
-  root = ascii "::capnp";
-  nodes =
-      node 7 "bed" 0 0 (
-      only "isFree" (plain 1) 3 1 1
-      ∷ only "next" (struct 7 end) 0 0 0
-      ∷ only "rank" (plain 2) 2 1 251
-      ∷ only "heat" (plain 10) 0 1 1069547520
-      ∷ only "cold" (plain 10) 1 1 2147483648
-      ∷ only "status" (enum 2 end) 1 0 2
-      ∷ only "planned" (enum 2 end) 1 1 0
-      ∷ only "nothing" (plain 0) 0 0 0
-      ∷ only "ward" (struct 3 end) 2 0 0
-      ∷ namedField "plain" 65535 (group 4)
-      ∷ namedField "tagged" 65535 (group 5)
-      ∷ namedField "outer" 65535 (group 6)
-      ∷ [])
-      ∷ node 2 "status" 0 0 []
-      ∷ node 3 "ward" 0 0 []
-      ∷ node 4 "bed::plain" 0 0 pair
-      ∷ node 5 "bed::tagged" 2 4 pair
-      ∷ node 6 "bed::outer" 0 0 (pair ++ (namedField "inner" 65535 (group 8) ∷ []))
-      ∷ node 8 "bed::outer::inner" 0 0 pair
-      ∷ [];
-}
+tree = workedSheet (
+    node 7 "bed" 0 0 (
+    loneSlot "isFree" (plain 1) 3 1 1
+    ∷ loneSlot "next" (struct 7 end) 0 0 0
+    ∷ loneSlot "rank" (plain 2) 2 1 251
+    ∷ loneSlot "heat" (plain 10) 0 1 1069547520
+    ∷ loneSlot "cold" (plain 10) 1 1 2147483648
+    ∷ loneSlot "status" (enum 2 end) 1 0 2
+    ∷ loneSlot "planned" (enum 2 end) 1 1 0
+    ∷ loneSlot "nothing" (plain 0) 0 0 0
+    ∷ loneSlot "ward" (struct 3 end) 2 0 0
+    ∷ namedField "plain" 65535 (group 4)
+    ∷ namedField "tagged" 65535 (group 5)
+    ∷ namedField "outer" 65535 (group 6)
+    ∷ [])
+    ∷ node 2 "status" 0 0 []
+    ∷ node 3 "ward" 0 0 []
+    ∷ node 4 "bed::plain" 0 0 pair
+    ∷ node 5 "bed::tagged" 2 4 pair
+    ∷ node 6 "bed::outer" 0 0 (pair ++ (namedField "inner" 65535 (group 8) ∷ []))
+    ∷ node 8 "bed::outer::inner" 0 0 pair
+    ∷ [])
 
 -- its bytes
 abbrev bytes : Str

@@ -24,14 +24,8 @@ use Rattle.agreement_zeroing.proofs.GroupLaws.{Due, of-slot, of-group}
 -- ---- a field that is found is one of the node's
 
 node-found : (nodes : List Node) (id : ℕ) (n : Node) → byId id nodes ≡ some n → nodeOf nodes id ≡ ok n
-unfolding byId nodeOf
-node-found [] id n e = cc
-node-found (m ∷ nodes) id n e = go (eqb (m .id) id) e (node-found nodes id n)
-  where
-    go : (b : Bool) → cond b (some m) (byId id nodes) ≡ some n → (byId id nodes ≡ some n → nodeOf nodes id ≡ ok n)
-        → cond b (ok m) (nodeOf nodes id) ≡ ok n
-    go true e more = cc
-    go false e more = more e
+unfolding nodeOf
+node-found nodes id n e = rw e
 
 nth-in : (fs : List Field) (place : ℕ) (f : Field) → nth place fs ≡ some f → In f fs
 unfolding nth

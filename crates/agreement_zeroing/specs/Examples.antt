@@ -1,10 +1,9 @@
 -- A worked sheet, computed: a group in a group, whose slots share an offset, on a record that holds something else
 -- than their defaults. Assumes nothing.
 use Prim.Native.Nat.{ℕ}
-use Prim.Native.String.{String}
 use mathlib.Core.Path.{_≡_, refl}
 use mathlib.Core.Bool.{Bool, true, false}
-use mathlib.Core.List.{List, [], _∷_, _++_}
+use mathlib.Core.List.{[], _∷_, _++_}
 use mathlib.Core.Option.{Option, none, some}
 use native.Mathlib.Omega.{arith}
 use lib.ListN.{replicate}
@@ -12,7 +11,7 @@ use Rattle.text.specs.Bytes.{Str, ascii, same}
 use Rattle.text.specs.Decimal.{decimal}
 use Rattle.text.specs.Lines.{toLines, flatMap, join, stringify}
 use Rattle.names.specs.Names.{isAscii, taken, snakeFrom, camelToSnakeCase}
-use Rattle.tree.specs.Tree.{Ty, plain, enum, end, Slot, Arm, slot, group, Field, Node, Sheet}
+use Rattle.tree.specs.Tree.{plain, enum, end, slot, group, Field, Node, Sheet}
 use Rattle.column.specs.Number.{trimmed, digits, unpadded, columnOf, padded}
 use Rattle.column.specs.Texts.{isWord, isGraphic, all, isName, isGraphicText, endsIn}
 use Rattle.row.specs.Rows.{rows, joined, onto, restOf}
@@ -27,6 +26,7 @@ use Rattle.tree.specs.Read.{readBinding, readScope, typeFrom, readType, valueOf
 use Rattle.tree.specs.Read.{among, overlap, readField, fieldsUpTo, readFields, groupIds, readParams, readMembers, readNode}
 use Rattle.tree.specs.Read.{readNodes, readSheet}
 use Rattle.tree.specs.Print.{scopeCount, typeRows, wordRows, fieldRows, paramRows, nodeRows, sheetRows, printed}
+use Rattle.tree.specs.Worked.{slotWith, namedField, loneSlot, workedNode, node, workedSheet}
 use Rattle.codegen_types.specs.TypeString as types
 use Rattle.codegen_types.specs.TypeString.{typeString}
 use Rattle.calls.specs.Calls.{setBoolField, setDataField, clearPointer, getBoolField, getDataField, notNull, tagTest}
@@ -47,61 +47,31 @@ use Rattle.meaning.specs.Meaning.{writes, gets, getsIn, tests, runOp, runLine, 
 use Rattle.meaning.specs.Meaning.{testsOf, runTests, runHaser}
 use Rattle.agreement_zeroing.specs.Zeroing.{GroupAt, Inside, here, deeper, LongEnough}
 
--- a slot by its type, its V line's kind, its offset and its V line's bits
-abbrev slotOf : Ty → ℕ → ℕ → ℕ → Slot
-slotOf ty kind offset bits = record {
-  offset = offset;
-  explicit = 0;
-  option = 0;
-  ty = ty;
-  default = record { kind = kind; bits = bits };
-  words = [];
-}
-
--- a field by its name, its discriminant and what it is
-abbrev field : String → ℕ → Arm → Field
-field name discriminant arm = record { name = ascii name; discriminant = discriminant; arm = arm }
-
--- a node without a parent, by its id, whether it is a struct, its tag's count and offset, its module and its fields
-abbrev node : ℕ → ℕ → ℕ → ℕ → String → List Field → Node
-node id isStruct tagCount tagOffset theMod fields = record {
-  id = id;
-  parent = 0;
-  scope = 0;
-  isStruct = isStruct;
-  generic = 0;
-  tagCount = tagCount;
-  tagOffset = tagOffset;
-  theMod = ascii theMod;
-  params = [];
-  fields = fields;
-}
-
 -- A ward has a group bed, and that has a group state. The bed's rank (default 7) and the state's status (default 2) and isFree
 -- (default true) share bits; note is a pointer in the bed's union.
 abbrev rank : Field
-rank = field "rank" 65535 (slot (slotOf (plain 7) 7 2 7))
+rank = loneSlot "rank" (plain 7) 2 0 7
 
 abbrev note : Field
-note = field "note" 0 (slot (slotOf (plain 12) 12 0 0))
+note = namedField "note" 0 (slot (slotWith (plain 12) 0 0 0))
 
 abbrev status : Field
-status = field "status" 65535 (slot (slotOf (enum 4 end) 15 2 2))
+status = loneSlot "status" (enum 4 end) 2 0 2
 
 abbrev isFree : Field
-isFree = field "isFree" 65535 (slot (slotOf (plain 1) 1 35 1))
+isFree = loneSlot "isFree" (plain 1) 35 0 1
 
 abbrev wardNode : Node
-wardNode = node 1 1 0 0 "ward" (field "bed" 65535 (group 2) ∷ [])
+wardNode = node 1 "ward" 0 0 (namedField "bed" 65535 (group 2) ∷ [])
 
 abbrev bedNode : Node
-bedNode = node 2 1 1 1 "ward::bed" (rank ∷ note ∷ field "state" 65535 (group 3) ∷ [])
+bedNode = node 2 "ward::bed" 1 1 (rank ∷ note ∷ namedField "state" 65535 (group 3) ∷ [])
 
 abbrev stateNode : Node
-stateNode = node 3 1 0 0 "ward::bed::state" (status ∷ isFree ∷ [])
+stateNode = node 3 "ward::bed::state" 0 0 (status ∷ isFree ∷ [])
 
 abbrev ward : Sheet
-ward = record { root = ascii "::capnp"; nodes = wardNode ∷ bedNode ∷ stateNode ∷ node 4 0 0 0 "ward::Status" [] ∷ [] }
+ward = workedSheet (wardNode ∷ bedNode ∷ stateNode ∷ workedNode 4 0 0 0 0 "ward::Status" [] [] ∷ [])
 
 -- its bytes
 wardBytes : Str
@@ -124,7 +94,7 @@ unfolding requests.fieldAt byId nth
 bed = record {
   tree = ward;
   node = wardNode;
-  field = field "bed" 65535 (group 2);
+  field = namedField "bed" 65535 (group 2);
   group = 2;
   is-admitted = ward-read;
   is-found = refl;
@@ -136,7 +106,7 @@ unfolding requests.fieldAt byId nth
 state-inside = deeper 2 (record {
   tree = ward;
   node = bedNode;
-  field = field "state" 65535 (group 3);
+  field = namedField "state" 65535 (group 3);
   group = 3;
   is-admitted = ward-read;
   is-found = refl;
@@ -173,7 +143,7 @@ statusSlot = record {
   tree = ward;
   node = stateNode;
   field = status;
-  slot = slotOf (enum 4 end) 15 2 2;
+  slot = slotWith (enum 4 end) 2 0 2;
   is-admitted = ward-read;
   is-found = refl;
   is-slot = refl;

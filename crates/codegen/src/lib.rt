@@ -4,9 +4,7 @@ use field::Slot;
 use terms::kinds;
 use text::Text;
 ghost use mathlib.Core.Path.{_≡_};
-ghost use lib.Dec.{eqb, leb};
-ghost use mathlib.Core.Bool.{true, false};
-ghost use Rattle.text.specs.Bytes.{ascii, cond, both};
+ghost use Rattle.text.specs.Bytes.{ascii};
 ghost use Rattle.text.specs.Text.{Wrote};
 ghost use Rattle.tree.specs.Tree as tree;
 ghost use Rattle.field.specs.Slot.{SlotIs};
@@ -16,6 +14,7 @@ ghost use Rattle.codegen.specs.Default.{value, floatZero, primDefault, g
 ghost use Rattle.codegen.specs.Given.{Given};
 ghost use Rattle.codegen.specs.Haser.{haserRequest, tagTestLine};
 ghost use Rattle.codegen_types.specs.Primitive.{primitiveText};
+ghost use Rattle.codegen_types.specs.TypeString.{isPointerKind};
 
 // The mask of a getter: the default's bits, looked at as a number, which is signed for Int8 to Int64.
 pub fn getter_mask(kind: u64, bits: u64) -> Mask
@@ -123,7 +122,7 @@ pub fn zero_number(kind: u64, offset: u64, t: Text, buf: &mut [u8]) -> Text
 
 // Whether a type of this kind is a pointer.
 pub fn is_pointer(kind: u64) -> bool
-    ensures { λ r. ⌜ r ≡ both (leb 12 kind) (cond (eqb kind 15) false true) ⌝ }
+    ensures { λ r. ⌜ r ≡ isPointerKind kind ⌝ }
 {
     match kind {
         kinds::VOID..=kinds::FLOAT64 | kinds::ENUM => false,

@@ -3,10 +3,13 @@
 use mathlib.Core.Path.{_≡_, refl}
 use mathlib.Core.List.{List, [], _∷_, map}
 use Prim.Native.Nat.{ℕ, zero, suc, _+_}
+use Prim.Native.String.{String}
 use Rattle.text.specs.Bytes.{Str, ascii}
 use Rattle.text.specs.Lines.{join}
 use Rattle.tree.specs.Tree.{Ty, plain, list, enum, struct, interface, anyPointer, parameter, Scopes, end, inherit, bind, Binds}
 use Rattle.tree.specs.Tree.{stop, unbound, bound, Node, Sheet}
+use Rattle.tree.specs.Worked.{workedNode, workedSheet}
+use Rattle.nodes.specs.Index.{byId, nth}
 use Rattle.codegen_types.specs.Out.{Out, ok, refused}
 use Rattle.codegen_types.specs.TypeString.{typeString, scopesOf, bindingsOf, nodeOf, scopeOf, allOf, argumentsOf}
 use Rattle.codegen_types.specs.TypeString.{accumulate, outermostFirst, angled, doBranding, listString}
@@ -17,39 +20,25 @@ use Rattle.codegen_types.specs.declared.Leaf.the-variants.{GetType}
 use Rattle.codegen_types.specs.declared.Lifetime.the-variants.{A, Anonymous}
 
 -- a node by its id, its parent's, its module and its parameters
-abbrev node : ℕ → ℕ → Str → List Str → Node
-node i p m ps = record {
-  id = i;
-  parent = p;
-  scope = 0;
-  isStruct = 1;
-  generic = 0;
-  tagCount = 0;
-  tagOffset = 0;
-  theMod = m;
-  params = ps;
-  fields = [];
-}
+abbrev node : ℕ → ℕ → String → List Str → Node
+node i p m ps = workedNode i p 1 0 0 m ps []
 
 -- nodes 100 + n down to 100, each the parent of the one before it
 unfoldable chained : ℕ → List Node
-chained zero = node 100 0 (ascii "last") [] ∷ []
-chained (suc n) = node (101 + n) (100 + n) (ascii "link") [] ∷ chained n
+chained zero = node 100 0 "last" [] ∷ []
+chained (suc n) = node (101 + n) (100 + n) "link" [] ∷ chained n
 
 -- bed; map<K,V> with entry in it and deep<E> in that; a node whose parent is not there; two nodes in a cycle; a chain of 17
 abbrev sheet : Sheet
-sheet = record {
-  root = ascii "::capnp";
-  nodes =
-      node 7 0 (ascii "bed") []
-      ∷ node 1 0 (ascii "map") (ascii "K" ∷ ascii "V" ∷ [])
-      ∷ node 2 1 (ascii "map::entry") []
-      ∷ node 3 2 (ascii "map::entry::deep") (ascii "E" ∷ [])
-      ∷ node 4 99 (ascii "lost") []
-      ∷ node 5 6 (ascii "left") []
-      ∷ node 6 5 (ascii "right") []
-      ∷ chained 16;
-}
+sheet = workedSheet (
+    node 7 0 "bed" []
+    ∷ node 1 0 "map" (ascii "K" ∷ ascii "V" ∷ [])
+    ∷ node 2 1 "map::entry" []
+    ∷ node 3 2 "map::entry::deep" (ascii "E" ∷ [])
+    ∷ node 4 99 "lost" []
+    ∷ node 5 6 "left" []
+    ∷ node 6 5 "right" []
+    ∷ chained 16)
 
 -- a type, the leaf asked for, and the text or the refusal
 record Row : Type 0 where
@@ -107,6 +96,6 @@ table =
     ∷ []
 
 worked : map (λ (r : Row). typeString (r .type) sheet (r .leaf)) table ≡ map (λ (r : Row). r .answer) table
-unfolding table chained typeString scopesOf bindingsOf nodeOf scopeOf allOf argumentsOf accumulate outermostFirst join angled
-    doBranding listString parameterName parameterString
+unfolding table chained typeString scopesOf bindingsOf nodeOf byId nth scopeOf allOf argumentsOf accumulate outermostFirst join
+    angled doBranding listString parameterName parameterString
 worked = refl

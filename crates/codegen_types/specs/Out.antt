@@ -1,4 +1,5 @@
 -- What a function of the Rust gives: a value, or the number of the refusal that its error or panic becomes. Assumes nothing.
+use mathlib.Core.Option.{Option, none, some}
 use Prim.Native.Nat.{ℕ}
 use Rattle.codegen_types.specs.declared.Refusal.{Refusal}
 use Rattle.codegen_types.specs.declared.Refusal.the-variants.{None, Number}
@@ -12,6 +13,11 @@ infixl 20 _then_
 abbrev pub _then_ : {A B : Type 0} → Out A → (A → Out B) → Out B
 ok a then f = f a
 refused k then f = refused k
+
+-- what may be missing is there, or is refused with a number
+abbrev pub orRefused : {A : Type 0} → ℕ → Option A → Out A
+orRefused k none = refused k
+orRefused k (some a) = ok a
 
 -- the refusal, if there is one
 abbrev pub refusalOf : {A : Type 0} → Out A → Refusal

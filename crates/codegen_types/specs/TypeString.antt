@@ -10,7 +10,8 @@ use Rattle.text.specs.Bytes.{Str, ascii, cond, both}
 use Rattle.text.specs.Lines.{join}
 use Rattle.tree.specs.Tree.{Ty, plain, list, enum, struct, interface, anyPointer, parameter, Scopes, end, inherit, bind, Binds}
 use Rattle.tree.specs.Tree.{stop, unbound, bound, kind, Node, Sheet}
-use Rattle.codegen_types.specs.Out.{Out, ok, refused, _then_}
+use Rattle.nodes.specs.Index.{byId, nth}
+use Rattle.codegen_types.specs.Out.{Out, ok, refused, orRefused, _then_}
 use Rattle.codegen_types.specs.Leaf.{bareName, display, lifetime, lifetimeComma, leafArguments, maybeColons}
 use Rattle.codegen_types.specs.declared.Leaf.{Leaf}
 use Rattle.codegen_types.specs.declared.Leaf.the-variants.{Reader, Builder, Owned, Client, Server, ServerDispatch}
@@ -20,8 +21,12 @@ use Rattle.codegen_types.specs.declared.Leaf.the-variants.{Pipeline, Get
 abbrev pub isPrim : Ty → Bool
 isPrim t = leb (kind t) 11
 
+-- pointers are the kinds from Text on, but for Enum
+abbrev pub isPointerKind : ℕ → Bool
+isPointerKind k = both (leb 12 k) (cond (eqb k 15) false true)
+
 abbrev pub isPointer : Ty → Bool
-isPointer t = both (leb 12 (kind t)) (cond (eqb (kind t) 15) false true)
+isPointer t = isPointerKind (kind t)
 
 abbrev pub isParameter : Ty → Bool
 isParameter (plain k) = false
@@ -34,8 +39,7 @@ isParameter (parameter i k) = true
 
 -- node_map[&id]
 unfoldable pub nodeOf : List Node → ℕ → Out Node
-nodeOf [] id = refused 5
-nodeOf (n ∷ ns) id = cond (eqb (n .id) id) (ok n) (nodeOf ns id)
+nodeOf nodes id = orRefused 5 (byId id nodes)
 
 -- get_qualified_module
 abbrev pub getQualifiedModule : Sheet → ℕ → Out Str
@@ -130,9 +134,7 @@ listString root leaf k inner =
 
 -- parameters.get(index)
 unfoldable pub parameterName : List Str → ℕ → Out Str
-parameterName [] k = refused 13
-parameterName (p ∷ ps) zero = ok p
-parameterName (p ∷ ps) (suc k) = parameterName ps k
+parameterName params k = orRefused 13 (nth k params)
 
 unfoldable pub parameterString : Str → Leaf → Str → Out Str
 parameterString root (Reader lt) p = ok (ascii "<" ++ p ++ ascii " as " ++ root ++ ascii "::traits::Owned>::Reader<" ++ lifetime

@@ -4,13 +4,13 @@ use mathlib.Core.Bool.{Bool, true, false}
 use mathlib.Core.List.{[], _∷_}
 use Prim.Native.Nat.{ℕ, _+_, _-_, _*_, _/_, _^_, _≤_, _<_}
 use native.Mathlib.Omega.{arith}
-use native.Mathlib.Nat.{add-sub-cancel-left, pow-suc, pow-le-pow-right}
+use native.Mathlib.Nat.{add-zero, add-sub-cancel-left, pow-suc, pow-le-pow-right}
 use native.Mathlib.Numerals.{add-one}
 use lib.ListN.{length, getD, take, drop, drop-of-length-le, length-drop, List·getD-eq-default}
-use lib.Seq.{drop-cons, take-all}
-use lib.Dec.{ltb}
-use borrow.Author.Tests.{eq-eqb, ne-eqb, lt-ltb, le-ltb, ltb-false, le-leb, lt-leb}
-use Rattle.text.specs.Bytes.{Str, cond, either}
+use lib.Seq.{drop-cons, getD-drop, take-all}
+use lib.Dec.{eqb, leb, ltb}
+use borrow.Author.Tests.{eq-eqb, ne-eqb, lt-ltb, le-ltb, ltb-false, le-leb, lt-leb, leb-true}
+use Rattle.text.specs.Bytes.{Str, cond, both, either}
 use Rattle.column.specs.Number.{trimmed, four, fourBytes, digits, unpadded, within, columnOf}
 use Rattle.column.specs.Texts.{between, isDigit, isWord, isGraphic, all, sized, isName, isGraphicText, endsIn}
 use Rattle.column.specs.declared.Number.{Number}
@@ -203,64 +203,75 @@ module _ (t : Str) (a : ℕ) where
   unfolding endsIn
   ends-not ok e = rw (ne-eqb (getD t a 0) 32 e)
 
-  ends-text : (ok : Str → Bool) → getD t a 0 ≡ 32 → endsIn ok t a ≡ ok (drop (a + 1) t)
+  -- a text of 1 to so many bytes: after its space, the length decides
+  sized-by : (most : ℕ) → getD t a 0 ≡ 32 → endsIn (sized most) t a ≡ between 1 most (length t - (a + 1))
   unfolding endsIn
-  ends-text ok e = rw (eq-eqb (getD t a 0) 32 e)
+  sized-by most e = rw (eq-eqb (getD t a 0) 32 e, length-drop (a + 1) t)
 
-  none-sized : (most : ℕ) → length t ≡ a + 1 → sized most (drop (a + 1) t) ≡ false
-  none-sized most e = between-below 1 most (length (drop (a + 1) t)) (rw (length-drop (a + 1) t) (omega arith))
+  pub sized-none : (most : ℕ) → getD t a 0 ≡ 32 → length t - (a + 1) ≡ 0 → endsIn (sized most) t a ≡ false
+  sized-none most e h = sized-by most e ∙ between-below 1 most (length t - (a + 1)) (omega arith)
 
-  over-sized : (most : ℕ) → a + 1 < length t → most < length t - (a + 1) → sized most (drop (a + 1) t) ≡ false
-  over-sized most l h =
-      let n = length-drop (a + 1) t in
-      between-above 1 most (length (drop (a + 1) t)) (omega arith) (omega arith)
+  pub sized-is :
+      (most : ℕ) → getD t a 0 ≡ 32 → (length t - (a + 1) ≡ 0 → ⊥)
+      → endsIn (sized most) t a ≡ leb (length t - (a + 1)) most
+  sized-is most e h = sized-by most e ∙ rw (le-leb 1 (length t - (a + 1)) (omega arith))
 
-  well-sized : (most : ℕ) → a + 1 < length t → length t - (a + 1) ≤ most → sized most (drop (a + 1) t) ≡ true
-  well-sized most l h =
-      let n = length-drop (a + 1) t in
-      between-in 1 most (length (drop (a + 1) t)) (omega arith) (omega arith)
+  -- a text of 1 byte or more lies in the line
+  pub sized-inside : (most : ℕ) → endsIn (sized most) t a ≡ true → a + 1 < length t
+  unfolding endsIn
+  sized-inside most e = go (eqb (getD t a 0) 32) (leb 1 (length (drop (a + 1) t))) refl e
+    where
+      go :
+          (p q : Bool) → leb 1 (length (drop (a + 1) t)) ≡ q
+          → cond p (both q (leb (length (drop (a + 1) t)) most)) false ≡ true → a + 1 < length t
+      go true true k e = let n = length-drop (a + 1) t in let l = leb-true 1 (length (drop (a + 1) t)) k in omega arith
+      go true false k e = let z : _≡_ {A = ℕ} 0 1 = cc in omega arith
+      go false q k e = let z : _≡_ {A = ℕ} 0 1 = cc in omega arith
 
-  first-is : a + 1 < length t → getD (drop (a + 1) t) 0 0 ≡ getD t (a + 1) 0
-  first-is l = rw (drop-cons t (a + 1) 0 l)
+  -- a test of the length, and then another
+  ends-both :
+      (most : ℕ) (more : Bool)
+      → cond (eqb (getD t a 0) 32) (cond (sized most (drop (a + 1) t)) more false) false
+      ≡ cond (endsIn (sized most) t a) more false
+  unfolding endsIn
+  ends-both most more = go (eqb (getD t a 0) 32) (sized most (drop (a + 1) t))
+    where
+      go : (p q : Bool) → cond p (cond q more false) false ≡ cond (cond p q false) more false
+      go true q = refl
+      go false q = refl
 
-  name-not : getD t a 0 ≡ 32 → sized 64 (drop (a + 1) t) ≡ false → endsIn isName t a ≡ false
-  unfolding isName
-  name-not s e = ends-text isName s ∙ rw e
+  -- a name, and a graphic text, by the test of the length
+  name-by :
+      endsIn isName t a
+      ≡ cond (endsIn (sized 64) t a) (cond (isDigit (getD t (a + 1) 0)) false (all isWord (drop (a + 1) t))) false
+  unfolding endsIn isName
+  name-by =
+      ends-both 64 (cond (isDigit (getD (drop (a + 1) t) 0 0)) false (all isWord (drop (a + 1) t)))
+      ∙ rw (getD-drop (a + 1) t 0 0, add-zero (a + 1))
 
-  pub name-none : getD t a 0 ≡ 32 → length t ≡ a + 1 → endsIn isName t a ≡ false
-  name-none s h = name-not s (none-sized 64 h)
+  pub name-not : endsIn (sized 64) t a ≡ false → endsIn isName t a ≡ false
+  name-not e = name-by ∙ rw e
 
-  pub name-over : getD t a 0 ≡ 32 → a + 1 < length t → 64 < length t - (a + 1) → endsIn isName t a ≡ false
-  name-over s l h = name-not s (over-sized 64 l h)
-
-  pub name-digit :
-      getD t a 0 ≡ 32 → a + 1 < length t → length t - (a + 1) ≤ 64 → isDigit (getD t (a + 1) 0) ≡ true
-      → endsIn isName t a ≡ false
-  unfolding isName
-  name-digit s l h e = ends-text isName s ∙ rw (well-sized 64 l h, first-is l, e)
+  pub name-digit : endsIn (sized 64) t a ≡ true → isDigit (getD t (a + 1) 0) ≡ true → endsIn isName t a ≡ false
+  name-digit e d = name-by ∙ rw (e, d)
 
   pub name-is :
-      getD t a 0 ≡ 32 → a + 1 < length t → length t - (a + 1) ≤ 64 → isDigit (getD t (a + 1) 0) ≡ false
+      endsIn (sized 64) t a ≡ true → isDigit (getD t (a + 1) 0) ≡ false
       → endsIn isName t a ≡ all isWord (take (length t - (a + 1)) (drop (a + 1) t))
-  unfolding isName
-  name-is s l h e = ends-text isName s ∙ rw (well-sized 64 l h, first-is l, e, rest-is t (a + 1))
+  name-is e d = name-by ∙ rw (e, d, rest-is t (a + 1))
 
-  graphic-not : (most : ℕ) → getD t a 0 ≡ 32 → sized most (drop (a + 1) t) ≡ false → endsIn (isGraphicText most) t a ≡ false
-  unfolding isGraphicText
-  graphic-not most s e = ends-text (isGraphicText most) s ∙ rw e
+  graphic-by :
+      (most : ℕ) → endsIn (isGraphicText most) t a ≡ cond (endsIn (sized most) t a) (all isGraphic (drop (a + 1) t)) false
+  unfolding endsIn isGraphicText
+  graphic-by most = ends-both most (all isGraphic (drop (a + 1) t))
 
-  pub graphic-none : (most : ℕ) → getD t a 0 ≡ 32 → length t ≡ a + 1 → endsIn (isGraphicText most) t a ≡ false
-  graphic-none most s h = graphic-not most s (none-sized most h)
-
-  pub graphic-over :
-      (most : ℕ) → getD t a 0 ≡ 32 → a + 1 < length t → most < length t - (a + 1) → endsIn (isGraphicText most) t a ≡ false
-  graphic-over most s l h = graphic-not most s (over-sized most l h)
+  pub graphic-not : (most : ℕ) → endsIn (sized most) t a ≡ false → endsIn (isGraphicText most) t a ≡ false
+  graphic-not most e = graphic-by most ∙ rw e
 
   pub graphic-is :
-      (most : ℕ) → getD t a 0 ≡ 32 → a + 1 < length t → length t - (a + 1) ≤ most
+      (most : ℕ) → endsIn (sized most) t a ≡ true
       → endsIn (isGraphicText most) t a ≡ all isGraphic (take (length t - (a + 1)) (drop (a + 1) t))
-  unfolding isGraphicText
-  graphic-is most s l h = ends-text (isGraphicText most) s ∙ rw (well-sized most l h, rest-is t (a + 1))
+  graphic-is most e = graphic-by most ∙ rw (e, rest-is t (a + 1))
 
 -- each byte of a name, and of a graphic text
 pub name-all : (t : Str) → isName t ≡ true → all isWord t ≡ true

@@ -3,7 +3,7 @@ ghost use mathlib.Core.Path.{_≡_};
 ghost use Prim.Native.Nat.{_≤_, _<_};
 ghost use lib.ListN.{length, drop};
 ghost use Rattle.column.specs.Number.{trimmed, fourBytes, digits, unpadded, columnOf};
-ghost use Rattle.column.specs.Texts.{isDigit, isWord, isGraphic, all, isName, isGraphicText, endsIn};
+ghost use Rattle.column.specs.Texts.{isDigit, isWord, isGraphic, all, sized, isName, isGraphicText, endsIn};
 
 // What stands in a number's columns: the number, where it is one and lies in its bounds.
 pub enum Number {
@@ -212,9 +212,9 @@ fn all_graphic(t: &[u8]) -> bool
     true
 }
 
-// Whether the line ends in a space at `a` and a name.
-pub fn ends_in_name(t: &[u8], a: usize) -> bool
-    ensures { λ r. ⌜ r ≡ endsIn isName (now (t .entry)) a ⌝ }
+// Whether the line ends in a space at `a` and 1 to `most` bytes.
+fn ends_in_text(t: &[u8], a: usize, most: usize) -> bool
+    ensures { λ r. ⌜ r ≡ endsIn (sized most) (now (t .entry)) a ⌝ }
 {
     if t.len() <= a {
         return false;
@@ -222,13 +222,21 @@ pub fn ends_in_name(t: &[u8], a: usize) -> bool
     if t[a] != b' ' {
         return false;
     }
+    let size = t.len() - (a + 1);
+    if size == 0 {
+        return false;
+    }
+    size <= most
+}
+
+// Whether the line ends in a space at `a` and a name.
+pub fn ends_in_name(t: &[u8], a: usize) -> bool
+    ensures { λ r. ⌜ r ≡ endsIn isName (now (t .entry)) a ⌝ }
+{
+    if !ends_in_text(t, a, 64) {
+        return false;
+    }
     let b = a + 1;
-    if t.len() == b {
-        return false;
-    }
-    if 64 < t.len() - b {
-        return false;
-    }
     if is_digit(t[b]) {
         return false;
     }
@@ -239,18 +247,8 @@ pub fn ends_in_name(t: &[u8], a: usize) -> bool
 pub fn ends_in_graphic(t: &[u8], a: usize, most: usize) -> bool
     ensures { λ r. ⌜ r ≡ endsIn (isGraphicText most) (now (t .entry)) a ⌝ }
 {
-    if t.len() <= a {
+    if !ends_in_text(t, a, most) {
         return false;
     }
-    if t[a] != b' ' {
-        return false;
-    }
-    let b = a + 1;
-    if t.len() == b {
-        return false;
-    }
-    if most < t.len() - b {
-        return false;
-    }
-    all_graphic(&t[b..])
+    all_graphic(&t[a + 1..])
 }

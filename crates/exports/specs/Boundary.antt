@@ -15,10 +15,11 @@ use Rattle.text.specs.Answer as text
 use Rattle.row.specs.Rows.{rows}
 use Rattle.row.specs.Line as line
 use Rattle.tree.specs.Tree as tree
-use Rattle.tree.specs.Tree.{Arm, slot, group, Node}
-use Rattle.tree.specs.Read.{Admitted, sheet, refused}
+use Rattle.tree.specs.Tree.{Arm, slot, group, Node, Sheet}
+use Rattle.tree.specs.Read.{Admitted, sheet, refused, admitted}
 use Rattle.tree.specs.Fields.{FieldsHere}
 use Rattle.nodes.specs.Index.{nth, Indexed, ForAll}
+use Rattle.sheet.specs.Admission.{IndexOf}
 use Rattle.codegen_types.specs.Out.{Out, ok, _then_}
 use Rattle.field.specs.Field.{FindsField}
 use Rattle.field.specs.Numbers.{fieldSize, fieldIn}
@@ -123,6 +124,15 @@ pub record Asked (l : Str) (fill : ℕ) (reply : Str → ℕ → Reply) (l′ : 
 -- whatever nodes of s the index has: so it is for the sheet with these nodes
 abbrev pub OverIndex : Str → List ℕ → (Admitted → Type 0) → Type 0
 OverIndex s index P = ForAll (line.textAt (rows s)) s index (λ sh. P (sheet sh))
+
+-- over the index that `kitlubas_index` fills for an admitted sheet, what `kitlubas_answer_in` promises of a request is what
+-- `kitlubas_answer` promises
+abbrev pub SameAnswersHold : Type 0
+SameAnswersHold =
+    (s index : List ℕ) (sh : Sheet) → admitted s ≡ sheet sh → IndexOf s (admitted s) index
+    → (id : ℕ) (request : Request) (l : Str) (fill : ℕ) (l′ : Str) (fill′ number line : ℕ)
+    → OverIndex s index (λ a. Asked l fill (ask a id request) l′ fill′ number line)
+    → Asked l fill (ask (admitted s) id request) l′ fill′ number line
 
 -- a pass by its number and the length that it tells
 abbrev pub numberPass : Pass → ℕ

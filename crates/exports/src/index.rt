@@ -17,7 +17,7 @@ ghost use Rattle.tree.specs.Read.{admitted};
 ghost use Rattle.nodes.specs.Index.{indexSize};
 ghost use Rattle.sheet.specs.Admission.{IndexOf};
 ghost use Rattle.exports.specs.Boundary.{Told, Asked, ask, accessorNumbered, requestOf};
-ghost use Rattle.exports.specs.Boundary.{OverIndex, TextTold, NodeTold, FirstTold, FirstPut};
+ghost use Rattle.exports.specs.Boundary.{SameAnswersHold, OverIndex, TextTold, NodeTold, FirstTold, FirstPut};
 
 // What stands for the kind of a group.
 const GROUP: u64 = 19;
@@ -187,3 +187,8 @@ pub extern "C" fn kitlubas_field(
         }
     }
 }
+
+// Makes it a promise of this crate that a request over the index of an admitted sheet is answered as from its bytes.
+pub fn claims()
+    ensures { λ r. ⌜ SameAnswersHold ⌝ }
+{}

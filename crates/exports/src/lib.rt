@@ -4,6 +4,7 @@
 // not written. What is not taken writes nothing and answers 18446744073709551615, the largest count.
 mod index;
 
+pub use index::claims;
 pub use index::kitlubas_answer_in;
 pub use index::kitlubas_field;
 pub use index::kitlubas_index;

@@ -9,7 +9,7 @@ use borrow.Author.Tests.{eq-eqb, ne-eqb, lt-ltb, le-ltb}
 use lib.ListN.{length, getD, length-drop}
 use lib.Seq.{sets, sets-eq}
 use Rattle.tree.proofs.OtherLines.{never}
-use Rattle.field.specs.Numbers.{numbersOf, begun, withField, slotIn, groupIn, fieldIn}
+use Rattle.field.specs.Numbers.{fieldNumbers, begun, withField, slotIn, groupIn, fieldIn}
 use Rattle.field.specs.declared.Field.{Field}
 use Rattle.field.specs.declared.Field.the-variants as field
 
@@ -24,7 +24,7 @@ module _ (l : List ℕ) (f : Field) where
   unfolding withField
   put-none h = rw (lt-ltb (length l) 14 h)
 
-  pub put-some : 14 ≤ length l → begun (numbersOf f) l ≡ withField l f
+  pub put-some : 14 ≤ length l → begun (fieldNumbers f) l ≡ withField l f
   unfolding withField
   put-some h = rw (le-ltb (length l) 14 h)
 
@@ -53,13 +53,13 @@ module _ (l : List ℕ) where
 pub field-put : (l : List ℕ) (f : Field) → 14 ≤ length l → fieldIn (withField l f) ≡ f
 field-put l f h = rw (← put-some l f h) (go f)
   where
-    room : (f : Field) → 14 ≤ length (begun (numbersOf f) l)
+    room : (f : Field) → 14 ≤ length (begun (fieldNumbers f) l)
     room (field.Slot r) = omega arith
     room (field.Group g) = omega (arith, length-drop 5 l)
     room field.Nothing = omega (arith, length-drop 1 l)
 
-    go : (f : Field) → fieldIn (begun (numbersOf f) l) ≡ f
-    go (field.Slot r) = sym (get-slot (begun (numbersOf (field.Slot r)) l) (room (field.Slot r)) refl)
-    go (field.Group g) = sym (get-group (begun (numbersOf (field.Group g)) l) (room (field.Group g)) refl)
+    go : (f : Field) → fieldIn (begun (fieldNumbers f) l) ≡ f
+    go (field.Slot r) = sym (get-slot (begun (fieldNumbers (field.Slot r)) l) (room (field.Slot r)) refl)
+    go (field.Group g) = sym (get-group (begun (fieldNumbers (field.Group g)) l) (room (field.Group g)) refl)
     go field.Nothing =
-        sym (get-nothing (begun (numbersOf field.Nothing) l) (room field.Nothing) (λ z. never cc) (λ z. never cc))
+        sym (get-nothing (begun (fieldNumbers field.Nothing) l) (room field.Nothing) (λ z. never cc) (λ z. never cc))

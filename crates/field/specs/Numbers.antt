@@ -23,10 +23,10 @@ slotNumbers r =
 abbrev pub groupNumbers : Group → List ℕ
 groupNumbers g = 2 ∷ g .id ∷ g .discriminant ∷ g .at ∷ g .next ∷ []
 
-abbrev pub numbersOf : Field → List ℕ
-numbersOf (field.Slot r) = slotNumbers r
-numbersOf (field.Group g) = groupNumbers g
-numbersOf field.Nothing = 0 ∷ []
+abbrev pub fieldNumbers : Field → List ℕ
+fieldNumbers (field.Slot r) = slotNumbers r
+fieldNumbers (field.Group g) = groupNumbers g
+fieldNumbers field.Nothing = 0 ∷ []
 
 -- the numbers that were lent, with others in place of the first
 abbrev pub begun : List ℕ → List ℕ → List ℕ
@@ -34,7 +34,7 @@ begun ns l = ns ++ drop (length ns) l
 
 -- with a field's, if there is room for any field
 unfoldable pub withField : List ℕ → Field → List ℕ
-withField l f = cond (ltb (length l) fieldSize) l (begun (numbersOf f) l)
+withField l f = cond (ltb (length l) fieldSize) l (begun (fieldNumbers f) l)
 
 -- the slot and the group whose numbers these are
 abbrev pub slotIn : List ℕ → Slot

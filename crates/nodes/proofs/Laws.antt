@@ -1,18 +1,20 @@
--- Laws of what is found in an index: one turn of the search for an id, and that what is found for the id or the number of a node
+-- Laws of what is found in an index: one turn of a search for an id, and that what is found for the id or the number of a node
 -- is that node's entry. By induction on the nodes. Assumes nothing.
 use mathlib.Core.Path.{_≡_, refl, ap, _∙_}
 use mathlib.Core.Bool.{Bool, true, false}
 use mathlib.Core.List.{List, [], _∷_}
 use mathlib.Core.Option.{some}
 use Prim.Native.Nat.{ℕ, zero, suc, _+_, _-_, _*_, _/_, _%_, _<_, _≤_}
-use native.Mathlib.Numerals.{sub-one}
+use native.Mathlib.Numerals.{add-one, sub-one}
 use native.Mathlib.Decide.{decLt}
 use native.Mathlib.Omega.{arith}
 use borrow.Author.Tests.{eq-eqb, ne-eqb, lt-ltb, le-ltb}
 use lib.Dec.{eqb, ltb}
-use lib.ListN.{length, drop, getD}
+use lib.ListN.{length, drop, getD, drop-of-length-le}
+use lib.Seq.{drop-cons}
 use Rattle.text.specs.Bytes.{Str, cond}
 use Rattle.row.specs.Rows.{rows}
+use Rattle.tree.specs.Read.{among}
 use Rattle.tree.specs.Tree.{Node}
 use Rattle.tree.proofs.OtherLines.{never}
 use Rattle.nodes.specs.Index.{entryAt, byId, nth, lookupFrom, lookup, entryWith, EntryIs, Entries, Indexed, Finds}
@@ -24,6 +26,20 @@ use Rattle.nodes.specs.declared.Position.the-variants as position
 use Rattle.nodes.proofs.NameLaws.{names-out, name-after, name-past}
 
 -- ---- the search for an id
+
+-- among ids
+pub among-out : (id : ℕ) (ids : List ℕ) (i : ℕ) → length ids ≤ i → among id (drop i ids) ≡ false
+unfolding among
+among-out id ids i h = rw (drop-of-length-le ids h)
+
+pub among-hit : (id : ℕ) (ids : List ℕ) (i : ℕ) → i < length ids → getD ids i 0 ≡ id → among id (drop i ids) ≡ true
+unfolding among
+among-hit id ids i h e = rw (drop-cons ids i 0 h, eq-eqb _ _ e)
+
+pub among-miss : (id : ℕ) (ids : List ℕ) (i : ℕ) → i < length ids → (getD ids i 0 ≡ id → ⊥)
+    → among id (drop i ids) ≡ among id (drop (i + 1) ids)
+unfolding among
+among-miss id ids i h e = rw (drop-cons ids i 0 h, ne-eqb _ _ e, add-one)
 
 pub lookup-empty : (index : List ℕ) (id : ℕ) → length index ≡ 0 → Nothing ≡ lookup index id
 unfolding lookupFrom

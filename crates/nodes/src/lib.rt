@@ -5,6 +5,7 @@ ghost use mathlib.Core.List.{List};
 ghost use Prim.Native.Nat.{ℕ, _+_, _≤_, _<_};
 ghost use lib.ListN.{length, drop, set};
 ghost use Rattle.row.specs.Rows.{rows};
+ghost use Rattle.tree.specs.Read.{among};
 ghost use Rattle.tree.specs.Tree.{Node};
 ghost use Rattle.nodes.specs.Index.{firstMark, indexSize, entryAt, withEntry, lookup, entryWith, rowsAfter};
 ghost use Rattle.nodes.specs.Index.{EntryIs, NameAt};
@@ -82,6 +83,20 @@ fn entry_at(index: &[u64], place: usize) -> Entry
         marks: index[place + 10] as usize,
         fields: index[place + 11] as usize,
     }
+}
+
+// Whether an id is one of these.
+pub fn among(ids: &[u64], id: u64) -> bool
+    ensures { λ r. ⌜ r ≡ among id (now (ids .entry)) ⌝ }
+{
+    let mut i = 0;
+    while i < ids.len() {
+        if ids[i] == id {
+            return true;
+        }
+        i += 1;
+    }
+    false
 }
 
 // Puts a number at a place of the index, if it has such a place.

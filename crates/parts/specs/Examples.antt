@@ -13,10 +13,11 @@ use Rattle.column.specs.Texts.{isWord, isGraphic, all, isName, isGraphicText, e
 use Rattle.row.specs.Rows.{rows, onto, restOf, newlines, size, lineNo, joined}
 use Rattle.row.specs.Line.{rootLine, nodeLine, fieldLine, typeLine, valueLine}
 use Rattle.row.specs.Line.{mostA, mostB, mostC, mostBits, reader, lineOf, lineAt, textStart, textOf, textAt}
-use Rattle.row.specs.Print.{columns, rowText, printRoot, printNode, printField, printType, printValue}
+use Rattle.row.specs.Print.{columns, rowText}
 use Rattle.tree.specs.Read.{admitted, readSheet, readNodes, readNode, readMembers, readParams, groupIds, readFields, fieldsUpTo}
 use Rattle.tree.specs.Read.{readField}
 use Rattle.tree.specs.Read.{overlap, among, readSlot, readWords, valueOf, readType, typeFrom}
+use Rattle.tree.specs.Worked.{free}
 use Rattle.codegen_types.specs.TypeString.{typeString}
 use Rattle.calls.specs.Calls.{getBoolField, setBoolField}
 use Rattle.codegen.specs.Default.{primDefault, getterMask}
@@ -28,9 +29,7 @@ use Rattle.parts.specs.Program.{headerText, refusedText, partText, print
 use Rattle.parts.specs.Program.{refusedSheetText, programText}
 
 abbrev isFree : Str
-isFree = joined (
-    printRoot (ascii "::capnp") ∷ printNode 7 0 0 1 0 0 0 (ascii "bed") ∷ printField 3 65535 1 0 (ascii "isFree")
-    ∷ printType 1 0 0 0 ∷ printValue 1 1 ∷ [])
+isFree = joined free
 
 -- lines of a text
 abbrev linesOf : List String → List Str

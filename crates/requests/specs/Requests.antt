@@ -10,7 +10,7 @@ use Rattle.text.specs.Answer as text
 use Rattle.tree.specs.Tree.{Arm, slot, group, Field, Node, Sheet}
 use Rattle.tree.specs.Read as read
 use Rattle.tree.specs.Read.{Admitted}
-use Rattle.codegen_types.specs.Out.{Out, ok, refused, _then_}
+use Rattle.codegen_types.specs.Out.{Out, ok, refused, orRefused, _then_}
 use Rattle.codegen_types.specs.TypeString.{typeString}
 use Rattle.codegen_types.specs.declared.Leaf.{Leaf}
 use Rattle.codegen_types.specs.declared.Leaf.the-variants.{Reader, Builder, Owned, Client, Server, ServerDispatch, Pipeline}
@@ -30,8 +30,7 @@ use Rattle.requests.specs.declared.LeafNumber.the-variants as number
 
 -- what may be missing is there, or is 15
 abbrev pub there : {A : Type 0} → Option A → Out A
-there none = refused 15
-there (some a) = ok a
+there = orRefused 15
 
 -- the leaves by their numbers
 abbrev pub leafNumbers : List Leaf

@@ -2,12 +2,11 @@
 use mathlib.Core.Path.{_≡_, refl, sym, ap, _∙_}
 use mathlib.Core.Bool.{Bool, true, false}
 use mathlib.Core.List.{List, [], _∷_, _++_, append-nil, append-assoc}
-use Prim.Native.Nat.{ℕ, _+_, _≤_, _<_}
+use Prim.Native.Nat.{ℕ, _+_, _-_, _≤_, _<_}
 use native.Mathlib.Omega.{arith}
 use native.Mathlib.Numerals.{add-one}
-use borrow.Author.Tests.{eq-eqb, ne-eqb}
-use lib.ListN.{length, getD, take, drop, set, drop-of-length-le, take-append-drop}
-use lib.Seq.{drop-cons, drop-append-le, getD-take, length-take-le, take-take, take-suc-set}
+use lib.ListN.{length, take, drop, set}
+use lib.Seq.{drop-drop, take-add, take-suc-set}
 use types.Run.{OneOf}
 use denote.Enum.Declared.{tagOf}
 use Rattle.text.specs.Bytes.{unit, either}
@@ -28,40 +27,17 @@ use Rattle.sheet.proofs.RoomLaws.{group-room}
 use Rattle.sheet.specs.Admission.{groupsAfter}
 use Rattle.row.specs.declared.Line.the-variants as line
 
--- the search among the first ids
-module _ (ids : List ℕ) (count id : ℕ) (fits : count ≤ length ids) where
-  cut : length (take count ids) ≡ count
-  cut = length-take-le count ids fits
-
-  pub seen-hit : (i : ℕ) → i < count → getD ids i 0 ≡ id → among id (drop i (take count ids)) ≡ true
-  unfolding among
-  seen-hit i h e =
-      let g : getD (take count ids) i 0 ≡ id = getD-take count ids i 0 h ∙ e in
-      rw (drop-cons (take count ids) i 0 (omega (arith, cut)), eq-eqb (getD (take count ids) i 0) id g)
-
-  pub seen-miss :
-      (i : ℕ) → i < count → (getD ids i 0 ≡ id → ⊥) → among id (drop i (take count ids)) ≡ among id
-      (drop (i + 1) (take count ids))
-  unfolding among
-  seen-miss i h e =
-      let g : getD (take count ids) i 0 ≡ id → ⊥ = λ z. e (sym (getD-take count ids i 0 h) ∙ z) in
-      rw (add-one, drop-cons (take count ids) i 0 (omega (arith, cut)), ne-eqb (getD (take count ids) i 0) id g)
-
-  pub seen-none : (i : ℕ) → count ≤ i → among id (drop i (take count ids)) ≡ false
-  unfolding among
-  seen-none i h = rw (drop-of-length-le (take count ids) {i = i} (omega (arith, cut)))
-
-  -- those up to a place j, where b says whether it is found, and those from there on
-  pub seen-parts :
-      (i j : ℕ) → i ≤ j → j ≤ count → (b : Bool) → b ≡ among id (drop i (take j ids))
-      → among id (drop i (take count ids)) ≡ either b (among id (drop j (take count ids)))
-  seen-parts i j h g b e =
-      let joined : take j ids ++ drop j (take count ids) ≡ take count ids = rw (← take-take j count ids g)
-      (take-append-drop j (take count ids)) in
-      let first : length (take j ids) ≡ j = length-take-le j ids (omega arith) in
-      ap (λ (x : List ℕ). among id (drop i x)) (sym joined)
-      ∙ ap (among id) (drop-append-le i (take j ids) (drop j (take count ids)) (omega arith))
-      ∙ rw (among-append id (drop i (take j ids)) (drop j (take count ids)), e)
+-- the search among the first ids: those from i up to a place j, where b says whether it is found, and those from there on
+pub seen-parts :
+    (ids : List ℕ) (count id i j : ℕ) → i ≤ j → j ≤ count → (b : Bool) → b ≡ among id (take (j - i) (drop i ids))
+    → among id (take (count - i) (drop i ids)) ≡ either b (among id (take (count - j) (drop j ids)))
+seen-parts ids count id i j h g b e =
+    let sum : count - i ≡ (j - i) + (count - j) = omega arith in
+    let there : i + (j - i) ≡ j = omega arith in
+    let rest : drop (j - i) (drop i ids) ≡ drop j ids = rw there at (drop-drop (j - i) i ids) in
+    let cut : take (count - i) (drop i ids) ≡ take (j - i) (drop i ids) ++ take (count - j) (drop j ids) =
+    rw sum (rw rest at (take-add (j - i) (count - j) (drop i ids))) in
+    ap (among id) cut ∙ rw (among-append id (take (j - i) (drop i ids)) (take (count - j) (drop j ids)), e)
 
 -- an id put after the first n
 pub pushed : (l : List ℕ) (n i : ℕ) → n < length l → take (n + 1) (set l n i) ≡ take n l ++ unit i

@@ -55,21 +55,6 @@ struct NodeRun {
     marks: usize,
 }
 
-// Whether an id is one of those from a place on, up to another.
-fn seen_between(ids: &[u64], from: usize, to: usize, id: u64) -> bool
-    requires { ⌜ to ≤ length (now ids) ⌝ }
-    ensures { λ r. ⌜ r ≡ among id (drop from (take to (now (ids .entry)))) ⌝ }
-{
-    let mut i = from;
-    while i < to {
-        if ids[i] == id {
-            return true;
-        }
-        i += 1;
-    }
-    false
-}
-
 // Whether an id is one of the first `count`. They are searched 32 at a time, which the compiler writes out without a loop.
 fn seen(ids: &[u64], count: usize, id: u64) -> bool
     requires { ⌜ count ≤ length (now ids) ⌝ }
@@ -78,12 +63,12 @@ fn seen(ids: &[u64], count: usize, id: u64) -> bool
     let whole = count - count % 32;
     let mut i = 0;
     while i < whole {
-        if seen_between(ids, i, i + 32, id) {
+        if nodes::among(&ids[i..i + 32], id) {
             return true;
         }
         i += 32;
     }
-    seen_between(ids, i, count, id)
+    nodes::among(&ids[i..count], id)
 }
 
 // Whether a group id is one of the first `count`. Where its flag is 0 it is none of them, and no search is made.

@@ -12,8 +12,7 @@ use Rattle.row.specs.Rows.{rows, joined, onto, restOf, newlines, size, lineNo}
 use Rattle.row.specs.Line.{rootLine, nodeLine, parameterLine, fieldLine, groupLine}
 use Rattle.row.specs.Line.{typeLine, scopeLine, unboundLine, valueLine, wordLine}
 use Rattle.row.specs.Line.{mostA, mostB, mostC, mostCount, mostBits, reader, lineOf, lineAt, textStart, textOf, textAt}
-use Rattle.row.specs.Print.{columns, rowText, printRoot, printNode, printParameter, printField}
-use Rattle.row.specs.Print.{printType, printScope, printUnbound, printValue, printWord}
+use Rattle.row.specs.Print.{columns, rowText, printParameter, printType, printScope, printUnbound, printWord}
 use Rattle.tree.specs.Tree.{Ty, plain, list, enum, struct, interface, anyPointer, parameter}
 use Rattle.tree.specs.Tree.{end, inherit, bind, Binds, stop, unbound, bound}
 use Rattle.tree.specs.Tree.{Slot, slot, group, Field, Node, Sheet}
@@ -24,60 +23,28 @@ use Rattle.tree.specs.Read.{among, overlap, readField, fieldsUpTo, readF
 use Rattle.tree.specs.Read.{readNodes, readSheet}
 use Rattle.tree.specs.Print.{scopeCount, bindCount, typeRows, wordRows, fieldRows, paramRows, nodeRows, sheetRows}
 use Rattle.tree.specs.Print.{printed}
+use Rattle.tree.specs.Worked.{slotOf, namedField, loneSlot, node, workedSheet, bed, free}
 use Rattle.tree.specs.WellFormed.{every, distinct, typeFits, nodeIds, allGroupIds, wellFormed}
 
--- R ::capnp, N 7 0 0 1 0 0 0 bed
-bed : Rows
-bed = printRoot (ascii "::capnp") ∷ printNode 7 0 0 1 0 0 0 (ascii "bed") ∷ []
-
--- document 01's example
-free : Rows
-free = bed ++ (printField 3 65535 1 0 (ascii "isFree") ∷ printType 1 0 0 0 ∷ printValue 1 1 ∷ [])
-
--- its slot with other rows for the type
+-- the rows of document 01's example, with others for its slot's type
 freeAs : Rows → Rows
 freeAs ts = take 3 free ++ ts ++ drop 4 free
 
-node : ℕ → List Field → Node
-node i fs = record {
-  id = i;
-  parent = 0;
-  scope = 0;
-  isStruct = 1;
-  generic = 0;
-  tagCount = 0;
-  tagOffset = 0;
-  theMod = ascii "bed";
-  params = [];
-  fields = fs;
-}
+-- a struct of module bed, by its id and its fields
+bedWith : ℕ → List Field → Node
+bedWith i fs = node i "bed" 0 0 fs
 
-tree : List Node → Sheet
-tree ns = record { root = ascii "::capnp"; nodes = ns }
-
-field : Str → Slot → Field
-field name s = record { name = name; discriminant = 65535; arm = slot s }
-
+-- document 01's example as a tree
 freeTree : Sheet
-freeTree = tree (node 7 (field (ascii "isFree") (record {
-  offset = 3;
-  explicit = 1;
-  option = 0;
-  ty = plain 1;
-  default = record { kind = 1; bits = 1 };
-  words = [];
-}) ∷ []) ∷ [])
+freeTree = workedSheet (bedWith 7 (loneSlot "isFree" (plain 1) 3 1 1 ∷ []) ∷ [])
 
--- one slot of a type
+-- a sheet of one slot
+oneSlot : Slot → Sheet
+oneSlot s = workedSheet (bedWith 7 (namedField "f" 65535 (slot s) ∷ []) ∷ [])
+
+-- one slot of a type, with a default of kind 0
 typed : Ty → Sheet
-typed t = tree (node 7 (field (ascii "f") (record {
-  offset = 0;
-  explicit = 0;
-  option = 0;
-  ty = t;
-  default = record { kind = 0; bits = 0 };
-  words = [];
-}) ∷ []) ∷ [])
+typed t = oneSlot (slotOf t 0 0 0 0 [])
 
 -- lists in lists, so many levels, around a type
 lists : ℕ → Ty → Ty
@@ -90,27 +57,21 @@ bed7 bs = struct 7 (bind 7 bs end)
 
 -- one slot of Text with an explicit default of so many words
 worded : ℕ → Sheet
-worded n = tree (node 7 (field (ascii "f") (record {
-  offset = 0;
-  explicit = 1;
-  option = 0;
-  ty = plain 12;
-  default = record { kind = 12; bits = 0 };
-  words = replicate n 5;
-}) ∷ []) ∷ [])
+worded n = oneSlot (slotOf (plain 12) 0 1 12 0 (replicate n 5))
 
+-- groups with these ids
 groups : List ℕ → List Field
 groups [] = []
-groups (i ∷ is) = record { name = ascii "g"; discriminant = 0; arm = group i } ∷ groups is
+groups (i ∷ is) = namedField "g" 0 (group i) ∷ groups is
 
 -- nodes with ids from n down to 1
 down : ℕ → List Node
 down zero = []
-down (suc n) = node (suc n) [] ∷ down n
+down (suc n) = bedWith (suc n) [] ∷ down n
 
 -- parameters, brands, a parameter's type, words, a group and a second node
 rich : Sheet
-rich = tree (record {
+rich = workedSheet (record {
   id = 18446744073709551615;
   parent = 7;
   scope = 7;
@@ -121,24 +82,19 @@ rich = tree (record {
   theMod = ascii "map::entry";
   params = ascii "K" ∷ ascii "V" ∷ [];
   fields =
-      field (ascii "key") (record {
+      namedField "key" 65535 (slot (record {
         offset = 0;
         explicit = 1;
         option = 1;
         ty = parameter 18446744073709551615 65535;
         default = record { kind = 16; bits = 0 };
         words = 1 ∷ 18446744073709551615 ∷ [];
-      })
-      ∷ field (ascii "value") (record {
-        offset = 4294967295;
-        explicit = 0;
-        option = 0;
-        ty = list (interface 1 (inherit 1 (bind 2 (unbound (bound (enum 7 end) (bound anyPointer stop))) (bind 3 stop end))));
-        default = record { kind = 15; bits = 65535 };
-        words = [];
-      })
+      }))
+      ∷ namedField "value" 65535 (slot (slotOf
+      (list (interface 1 (inherit 1 (bind 2 (unbound (bound (enum 7 end) (bound anyPointer stop))) (bind 3 stop end)))))
+      4294967295 0 15 65535 []))
       ∷ groups (7 ∷ []);
-} ∷ node 7 [] ∷ [])
+} ∷ bedWith 7 [] ∷ [])
 
 -- a sheet, and what is admitted of it
 record Case : Type 0 where
@@ -161,8 +117,8 @@ table =
     when (joined free) (sheet freeTree)
     ∷ whole rich
     -- a node without fields; no node; empty; a last line without byte 10; no V line
-    ∷ when (joined bed) (sheet (tree (node 7 [] ∷ [])))
-    ∷ not (tree []) 2 2
+    ∷ when (joined bed) (sheet (workedSheet (bedWith 7 [] ∷ [])))
+    ∷ not (workedSheet []) 2 2
     ∷ when [] (refused 2 1)
     ∷ when (take (length (joined free) - 1) (joined free)) (refused 2 5)
     ∷ when (joined (take 4 free)) (refused 2 5)
@@ -186,14 +142,14 @@ table =
     ∷ not (worded 256) 2 261
     ∷ when (joined (free ++ (printWord 5 ∷ []))) (refused 2 6)
     -- an id on a second N, on a second G of one node, of another node; an N and a G with one id
-    ∷ not (tree (node 7 [] ∷ node 1 [] ∷ node 7 [] ∷ [])) 3 4
-    ∷ not (tree (node 7 (groups (1 ∷ 2 ∷ 1 ∷ [])) ∷ [])) 3 5
-    ∷ not (tree (node 7 (groups (1 ∷ [])) ∷ node 1 (groups (1 ∷ [])) ∷ [])) 3 5
-    ∷ whole (tree (node 7 (groups (7 ∷ [])) ∷ []))
+    ∷ not (workedSheet (bedWith 7 [] ∷ bedWith 1 [] ∷ bedWith 7 [] ∷ [])) 3 4
+    ∷ not (workedSheet (bedWith 7 (groups (1 ∷ 2 ∷ 1 ∷ [])) ∷ [])) 3 5
+    ∷ not (workedSheet (bedWith 7 (groups (1 ∷ [])) ∷ bedWith 1 (groups (1 ∷ [])) ∷ [])) 3 5
+    ∷ whole (workedSheet (bedWith 7 (groups (7 ∷ [])) ∷ []))
     -- 64 nodes and a 65th, also with an id that stands before
-    ∷ whole (tree (down 64))
-    ∷ not (tree (down 65)) 2 66
-    ∷ not (tree (down 64 ++ down 1)) 2 66
+    ∷ whole (workedSheet (down 64))
+    ∷ not (workedSheet (down 65)) 2 66
+    ∷ not (workedSheet (down 64 ++ down 1)) 2 66
     -- the sheet's length
     ∷ when (replicate 65536 10) (refused 2 1)
     ∷ when (replicate 65537 10) (refused 1 0)
@@ -209,7 +165,7 @@ expected (c ∷ cs) = c .answer ∷ expected cs
 
 -- what is admitted of each sheet is what the table says
 worked : answers table ≡ expected table
-unfolding answers expected table rich down groups worded bed7 lists typed freeTree field tree node freeAs free bed
+unfolding answers expected table rich down groups worded bed7 lists typed oneSlot freeTree bedWith freeAs
     joined printed sheetRows nodeRows paramRows fieldRows wordRows typeRows bindCount scopeCount rowText columns padded decimal
     admitted readSheet readNodes readNode readMembers readParams groupIds readFields fieldsUpTo readField overlap among
     readSlot readWords
@@ -222,6 +178,6 @@ worked = refl
 -- the two trees with most in them are well-formed
 fit : (wellFormed freeTree ≡ true) × (wellFormed rich ≡ true)
 unfolding wellFormed every distinct typeFits nodeIds allGroupIds groupIds among mostBits isGraphicText isName all isGraphic isWord
-    freeTree rich groups field tree node
+    freeTree rich groups bedWith
     joined printed sheetRows nodeRows paramRows fieldRows wordRows typeRows bindCount scopeCount rowText columns padded decimal
 fit = (refl, refl)

@@ -3,6 +3,7 @@ pub mod Reader
 pub mod Read
 pub mod Print
 pub mod WellFormed
+pub mod Worked
 pub mod Examples
 pub mod Walked
 pub mod Fields

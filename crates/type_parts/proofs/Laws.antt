@@ -25,12 +25,12 @@ use Rattle.codegen_types.specs.Leaf.{bareName, maybeColons, leafArguments}
 use Rattle.codegen_types.specs.declared.Leaf.{Leaf}
 use Rattle.codegen_types.specs.declared.Leaf.the-variants.{Reader, Builder, Owned, Client, Server, ServerDispatch, Pipeline}
 use Rattle.codegen_types.specs.declared.Leaf.the-variants.{GetType}
-use Rattle.codegen_types.specs.Out.{Out, ok, refused, _then_}
+use Rattle.codegen_types.specs.Out.{Out, ok, refused, orRefused, _then_}
 use Rattle.codegen_types.specs.declared.Refusal.the-variants.{None, Number}
 use Rattle.codegen_types.specs.Written.{Writes}
 use Rattle.codegen_types.specs.declared.Written.{Written}
 use Rattle.codegen_types.proofs.WrittenLaws.{ok-one, not-ok}
-use Rattle.codegen_types.proofs.NodeLaws.{node-missing, node-there, named, parameter-named}
+use Rattle.codegen_types.proofs.NodeLaws.{node-missing, node-there, parameter-named}
 use Rattle.nodes.specs.Index.{namesOf, nth, lookup, Indexed, EntryIs, NameAt}
 use Rattle.nodes.specs.declared.Entry.{Entry}
 use Rattle.nodes.specs.declared.Found.{Found}
@@ -90,7 +90,7 @@ module _ (s : Str) (sheet : Sheet) (index : List ℕ) (id : ℕ) (f : Found) (e 
     module _ (n : Entry) (h : f ≡ found.At n) (g : Position)
         (there : (m : Node) → EntryIs s index n m → NameAt s g k (m .params)) where
       by-name : (o : Option Str) → ((m : Node) → EntryIs s index n m → nth k (m .params) ≡ o)
-          → Q (named o then λ p. parameterString (sheet .root) leaf p) → Q (typeString (parameter id k) sheet leaf)
+          → Q (orRefused 13 o then λ p. parameterString (sheet .root) leaf p) → Q (typeString (parameter id k) sheet leaf)
       unfolding typeString
       by-name o is q = node-there s (sheet .nodes) index id f e x n h
           (λ o. Q (o then λ m. parameterName (m .params) k then λ p. parameterString (sheet .root) leaf p))

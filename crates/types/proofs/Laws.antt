@@ -6,12 +6,11 @@ use mathlib.Core.List.{List, [], _∷_, _++_}
 use mathlib.Core.Option.{Option, none, some}
 use Prim.Native.Nat.{ℕ, zero, suc, _+_, _-_, _*_, _<_, _≤_}
 use native.Mathlib.Nat.{add-zero, zero-add, suc-add}
-use native.Mathlib.Numerals.{add-one, sub-one, one-add}
+use native.Mathlib.Numerals.{sub-one, one-add}
 use native.Mathlib.Omega.{arith}
 use borrow.Author.Tests.{eq-eqb, ne-eqb}
 use lib.Dec.{eqb, ltb}
-use lib.ListN.{length, drop, getD, drop-of-length-le, length-drop}
-use lib.Seq.{drop-cons}
+use lib.ListN.{length, drop, length-drop}
 use package.types.Run.{OneOf, miss}
 use denote.Enum.Declared.{tagOf}
 use Rattle.row.proofs.Line.{the-type}
@@ -26,7 +25,7 @@ use Rattle.tree.specs.Tree as tree
 use Rattle.tree.specs.Tree.{Ty, Scopes, Binds, Sheet, end, stop, bound, inherit, bind}
 use Rattle.tree.specs.Reader.{Rows, Reading, got, no, Reader, _then_, mapR, times, onType, On, Has}
 use Rattle.tree.specs.Read as read
-use Rattle.tree.specs.Read.{readType, typeFrom, readBinding, among}
+use Rattle.tree.specs.Read.{readType, typeFrom, readBinding}
 use Rattle.codegen_types.specs.TypeString as typeString
 use Rattle.codegen_types.specs.TypeString.{orElse, scopeOf, scopesOf, bindingsOf}
 use Rattle.types.specs.Find.{After, owed, pastRows, lastScope, ScopeHere, ScopeIs}
@@ -395,20 +394,6 @@ scope-counts left id sheet n rs =
     or-none (some y) = refl
 
 -- ---- searching
-
--- the search among ids
-pub among-out : (id : ℕ) (ids : List ℕ) (i : ℕ) → length ids ≤ i → among id (drop i ids) ≡ false
-unfolding among
-among-out id ids i h = rw (drop-of-length-le ids h)
-
-pub among-hit : (id : ℕ) (ids : List ℕ) (i : ℕ) → i < length ids → getD ids i 0 ≡ id → among id (drop i ids) ≡ true
-unfolding among
-among-hit id ids i h e = rw (drop-cons ids i 0 h, eq-eqb _ _ e)
-
-pub among-miss : (id : ℕ) (ids : List ℕ) (i : ℕ) → i < length ids → (getD ids i 0 ≡ id → ⊥)
-    → among id (drop i ids) ≡ among id (drop (i + 1) ids)
-unfolding among
-among-miss id ids i h e = rw (drop-cons ids i 0 h, ne-eqb _ _ e, add-one)
 
 -- one turn of the search for a scope
 pub scope-none : (id n : ℕ) (rs : Rows) (found : Option Rows) → n ≤ 0 → lastScope id n rs found ≡ found

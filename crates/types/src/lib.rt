@@ -10,7 +10,6 @@ ghost use mathlib.Core.Path.{_≡_};
 ghost use lib.ListN.{drop, length};
 ghost use Rattle.text.specs.Bytes.{Str};
 ghost use Rattle.row.specs.Rows.{rows};
-ghost use Rattle.tree.specs.Read.{among};
 ghost use Rattle.types.specs.Find.{typeRow, TypeRowAt, kindAt, owed, pastRows, stepOf, ChainOf, LastScopes, Noted};
 
 // What a T row says of a type: its numbers, and where what belongs to it begins.
@@ -151,20 +150,6 @@ enum Step {
     Refused(u64),
 }
 
-// Whether an id is one of these.
-fn among(ids: &[u64], id: u64) -> bool
-    ensures { λ r. ⌜ r ≡ among id (now (ids .entry)) ⌝ }
-{
-    let mut i = 0;
-    while i < ids.len() {
-        if ids[i] == id {
-            return true;
-        }
-        i += 1;
-    }
-    false
-}
-
 // The node with an id, for a chain that has these ids: 4 where they are 16, or where it is one of them, since then the chain has
 // no end; 5 where it is not there.
 fn climb(index: &[u64], ids: &[u64], id: u64) -> Step
@@ -173,7 +158,7 @@ fn climb(index: &[u64], ids: &[u64], id: u64) -> Step
     if 16 <= ids.len() {
         return Step::Refused(refusals::TOO_DEEP);
     }
-    if among(ids, id) {
+    if nodes::among(ids, id) {
         return Step::Refused(refusals::TOO_DEEP);
     }
     match nodes::find(index, id) {

@@ -26,7 +26,8 @@ use Rattle.nodes.specs.declared.Entry.{Entry}
 use Rattle.nodes.specs.declared.Found.{Found}
 use Rattle.nodes.specs.declared.Found.the-variants.{At, Nothing}
 use Rattle.nodes.proofs.Laws.{found-is}
-use Rattle.codegen_types.specs.Out.{Out, ok, refused, _then_}
+use Rattle.codegen_types.specs.Out.{Out, ok, refused, orRefused, _then_}
+use Rattle.codegen_types.proofs.NodeLaws.{node-by-id}
 use Rattle.codegen_types.specs.TypeString.{isPointer, nodeOf}
 use Rattle.codegen_types.specs.declared.Refusal.the-variants.{None, Number}
 use Rattle.calls.specs.Calls.{zeroTag}
@@ -244,20 +245,6 @@ some-left sheet zero id z = absurd (z refl)
 some-left sheet (suc left) id z = rw (sub-one (suc left)) refl
 
 -- the node that the index has for an id
-abbrev found : Option Node → Out Node
-found option.none = refused 5
-found (some n) = ok n
-
-by-id : (ns : List Node) (id : ℕ) → nodeOf ns id ≡ found (byId id ns)
-unfolding nodeOf byId
-by-id [] id = refl
-by-id (n ∷ ns) id = go (eqb (n .id) id) (by-id ns id)
-  where
-    go : (t : Bool) → nodeOf ns id ≡ found (byId id ns)
-        → cond t (ok n) (nodeOf ns id) ≡ found (cond t (some n) (byId id ns))
-    go true e = refl
-    go false e = e
-
 module _ (s : Str) (sheet : Sheet) (index : List ℕ) (left id : ℕ) (more : left ≡ 0 → ⊥) (f : Found)
     (e : f ≡ lookup index id) (x : Indexed s (sheet .nodes) index) where
   abbrev structOf : Node → Out Zeroing
@@ -267,9 +254,10 @@ module _ (s : Str) (sheet : Sheet) (index : List ℕ) (left id : ℕ) (more : le
   finds g h = rw (← e, h) at (found-is s (sheet .nodes) index id x)
 
   pub group-missing : f ≡ Nothing → zeroFieldsOfGroup sheet left id ≡ refused 5
-  group-missing h = rw (some-left sheet left id more, by-id (sheet .nodes) id) (go (byId id (sheet .nodes)) (finds Nothing h))
+  group-missing h =
+      rw (some-left sheet left id more, node-by-id (sheet .nodes) id) (go (byId id (sheet .nodes)) (finds Nothing h))
     where
-      go : (o : Option Node) → Finds s index Nothing o → (found o then structOf) ≡ refused 5
+      go : (o : Option Node) → Finds s index Nothing o → (orRefused 5 o then structOf) ≡ refused 5
       go option.none w = refl
       go (some n) w = absurd w
 
@@ -277,9 +265,9 @@ module _ (s : Str) (sheet : Sheet) (index : List ℕ) (left id : ℕ) (more : le
     group-there : (Q : Out Zeroing → Type 0) → ((n : Node) → EntryIs s index node n → Q (structOf n))
         → Q (zeroFieldsOfGroup sheet left id)
     group-there Q law =
-        rw (some-left sheet left id more, by-id (sheet .nodes) id) (go (byId id (sheet .nodes)) (finds (At node) there))
+        rw (some-left sheet left id more, node-by-id (sheet .nodes) id) (go (byId id (sheet .nodes)) (finds (At node) there))
       where
-        go : (o : Option Node) → Finds s index (At node) o → Q (found o then structOf)
+        go : (o : Option Node) → Finds s index (At node) o → Q (orRefused 5 o then structOf)
         go option.none w = absurd w
         go (some n) w = law n w
 

@@ -9,6 +9,8 @@ use Rattle.text.specs.Bytes.{Str, ascii, same}
 use Rattle.text.specs.Decimal.{decimal}
 use Rattle.text.specs.Lines.{Branch, toLines, flatMap, join, stringify, ended}
 use Rattle.tree.specs.Tree.{Ty, plain, list, enum, struct, end, slot, group, Field, Node, Sheet}
+use Rattle.tree.specs.Worked.{slotOf, namedField, workedNode, workedSheet}
+use Rattle.nodes.specs.Index.{byId}
 use Rattle.codegen_types.specs.Out.{Out, ok, refused, _then_}
 use Rattle.codegen_types.specs.TypeString.{nodeOf}
 use Rattle.calls.specs.Calls.{setBoolField, setDataField, clearPointer}
@@ -16,36 +18,14 @@ use Rattle.codegen.specs.Zeroing.{zeroLine, contains, zeroFields, zeroFieldsOfG
 
 -- a field that is a slot of a type at an offset, and one that is a group
 abbrev at : Ty → ℕ → Field
-at ty o = record {
-  name = ascii "f";
-  discriminant = 65535;
-  arm = slot (record {
-    offset = o;
-    explicit = 0;
-    option = 0;
-    ty = ty;
-    default = record { kind = 0; bits = 0 };
-    words = [];
-  });
-}
+at ty o = namedField "f" 65535 (slot (slotOf ty o 0 0 0 []))
 
 abbrev inside : ℕ → Field
-inside id = record { name = ascii "g"; discriminant = 65535; arm = group id }
+inside id = namedField "g" 65535 (group id)
 
 -- a node by its id, whether it is a struct, its count of tags, at offset 4, and its fields
 abbrev node : ℕ → ℕ → ℕ → List Field → Node
-node id isStruct tags fields = record {
-  id = id;
-  parent = 0;
-  scope = 0;
-  isStruct = isStruct;
-  generic = 0;
-  tagCount = tags;
-  tagOffset = 4;
-  theMod = ascii "bed";
-  params = [];
-  fields = fields;
-}
+node id isStruct tags fields = workedNode id 0 isStruct tags 4 "bed" [] fields
 
 -- nodes 100 + n down to 100, each with the next one inside
 unfoldable chained : ℕ → List Node
@@ -53,25 +33,22 @@ chained zero = node 100 1 0 [] ∷ []
 chained (suc n) = node (101 + n) 1 0 (inside (100 + n) ∷ []) ∷ chained n
 
 abbrev sheet : Sheet
-sheet = record {
-  root = ascii "::capnp";
-  nodes =
-      -- a tag, Uint16, an enum and Int16 at one offset, and a Bool twice
-      node 1 1 2 (at (plain 7) 4 ∷ at (enum 9 end) 4 ∷ at (plain 3) 4 ∷ at (plain 1) 4 ∷ at (plain 1) 4 ∷ [])
-      -- Text and a list at one offset
-      ∷ node 2 1 0 (at (plain 12) 1 ∷ at (list (plain 0)) 1 ∷ [])
-      -- a group inside that has a line again, and the same line after it
-      ∷ node 3 1 0 (at (plain 9) 0 ∷ inside 4 ∷ at (plain 9) 0 ∷ at (struct 2 end) 0 ∷ [])
-      ∷ node 4 1 0 (at (plain 0) 0 ∷ at (plain 9) 0 ∷ at (struct 2 end) 0 ∷ [])
-      -- Void, and a group with no lines inside
-      ∷ node 5 1 0 (at (plain 0) 0 ∷ inside 100 ∷ [])
-      -- a node that is no struct, a group that is not there, one inside itself; the first refusal counts
-      ∷ node 6 0 0 []
-      ∷ node 7 1 0 (inside 6 ∷ inside 99 ∷ [])
-      ∷ node 8 1 0 (inside 99 ∷ inside 6 ∷ [])
-      ∷ node 9 1 0 (inside 9 ∷ inside 6 ∷ [])
-      ∷ chained 16;
-}
+sheet = workedSheet (
+    -- a tag, Uint16, an enum and Int16 at one offset, and a Bool twice
+    node 1 1 2 (at (plain 7) 4 ∷ at (enum 9 end) 4 ∷ at (plain 3) 4 ∷ at (plain 1) 4 ∷ at (plain 1) 4 ∷ [])
+    -- Text and a list at one offset
+    ∷ node 2 1 0 (at (plain 12) 1 ∷ at (list (plain 0)) 1 ∷ [])
+    -- a group inside that has a line again, and the same line after it
+    ∷ node 3 1 0 (at (plain 9) 0 ∷ inside 4 ∷ at (plain 9) 0 ∷ at (struct 2 end) 0 ∷ [])
+    ∷ node 4 1 0 (at (plain 0) 0 ∷ at (plain 9) 0 ∷ at (struct 2 end) 0 ∷ [])
+    -- Void, and a group with no lines inside
+    ∷ node 5 1 0 (at (plain 0) 0 ∷ inside 100 ∷ [])
+    -- a node that is no struct, a group that is not there, one inside itself; the first refusal counts
+    ∷ node 6 0 0 []
+    ∷ node 7 1 0 (inside 6 ∷ inside 99 ∷ [])
+    ∷ node 8 1 0 (inside 99 ∷ inside 6 ∷ [])
+    ∷ node 9 1 0 (inside 9 ∷ inside 6 ∷ [])
+    ∷ chained 16)
 
 -- a zeroing's text and its flag
 abbrev zeroing : ℕ → Out (Str × Bool)
@@ -116,6 +93,6 @@ table =
     ∷ []
 
 worked : map (λ (r : Row). zeroing (r .group)) table ≡ map (λ (r : Row). r .answer) table
-unfolding table chained decimal same join stringify ended toLines flatMap nodeOf setBoolField setDataField clearPointer zeroLine
-    contains zeroFields zeroFieldsOfGroup
+unfolding table chained decimal same join stringify ended toLines flatMap nodeOf byId setBoolField setDataField clearPointer
+    zeroLine contains zeroFields zeroFieldsOfGroup
 worked = refl

@@ -2,7 +2,7 @@
 use mathlib.Core.Path.{_∙_}
 use native.Mathlib.Omega.{arith}
 use borrow.Author.Needs.{needs}
-use Rattle.field.specs.Numbers.{numbersOf}
+use Rattle.field.specs.Numbers.{fieldNumbers}
 use Rattle.field.specs.declared.Field.the-variants as field
 use Rattle.field.proofs.NumbersLaws.{begun-by, put-none, put-some}
 use Rattle.field.proofs.put.Statement.{statement}
@@ -30,7 +30,7 @@ returns-4 c =
     let at-room = c .before .before in
     let a = at-room .before .before .args in
     rw (c .enum-told .given .1)
-    (begun-by (numbersOf field.Nothing) (a .numbers .now) (omega arith) ∙ put-some _ field.Nothing (at-room .if1 .left))
+    (begun-by (fieldNumbers field.Nothing) (a .numbers .now) (omega arith) ∙ put-some _ field.Nothing (at-room .if1 .left))
 
 pub put-spec : {M : Type 1} → statement M
 put-spec =

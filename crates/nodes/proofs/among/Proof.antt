@@ -1,14 +1,14 @@
--- `types::among` meets its contract. The loop's invariant: the search from the start answers what it answers from here. Assumes
+-- `nodes::among` meets its contract. The loop's invariant: the search from the start answers what it answers from here. Assumes
 -- nothing.
-use Rattle.types.proofs.Laws.{among-out, among-hit, among-miss}
+use Rattle.nodes.proofs.Laws.{among-out, among-hit, among-miss}
 use Rattle.tree.specs.Read.{among}
 use mathlib.Core.Path.{_≡_, refl, sym, _∙_}
 use Prim.Native.Nat.{_≤_, _-_}
 use native.Mathlib.Omega.{arith}
 use lib.ListN.{length, drop}
 use borrow.Author.Needs.{needs}
-use Rattle.types.proofs.among.Statement.{statement}
-use Rattle.types.proofs.among.Tie as tie
+use Rattle.nodes.proofs.among.Statement.{statement}
+use Rattle.nodes.proofs.among.Tie as tie
 
 abbrev Inv-loop : tie.InvT-loop
 Inv-loop ids id i₀ i = (i ≤ length ids) × (among id ids ≡ among id (drop i ids))
