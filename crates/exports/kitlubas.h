@@ -93,7 +93,7 @@ uint64_t kitlubas_index(const uint8_t *s, size_t s_len, uint64_t *index, size_t 
 
 /*
  * Answers and leaves what kitlubas_answer does, over the index that kitlubas_index filled for these bytes, without
- * admitting them again. Over any other index it returns, and no byte of buf before *fill has changed.
+ * admitting them again. Over any other index it returns, no byte of buf before *fill has changed, and *fill has not fallen.
  */
 uint64_t kitlubas_answer_in(const uint8_t *s, size_t s_len, const uint64_t *index, size_t index_len, uint64_t id,
                             uint64_t place, uint64_t request, uint64_t leaf, size_t *fill, size_t *line, uint8_t *buf,
@@ -118,16 +118,23 @@ uint64_t kitlubas_field(const uint8_t *s, size_t s_len, size_t from, uint64_t *f
 /*
  * The text of a request for a field of the node with a number, from 0: field has the numbers that kitlubas_field put for it.
  * 0: the text begins buf, and *size is its length. 22: buf is too short, and *size is the length that the text has. Any
- * other refusal: *size is 0. After a refusal the bytes of buf may be any. Over any other numbers it returns; fewer than
- * KITLUBAS_FIELD_SIZE are no field, which is 15.
+ * other refusal: *size is 0. After a refusal the bytes of buf may be any. Over any other numbers it returns, and after 0
+ * *size is at most buf_len; fewer than KITLUBAS_FIELD_SIZE are no field, which is 15.
  */
 uint64_t kitlubas_text(const uint8_t *s, size_t s_len, const uint64_t *index, size_t index_len, size_t node,
                        const uint64_t *field, size_t field_len, uint64_t request, uint64_t leaf, size_t *size,
                        uint8_t *buf, size_t buf_len);
 
 /*
- * The writers put their text into buf from the fill count `at` on and answer the new fill count. Bytes past the end of buf
- * are counted and not written. What is not taken writes nothing and answers SIZE_MAX.
+ * The sheet that a text written by hand says: the numbers of each line, with any spaces between them, right-justified in their
+ * 21 columns. 0: it stands in buf from *fill on, *fill has moved past it, and no other byte has changed. 21 or 22 leaves buf and
+ * *fill as they were. Nothing else is refused: kitlubas_admit says whether it is a sheet.
+ */
+uint64_t kitlubas_pad(const uint8_t *s, size_t s_len, size_t *fill, uint8_t *buf, size_t buf_len);
+
+/*
+ * The writers put their text into buf from the fill count `at` on and answer the new fill count, which stops at
+ * SIZE_MAX - 1. Bytes past the end of buf are counted and not written. What is not taken writes nothing and answers SIZE_MAX.
  */
 
 /* The number in decimal. */

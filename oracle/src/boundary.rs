@@ -65,7 +65,7 @@ pub mod answer {
     use crate::sheet::read::Refusal;
 
     /// The number of a request at the boundary; the leaf goes beside it.
-    fn number(request: Request) -> u64 {
+    pub fn number(request: Request) -> u64 {
         match request {
             Request::Type { .. } => 0,
             Request::Getter { reader: true, function: false } => 1,
@@ -79,6 +79,14 @@ pub mod answer {
         }
     }
 
+    /// The leaf of a request; 0 for one that has none.
+    pub fn leaf(request: Request) -> u64 {
+        match request {
+            Request::Type { leaf } => leaf,
+            _ => 0,
+        }
+    }
+
     /// The answer; `fill` is the fill count before and after.
     pub fn answer(
         sheet: &[u8],
@@ -88,7 +96,7 @@ pub mod answer {
         fill: &mut usize,
         buf: &mut [u8],
     ) -> Result<(), Refusal> {
-        let leaf = if let Request::Type { leaf } = request { leaf } else { 0 };
+        let leaf = leaf(request);
         let (sheet_at, sheet_len) = (sheet.as_ptr(), sheet.len());
         let (buf_at, len) = (buf.as_mut_ptr(), buf.len());
         let request = number(request);

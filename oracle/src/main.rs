@@ -10,7 +10,8 @@ use std::process::ExitCode;
 const USAGE: &str = "\
 oracle compare [TIMES]    hold the static library of Kitlubas against capnpc's functions; TIMES multiplies the random cases
 oracle sample WHAT FOLDER write FOLDER/stdin and FOLDER/stdout, which a program of the gate replays; WHAT is `leaves` (names,
-                          numbers and lines), `sheets` (what is admitted) or `accessors` (what whole sheets give)
+                          numbers and lines), `sheets` (what is admitted), `accessors` (what whole sheets give) or
+                          `requests` (what single requests are answered)
 oracle bounds             print the name of each sheet at a bound and its answer
 oracle cases              print the names of the cases that bench/run measures
 oracle measure SIDE CASE COUNT
@@ -28,6 +29,7 @@ fn main() -> ExitCode {
         ["sample", "leaves", folder] => done(sample::leaves::sample().write(Path::new(folder))),
         ["sample", "sheets", folder] => done(sample::sheets::sample().write(Path::new(folder))),
         ["sample", "accessors", folder] => done(sample::accessors::sample().write(Path::new(folder))),
+        ["sample", "requests", folder] => done(sample::requests::sample().write(Path::new(folder))),
         ["bounds"] => bounds(),
         ["cases"] => cases(),
         ["measure", side, case, count] => measure(side, case, count),

@@ -27,6 +27,9 @@ const FIELD_SIZE: usize = 14;
 /// The most bytes that a name has in snake case.
 const SNAKE_SIZE: usize = 127;
 
+/// The most bytes that a row grows by where its numbers are put into their columns: an N row has seven.
+const ROW_GROWTH: usize = 7 * 21;
+
 /// What the library tells of a node.
 pub struct NodeRow {
     pub id: NodeId,
@@ -213,6 +216,18 @@ pub fn field(sheet: &[u8], at: usize) -> Option<FieldRow> {
         )
     };
     (refusal == 0).then(|| FieldRow { numbers, kind, name: name..name + name_len, next })
+}
+
+/// The sheet that a text written by hand says.
+pub fn padded(short: &[u8]) -> Vec<u8> {
+    let rows = short.split(|&byte| byte == b'\n').count();
+    let mut sheet = vec![0; short.len() + rows * ROW_GROWTH];
+    let (sheet_at, sheet_len) = (sheet.as_mut_ptr(), sheet.len());
+    let mut fill = 0;
+    // Sound: addresses and lengths are those of the slice and of the vector, which is a local variable, as is `fill`.
+    unsafe { declarations::kitlubas_pad(short.as_ptr(), short.len(), &mut fill, sheet_at, sheet_len) };
+    sheet.truncate(fill);
+    sheet
 }
 
 /// A name of a sheet in snake case.

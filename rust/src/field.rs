@@ -32,7 +32,7 @@ impl<'s> Field<'_, 's> {
     /// ```
     /// # use kitlubas::{padded, Sheet};
     /// let bytes = padded("R ::capnp\nN 7 0 0 1 0 0 0 bed\nF 3 65535 1 0 isFree\nT 1 0 0 0\nV 1 1\n");
-    /// let sheet = Sheet::admit(bytes.as_bytes())?;
+    /// let sheet = Sheet::admit(&bytes)?;
     /// let names: Vec<String> = sheet.nodes().flat_map(|node| node.fields()).map(|field| field.styled_name()).collect();
     /// assert_eq!(names, ["is_free"]);
     /// # Ok::<(), kitlubas::Refusal>(())
@@ -56,7 +56,7 @@ impl<'s> Field<'_, 's> {
     /// ```
     /// # use kitlubas::{padded, Leaf, Request, Sheet};
     /// let bytes = padded("R ::capnp\nN 7 0 0 1 0 0 0 bed\nF 0 65535 0 0 ward\nT 12 0 0 0\nV 12 0\n");
-    /// let sheet = Sheet::admit(bytes.as_bytes())?;
+    /// let sheet = Sheet::admit(&bytes)?;
     /// for field in sheet.nodes().flat_map(|node| node.fields()) {
     ///     assert_eq!(field.text(Request::TypeText(Leaf::Owned))?, "::capnp::text::Owned");
     /// }
@@ -78,7 +78,7 @@ impl<'s> Field<'_, 's> {
     ///     "R ::capnp\nN 7 0 0 1 0 0 0 bed\n\
     ///      F 3 65535 1 0 isFree\nT 1 0 0 0\nV 1 1\nF 1 65535 0 0 rank\nT 7 0 0 0\nV 7 0\n",
     /// );
-    /// let sheet = Sheet::admit(bytes.as_bytes())?;
+    /// let sheet = Sheet::admit(&bytes)?;
     /// let mut setters = Vec::new();
     /// for field in sheet.nodes().flat_map(|node| node.fields()) {
     ///     field.write_text(Request::Setter, &mut setters)?;

@@ -26,7 +26,7 @@
 //!      T 1 0 0 0\n\
 //!      V 1 1\n",
 //! );
-//! let sheet = Sheet::admit(bytes.as_bytes())?;
+//! let sheet = Sheet::admit(&bytes)?;
 //!
 //! // Node 7, and of its fields the first.
 //! let setter = sheet.text(NodeId(7), Place(0), Request::Setter)?;
@@ -67,7 +67,7 @@
 //!      F 3 65535 1 0 isFree\nT 1 0 0 0\nV 1 1\n\
 //!      F 0 65535 0 0 wards\nT 14 0 0 0\nT 12 0 0 0\nV 14 0\n",
 //! );
-//! assert_eq!(slots(bytes.as_bytes())?, ["bed.isFree: bool", "bed.wards: ::capnp::text_list::Reader<'a>"]);
+//! assert_eq!(slots(&bytes)?, ["bed.isFree: bool", "bed.wards: ::capnp::text_list::Reader<'a>"]);
 //! # Ok::<(), kitlubas::Refusal>(())
 //! ```
 //!
@@ -92,7 +92,7 @@
 //! }
 //!
 //! let bytes = padded("R ::capnp\nN 7 0 0 1 0 0 0 bed\nF 3 65535 1 0 isFree\nT 1 0 0 0\nV 1 1\n");
-//! let sheet = Sheet::admit(bytes.as_bytes())?;
+//! let sheet = Sheet::admit(&bytes)?;
 //! let node = sheet.nodes().next().ok_or("a sheet has a node")?;
 //! let path = std::env::temp_dir().join("bed_accessors.rs");
 //! std::fs::write(&path, accessors(node)?)?;

@@ -1,42 +1,23 @@
 //! Sheets that are written by hand, without their padding.
 #![forbid(unsafe_code)]
 
-/// The sheet that a short form says: each number is put right-justified into its 21 columns. In the short form a single
-/// space stands between any two words, as where the format's description shows a sheet with its padding removed.
+use crate::boundary;
+
+/// The sheet that a text written by hand says: the numbers of each line, with any spaces between them, are put right-justified
+/// into their 21 columns. A sheet's short form, where a single space stands in front of each number, gives that sheet, and a
+/// sheet stays as it is; both are proved.
 ///
-/// It checks nothing: a line that is not a sheet's becomes another that isn't, and [`admit`](crate::admit) refuses it.
+/// It checks nothing: [`admit`](crate::admit) says whether it is a sheet.
 ///
 /// ```
-/// assert_eq!(kitlubas::padded("V 1 1\n"), format!("V{:>21}{:>21}\n", 1, 1));
-/// assert_eq!(kitlubas::padded("R ::capnp\n"), "R ::capnp\n");
+/// use kitlubas::padded;
+///
+/// let value = format!("V{:>21}{:>21}\n", 1, 1).into_bytes();
+/// assert_eq!(padded("V 1 1\n"), value);
+/// assert_eq!(padded("V   1  1\n"), value);
+/// assert_eq!(padded(&value), value);
+/// assert_eq!(padded("R ::capnp\n"), b"R ::capnp\n");
 /// ```
-pub fn padded(short: &str) -> String {
-    short.lines().map(padded_line).collect()
-}
-
-fn padded_line(short: &str) -> String {
-    let mut words = short.split(' ');
-    let letter = words.next().unwrap_or("");
-    let mut line = letter.to_string();
-    for number in words.by_ref().take(numbers(letter)) {
-        line += &format!("{number:>21}");
-    }
-    for word in words {
-        line.push(' ');
-        line += word;
-    }
-    line.push('\n');
-    line
-}
-
-/// How many numbers a line with this letter has.
-fn numbers(letter: &str) -> usize {
-    match letter {
-        "N" => 7,
-        "F" | "T" => 4,
-        "S" => 3,
-        "G" | "V" => 2,
-        "W" => 1,
-        _ => 0,
-    }
+pub fn padded(short: impl AsRef<[u8]>) -> Vec<u8> {
+    boundary::padded(short.as_ref())
 }

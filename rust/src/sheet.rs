@@ -13,7 +13,7 @@ use std::ops::Range;
 /// use kitlubas::{padded, NodeId, Place, Request, Sheet};
 ///
 /// let bytes = padded("R ::capnp\nN 7 0 0 1 0 0 0 bed\nF 3 65535 1 0 isFree\nT 1 0 0 0\nV 1 1\n");
-/// let sheet = Sheet::admit(bytes.as_bytes())?;
+/// let sheet = Sheet::admit(&bytes)?;
 /// for node in sheet.nodes() {
 ///     println!("node {} is {}", node.id(), node.module());
 ///     for field in node.fields() {
@@ -59,7 +59,7 @@ impl<'s> Sheet<'s> {
     /// ```
     /// # use kitlubas::{padded, NodeId, Place, Request, Sheet};
     /// let bytes = padded("R ::capnp\nN 7 0 0 1 0 0 0 bed\nF 3 65535 1 0 isFree\nT 1 0 0 0\nV 1 1\n");
-    /// let sheet = Sheet::admit(bytes.as_bytes())?;
+    /// let sheet = Sheet::admit(&bytes)?;
     /// assert!(sheet.text(NodeId(7), Place(0), Request::Setter).is_ok());
     /// // There is no second field.
     /// assert_eq!(sheet.text(NodeId(7), Place(1), Request::Setter).unwrap_err().number, 15);
@@ -76,7 +76,7 @@ impl<'s> Sheet<'s> {
     /// ```
     /// # use kitlubas::{padded, NodeId, Place, Request, Sheet, Side};
     /// let bytes = padded("R ::capnp\nN 7 0 0 1 0 0 0 bed\nF 0 65535 0 0 ward\nT 12 0 0 0\nV 12 0\n");
-    /// let sheet = Sheet::admit(bytes.as_bytes())?;
+    /// let sheet = Sheet::admit(&bytes)?;
     /// let haser = |side| Request::Haser { side };
     /// let mut buf = [0; 200];
     /// let first = sheet.answer(NodeId(7), Place(0), haser(Side::Reader), &mut buf, 0)?;

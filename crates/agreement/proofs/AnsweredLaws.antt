@@ -1,23 +1,26 @@
 -- The bytes that the entry put between its two fill counts are the text of its request: a refusal is never done, and what is
--- placed at the old count ends at the new one. Assumes nothing.
+-- placed at the old count ends at the new one. And a text that is generated is put into any buffer with room for it. Assumes
+-- nothing.
 use mathlib.Core.Path.{_≡_, refl, sym, ap, _∙_}
 use mathlib.Core.Bool.{Bool, true, false}
 use mathlib.Core.List.{_++_, append-assoc}
 use Prim.Native.Nat.{ℕ, _+_, _-_, _≤_}
 use native.Mathlib.Omega.{arith}
-use borrow.Author.Tests.{ltb-false}
+use borrow.Author.Tests.{ltb-false, le-ltb}
 use lib.Dec.{ltb}
-use lib.ListN.{length, take, drop, length-take}
+use lib.ListN.{length, take, drop, length-take, replicate, length-replicate}
 use lib.Seq.{take-at, drop-at}
 use Rattle.text.specs.Bytes.{Str, cond}
 use Rattle.text.specs.Answer as text
+use Rattle.text.specs.Text.{stateAt}
 use Rattle.text.specs.declared.Text.{Text}
 use Rattle.tree.specs.Read.{admitted}
-use Rattle.requests.specs.Requests.{Outcome, gives, refuses, outcomeOf}
+use Rattle.requests.specs.Requests.{ofField, Outcome, gives, refuses, outcomeOf}
 use Rattle.requests.specs.Told.{Answered}
+use Rattle.requests.specs.declared.Accessor.{Accessor}
 use Rattle.requests.specs.declared.Answer.the-variants.{Done}
-use Rattle.agreement.specs.Claims.{AnsweredHolds}
-use Rattle.agreement.specs.Slots.{bytesBetween}
+use Rattle.agreement.specs.Claims.{AnsweredHolds, RanHolds}
+use Rattle.agreement.specs.Slots.{Generated, bytesBetween, Ran}
 
 -- what is placed in a buffer stands there
 placed-between : (l : Str) (fill : ℕ) (w : Str) → fill ≤ length l → bytesBetween fill (fill + length w) (text.placed l fill w) ≡ w
@@ -57,3 +60,41 @@ done-gives l t (refuses k line) l′ t′ a = by-test (ltb (length l) (t .at)) (
 
 pub answered-holds : AnsweredHolds
 answered-holds s id asked l t l′ t′ a = done-gives l t (outcomeOf (admitted s) id asked) l′ t′ a
+
+-- ---- runs of the entry
+
+-- a text is put into a buffer with room for it
+done-placed : (l : Str) (fill : ℕ) (w : Str) → fill + length w ≤ length l
+    → Answered l (stateAt fill) (gives w) (text.placed l fill w) (Done (stateAt (fill + length w)))
+unfolding text.answerOf text.bufferOf
+done-placed l fill w h =
+    let room : fill ≤ length l = omega arith in
+    record {
+      answer = rw (le-ltb (length l) fill room, le-ltb (length l) (fill + length w) h);
+      buffer = rw (le-ltb (length l) fill room, le-ltb (length l) (fill + length w) h);
+    }
+
+module _ (s : Str) (id place : ℕ) (accessor : Accessor) (w : Str) where
+  pub ran-generated : Ran s id place accessor w → Generated s id place accessor w
+  ran-generated x =
+      answered-holds s id (ofField place accessor) (x .buffer) (x .state) (x .left) (x .after) (x .answered)
+      ∙ ap gives (sym (x .bytes))
+
+  -- a buffer as long as the text
+  abbrev room : Str
+  room = replicate (length w) 0
+
+  generated-ran : Generated s id place accessor w → Ran s id place accessor w
+  generated-ran e =
+      let n : length room ≡ length w = length-replicate (length w) 0 in
+      record {
+        buffer = room;
+        state = stateAt 0;
+        left = text.placed room 0 w;
+        after = stateAt (0 + length w);
+        answered = rw e (done-placed room 0 w (omega arith));
+        bytes = sym (placed-between room 0 w (omega arith));
+      }
+
+pub ran-holds : RanHolds
+ran-holds s id place accessor w = (ran-generated s id place accessor w, generated-ran s id place accessor w)

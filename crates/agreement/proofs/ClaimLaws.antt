@@ -1,26 +1,37 @@
--- The claims, from what the entry gives: a request that gets a text gets it from `codegen`, for the slot that stands at the
--- place. Assumes nothing.
+-- The claims, from what runs of the entry left: the bytes are a text that `codegen` gives, for the slot that stands at the place.
+-- Set and get follows from what a setter alone leaves and what a getter alone answers. Assumes nothing.
 use mathlib.Core.Path.{_≡_, sym, ap, _∙_}
 use mathlib.Core.Bool.{Bool}
+use mathlib.Core.Option.{Option, none, some}
 use Prim.Native.Nat.{ℕ}
+use lib.Bits.{bitXor}
 use Rattle.text.specs.Bytes.{Str}
 use Rattle.codegen_types.specs.Out.{Out, ok, refused}
 use Rattle.codegen.specs.Getter.{getterRequest}
 use Rattle.codegen.specs.Haser.{haserRequest}
 use Rattle.codegen.specs.Setter.{setterRequest}
+use Rattle.record.specs.Lines.{Tag}
+use Rattle.record.specs.Masks.{setMask}
+use Rattle.record.specs.Record.{Record}
+use Rattle.record.specs.Types.{tagPlace}
+use Rattle.record.proofs.RecordLaws.{put-held}
+use Rattle.meaning.specs.Claims.{TagHolds, voidLeaves}
 use Rattle.meaning.specs.Meaning.{runSetter, runHaser}
 use Rattle.meaning.proofs.HaserLaws as meaning
+use Rattle.meaning.proofs.MaskLaws.{slot-size, mask-below, get-mask-bits, expected-holds}
 use Rattle.meaning.proofs.SetLaws as setting
-use Rattle.requests.specs.Requests.{accessorText, ofField, gives, outcome}
+use Rattle.requests.specs.Requests.{accessorText, gives, outcome}
 use Rattle.requests.specs.declared.Accessor.{Accessor}
 use Rattle.requests.specs.declared.Accessor.the-variants.{Getter, Setter, Haser}
-use Rattle.agreement.specs.Slots.{Generated, SlotAt, tagAt}
-use Rattle.agreement.specs.Claims.{SetGetHolds, VoidSetHolds, HaserHolds, NoHaserHolds, AnsweredSetGetHolds}
-use Rattle.agreement.proofs.AnsweredLaws.{answered-holds}
+use Rattle.agreement.specs.Slots.{isExplicit, Ran, SlotAt, slotKind, tagAt, placeAt, setterMask}
+use Rattle.agreement.specs.Claims.{GetHolds, OwnDefaultHolds, SetCase, SetHolds, SetMeansHolds, SetGetHolds, VoidHolds}
+use Rattle.agreement.specs.Claims.{VoidMeansHolds, VoidSetHolds, HaserHolds, NoHaserHolds}
+use Rattle.agreement.proofs.AnsweredLaws.{ran-generated}
+use Rattle.agreement.proofs.GetterLaws.{own-default}
 use Rattle.agreement.proofs.HaserLaws.{openingOf, whole-opening, haser-given, no-haser}
 use Rattle.agreement.proofs.OutLaws.{ok-is}
-use Rattle.agreement.proofs.SetGetLaws.{tag-fits, set-get}
-use Rattle.agreement.proofs.SetterLaws.{void-given}
+use Rattle.agreement.proofs.AloneLaws.{set-fits, tag-fits-at, own-fits, get-alone, set-alone}
+use Rattle.agreement.proofs.SetterLaws.{GivenVoid, void-given}
 use Rattle.agreement.proofs.SheetLaws.{bounds}
 
 -- a text that is given is no refusal
@@ -30,46 +41,108 @@ given-ok (refused k) w e = cc
 
 module _ {s : Str} {id place : ℕ} (a : SlotAt s id place) where
   -- the text of an accessor of a slot's field
-  accessor-given : (accessor : Accessor) (w : Str) → Generated s id place accessor w
+  accessor-given : (accessor : Accessor) (w : Str) → Ran s id place accessor w
       → accessorText (a .tree) (a .node, a .field) accessor ≡ ok w
-  accessor-given accessor w e =
-      given-ok (accessorText (a .tree) (a .node, a .field) accessor) w (rw (a .is-admitted, a .is-found) at e)
+  accessor-given accessor w x =
+      given-ok (accessorText (a .tree) (a .node, a .field) accessor) w
+      (rw (a .is-admitted, a .is-found) at (ran-generated s id place accessor w x))
 
-  setter-text : (w : Str) → Generated s id place Setter w
+  setter-text : (w : Str) → Ran s id place Setter w
       → setterRequest (a .tree) (a .node .tagOffset) (a .field .name) (a .field .discriminant) (a .slot) ≡ ok w
   unfolding accessorText
   setter-text w e = rw (a .is-slot) at (accessor-given Setter w e)
 
-  pub getter-text : (isReader isFn : Bool) (g : Str) → Generated s id place (Getter isReader isFn) g
+  pub getter-text : (isReader isFn : Bool) (g : Str) → Ran s id place (Getter isReader isFn) g
       → getterRequest (a .tree) (a .field .name) (a .slot) isReader isFn ≡ ok g
   unfolding accessorText
   getter-text isReader isFn g e = rw (a .is-slot) at (accessor-given (Getter isReader isFn) g e)
 
-  haser-text : (isReader : Bool) (h : Str) → Generated s id place (Haser isReader) h
+  void-text : (w : Str) → slotKind a ≡ 0 → Ran s id place Setter w → GivenVoid (tagAt a) w
+  void-text w h x =
+      void-given (a .tree) (a .node .tagOffset) (a .field .name) (a .field .discriminant) (a .slot) w (bounds a .named) h
+      (setter-text w x)
+
+  haser-text : (isReader : Bool) (h : Str) → Ran s id place (Haser isReader) h
       → haserRequest (a .node .tagOffset) (a .field .name) (a .field .discriminant) (a .slot) isReader ≡ h
   unfolding accessorText
   haser-text isReader h e = ok-is (rw (a .is-slot) at (accessor-given (Haser isReader) h e))
 
+-- ---- a getter alone, a setter alone
+
+pub get-holds : GetHolds
+get-holds s id place a k isReader isFn g r h x = get-alone a k h isReader isFn g (getter-text a isReader isFn g x) r
+
+pub own-default-holds : OwnDefaultHolds
+own-default-holds s id place a isReader isFn g x =
+    sym (own-default (a .tree) (a .field .name) (a .slot) isReader isFn g (getter-text a isReader isFn g x))
+
+pub set-holds : SetHolds
+set-holds s id place a k w v r c =
+    set-alone a k (c .has-bits) (c .own-default) w (setter-text a w (c .setter)) v r
+
+pub set-means-holds : SetMeansHolds
+set-means-holds s id place a k w v r c =
+    let leaves = set-holds s id place a k w v r c in
+    let means = setting.setter-means (tagAt a) (placeAt a k) v (setterMask a k) r in
+    ((λ long tag-long. let x = means .0 long tag-long in (x .0, leaves ∙ x .1)), λ m. means .1 (m .0) (sym leaves ∙ m .1))
+
+-- ---- set and get, from the two: the getter is given, so the default is of the slot's kind
+
 pub set-get-holds : SetGetHolds
 set-get-holds s id place a k w isReader isFn g v r c =
-    set-get a k w g isReader isFn v r (c .has-bits) (setter-text a w (c .setter)) (getter-text a isReader isFn g (c .getter))
-    (c .value) (c .long) (c .tag-long) (c .clear)
+    let own = own-default-holds s id place a isReader isFn g (c .getter) in
+    let setter : SetCase a k w = record { has-bits = c .has-bits; own-default = own; setter = c .setter } in
+    let run = set-means-holds s id place a k w v r setter .0 (c .long) (c .tag-long) in
+    let d = a .slot .default .bits in
+    let e = isExplicit (a .slot) in
+    let fits = own-fits a k (c .has-bits) own in
+    let n = slot-size k (a .slot .offset) in
+    let x =
+    setting.setter-leaves (tagAt a) (placeAt a k) v (setterMask a k) r (run .0) (tag-fits-at a) (rw n (c .value))
+    (rw n (mask-below k (setMask k d e) (set-fits k d e fits))) (sym (set-holds s id place a k w v r setter) ∙ run .1) in
+    record {
+      left = run .0;
+      runs = run .1;
+      answers =
+          get-holds s id place a k isReader isFn g (run .0) (c .has-bits) (c .getter)
+          ∙ x .reads d (rw n fits)
+          ∙ ap (λ (m : ℕ). some (bitXor (bitXor v (setterMask a k)) m)) (sym (get-mask-bits k d e))
+          ∙ ap some (expected-holds k d e v fits (c .value));
+      same = x .same;
+      tagged = x .tagged (c .clear);
+    }
+
+-- ---- the Void setter
+
+pub void-holds : VoidHolds
+void-holds s id place a w v r h x =
+    let setter = void-text a w h x in
+    ap (λ (y : Str). runSetter y v r) (setter .text)
+    ∙ setting.void-holds (setter .opening) (tagAt a) v r (setter .one-line .is) (tag-fits-at a)
 
 pub void-set-holds : VoidSetHolds
-void-set-holds s id place a w v r h ws ht =
-    let b = bounds a in
-    let setter =
-    void-given (a .tree) (a .node .tagOffset) (a .field .name) (a .field .discriminant) (a .slot) w (b .named) h
-    (setter-text a w ws) in
-    let held =
-    setting.void-set-holds (setter .opening) (tagAt a) v r (setter .one-line .is)
-    (tag-fits (a .node .tagOffset) (a .field .discriminant) (b .discriminant)) ht in
+void-set-holds s id place a w v r h x tag-long =
+    let setter = void-text a w h x in
+    let held = setting.void-set-holds (setter .opening) (tagAt a) v r (setter .one-line .is) (tag-fits-at a) tag-long in
     record {
       left = held .left;
-      runs = ap (λ (x : Str). runSetter x v r) (setter .text) ∙ held .runs;
+      runs = ap (λ (y : Str). runSetter y v r) (setter .text) ∙ held .runs;
       same = held .same;
       tagged = held .tagged;
     }
+
+-- where the tag's line leaves a record, the tag was held
+tag-held : (tag : Option Tag) (r left : Record) → voidLeaves tag r ≡ some left → TagHolds tag r
+tag-held none r left e = tt
+tag-held (some t) r left e = put-held (tagPlace (t .0)) (t .1) 0 r left e
+
+pub void-means-holds : VoidMeansHolds
+void-means-holds s id place a w v r h x = (
+  (λ tag-long. let held = void-set-holds s id place a w v r h x tag-long in (held .left, held .runs)),
+  λ m. tag-held (tagAt a) r (m .0) (sym (void-holds s id place a w v r h x) ∙ m .1),
+)
+
+-- ---- hasers
 
 pub haser-holds : HaserHolds
 haser-holds s id place a isReader h r p hs =
@@ -86,16 +159,3 @@ pub no-haser-holds : NoHaserHolds
 no-haser-holds s id place a isReader h p hs =
     sym (haser-text a isReader h hs)
     ∙ no-haser (a .node .tagOffset) (a .field .name) (a .field .discriminant) (a .slot) isReader p
-
--- both texts as they stand in the buffers
-pub answered-set-get-holds : AnsweredSetGetHolds
-answered-set-get-holds s id place a k isReader isFn l t l′ t′ m u m′ u′ v r set got bits value long tag-long clear =
-    set-get-holds s id place a k _ isReader isFn _ v r (record {
-      has-bits = bits;
-      setter = answered-holds s id (ofField place Setter) l t l′ t′ set;
-      getter = answered-holds s id (ofField place (Getter isReader isFn)) m u m′ u′ got;
-      value = value;
-      long = long;
-      tag-long = tag-long;
-      clear = clear;
-    })

@@ -97,6 +97,18 @@ module _ (sheet : Sheet) (name : Str) (s : Slot) (isReader isFn : Bool) (g : Str
         text = text-is (getterOf (o .value) (r .value) (f .value)) x (f .rest) (all .rest);
       }
 
+  -- the default is of the slot's type: any other is refused
+  own : (st : Steps)
+      → (kind (s .ty) ≡ s .default .kind) × (fragmentOf (sheet .root) name s isReader isFn (st .inner) ≡ st .fragment)
+  own st =
+      let t =
+      cond-ok (eqb (kind (s .ty)) (s .default .kind)) (fragmentOf (sheet .root) name s isReader isFn (st .inner)) 10
+      (st .fragment) (st .is-fragment) in
+      (eqb-true (kind (s .ty)) (s .default .kind) (t .0), t .1)
+
+  pub own-default : getterRequest sheet name s isReader isFn ≡ ok g → kind (s .ty) ≡ s .default .kind
+  own-default e = own (steps e) .0
+
 -- ---- slots with bits
 
 -- an option is none: it would be refused
@@ -205,10 +217,7 @@ module _ (sheet : Sheet) (clean : Clean sheet) (name : Str) (isReader isFn : Boo
       let st = steps sheet name s isReader isFn g e in
       let absent = no-option s (st .option) (no-pointer (kind (s .ty)) k h) (st .is-option) in
       let t = typed (s .offset) (s .explicit) (s .option) (s .default) (s .words) (s .ty) (st .inner) h (st .is-inner) in
-      let (kinds, fragment) =
-      cond-ok (eqb (kind (s .ty)) (s .default .kind)) (fragmentOf (sheet .root) name s isReader isFn (st .inner)) 10
-      (st .fragment) (st .is-fragment) in
-      let same-kind = eqb-true (kind (s .ty)) (s .default .kind) kinds in
+      let (same-kind, fragment) = own sheet name s isReader isFn g st in
       record {
         typ = asFunction isFn (st .result);
         one-line = whole-function isFn (st .result) (t .result (st .result) (rw absent at (st .is-result)));

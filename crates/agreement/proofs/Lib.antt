@@ -5,6 +5,6 @@ pub mod GetterLaws
 pub mod WholeLaws
 pub mod SheetLaws
 pub mod SetterLaws
-pub mod SetGetLaws
+pub mod AloneLaws
 pub mod HaserLaws
 pub mod ClaimLaws

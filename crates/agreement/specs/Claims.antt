@@ -1,5 +1,5 @@
--- What is claimed of the texts of a slot's accessors, from the bytes that the entry answered: set and then get, the Void
--- setter, hasers. `expected` (crate meaning) is v but for document 01's two exceptions. Assumes nothing.
+-- What is claimed of the texts of a slot's accessors, each as a run of the entry left it: a getter alone, a setter alone, set and
+-- then get, the Void setter, hasers. `expected` (crate meaning) is v but for document 01's two exceptions. Assumes nothing.
 use mathlib.Core.Path.{_≡_}
 use mathlib.Core.Bool.{Bool, true, false}
 use mathlib.Core.Logic.{_⊎_}
@@ -9,27 +9,85 @@ use Rattle.text.specs.Bytes.{Str, unit}
 use Rattle.text.specs.declared.Text.{Text}
 use Rattle.tree.specs.Read.{admitted}
 use Rattle.codegen_types.specs.TypeString.{isPointer}
-use Rattle.record.specs.Record.{Record, Covers, Holds, Same}
+use Rattle.record.specs.Record.{Record, get, Covers, Holds, Same}
 use Rattle.record.specs.Types.{Kind, slotBits, kindOf}
-use Rattle.meaning.specs.Claims.{TagHolds, TagHas, TagClear, TagIs, hasAnswer}
+use Rattle.meaning.specs.Claims.{TagHolds, TagHas, TagClear, TagIs, setterLeaves, voidLeaves, hasAnswer}
 use Rattle.meaning.specs.Meaning.{runSetter, runGetter, runHaser}
-use Rattle.requests.specs.Requests.{ofField, gives, outcomeOf}
+use Rattle.requests.specs.Requests.{gives, outcomeOf}
 use Rattle.requests.specs.Told.{Answered}
 use Rattle.requests.specs.declared.Request.{Request}
+use Rattle.requests.specs.declared.Accessor.{Accessor}
 use Rattle.requests.specs.declared.Accessor.the-variants.{Getter, Setter, Haser}
 use Rattle.requests.specs.declared.Answer.the-variants.{Done}
-use Rattle.agreement.specs.Slots.{Generated, bytesBetween, SlotAt, slotKind, tagAt, placeAt, expectedAt}
+use Rattle.agreement.specs.Slots.{Generated, bytesBetween, Ran, SlotAt, slotKind, tagAt, placeAt, OwnDefault, setterMask}
+use Rattle.agreement.specs.Slots.{expectedAt}
+
+-- ---- answered bytes
+
+-- the bytes between the two fill counts of an entry that is done are the text of its request
+abbrev pub AnsweredHolds : Type 0
+AnsweredHolds =
+    (s : Str) (id : ℕ) (asked : Request) (l : Str) (t : Text) (l′ : Str) (t′ : Text)
+    → Answered l t (outcomeOf (admitted s) id asked) l′ (Done t′)
+    → outcomeOf (admitted s) id asked ≡ gives (bytesBetween (t .at) (t′ .at) l′)
+
+-- what a run of the entry left is what is generated, and what is generated some run leaves
+abbrev pub RanHolds : Type 0
+RanHolds =
+    (s : Str) (id place : ℕ) (accessor : Accessor) (w : Str)
+    → (Ran s id place accessor w → Generated s id place accessor w)
+    × (Generated s id place accessor w → Ran s id place accessor w)
+
+-- ---- a getter alone
+
+-- on every record, of any length: the bits of the slot exclusive or those of its V line, and no value exactly where the section
+-- does not hold them all
+abbrev pub GetHolds : Type 0
+GetHolds =
+    (s : Str) (id place : ℕ) (a : SlotAt s id place) (k : Kind) (isReader isFn : Bool) (g : Str) (r : Record)
+    → kindOf (slotKind a) ≡ some k → Ran s id place (Getter isReader isFn) g
+    → runGetter g r ≡ get (placeAt a k) (a .slot .default .bits) r
+
+-- a slot with a getter has a V line of its T line's kind
+abbrev pub OwnDefaultHolds : Type 0
+OwnDefaultHolds =
+    (s : Str) (id place : ℕ) (a : SlotAt s id place) (isReader isFn : Bool) (g : Str) → Ran s id place (Getter isReader isFn) g
+    → OwnDefault a
+
+-- ---- a setter alone
+
+-- a Bool, numeric or enum slot whose V line is of its T line's kind, and its setter's text
+pub record SetCase {s : Str} {id place : ℕ} (a : SlotAt s id place) (k : Kind) (w : Str) : Type 0 where
+  pub has-bits : kindOf (slotKind a) ≡ some k
+  pub own-default : OwnDefault a
+  pub setter : Ran s id place Setter w
+
+-- on every record, of any length: the discriminant is put into the tag, then v under the setter's mask into the slot
+abbrev pub SetHolds : Type 0
+SetHolds =
+    (s : Str) (id place : ℕ) (a : SlotAt s id place) (k : Kind) (w : Str) (v : ℕ) (r : Record) → SetCase a k w
+    → runSetter w v r ≡ setterLeaves (tagAt a) (placeAt a k) v (setterMask a k) r
+
+-- the text has a meaning on the record: it leaves one
+abbrev pub Means : Str → ℕ → Record → Type 0
+Means w v r = (left : Record) × (runSetter w v r ≡ some left)
+
+-- it has one exactly where the section holds slot and tag whole
+abbrev pub SetMeansHolds : Type 0
+SetMeansHolds =
+    (s : Str) (id place : ℕ) (a : SlotAt s id place) (k : Kind) (w : Str) (v : ℕ) (r : Record) → SetCase a k w
+    → (Holds (placeAt a k) r → TagHolds (tagAt a) r → Means w v r)
+    × (Means w v r → Holds (placeAt a k) r × TagHolds (tagAt a) r)
 
 -- ---- set and get
 
--- A case of demand 3: a Bool, numeric or enum slot, its setter's text and the text of one of its getters, both generated, a
--- value of its width, and a record that is long enough, with the slot's bits clear of its tag. Nothing is asked of what stands
--- in the record.
+-- A case of demand 3: a Bool, numeric or enum slot, its setter's text and the text of one of its getters, a value of its width,
+-- and a record that is long enough, with the slot's bits clear of its tag. Nothing is asked of what stands in the record.
 pub record Case {s : Str} {id place : ℕ} (a : SlotAt s id place) (k : Kind) (w : Str) (isReader isFn : Bool) (g : Str) (v : ℕ)
     (r : Record) : Type 0 where
   pub has-bits : kindOf (slotKind a) ≡ some k
-  pub setter : Generated s id place Setter w
-  pub getter : Generated s id place (Getter isReader isFn) g
+  pub setter : Ran s id place Setter w
+  pub getter : Ran s id place (Getter isReader isFn) g
   pub value : v < 2 ^ slotBits k
   pub long : Holds (placeAt a k) r
   pub tag-long : TagHolds (tagAt a) r
@@ -52,6 +110,20 @@ SetGetHolds =
 
 -- ---- the Void setter: just the tag
 
+-- on every record, of any length: the discriminant is put into the tag
+abbrev pub VoidHolds : Type 0
+VoidHolds =
+    (s : Str) (id place : ℕ) (a : SlotAt s id place) (w : Str) (v : ℕ) (r : Record)
+    → slotKind a ≡ 0 → Ran s id place Setter w
+    → runSetter w v r ≡ voidLeaves (tagAt a) r
+
+-- it has a meaning exactly where the section holds the tag whole, or there is none
+abbrev pub VoidMeansHolds : Type 0
+VoidMeansHolds =
+    (s : Str) (id place : ℕ) (a : SlotAt s id place) (w : Str) (v : ℕ) (r : Record)
+    → slotKind a ≡ 0 → Ran s id place Setter w
+    → (TagHolds (tagAt a) r → Means w v r) × (Means w v r → TagHolds (tagAt a) r)
+
 -- the setter's text runs, and only the tag changes: to the discriminant
 pub record VoidSet {s : Str} {id place : ℕ} (a : SlotAt s id place) (w : Str) (v : ℕ) (r : Record) : Type 0 where
   pub left : Record
@@ -59,11 +131,11 @@ pub record VoidSet {s : Str} {id place : ℕ} (a : SlotAt s id place) (w : Str) 
   pub same : Same (TagHas (tagAt a)) r left
   pub tagged : TagIs (tagAt a) left
 
--- for every Void slot whose setter is generated, and every record that holds the tag
+-- for every Void slot with a setter, and every record that holds the tag
 abbrev pub VoidSetHolds : Type 0
 VoidSetHolds =
     (s : Str) (id place : ℕ) (a : SlotAt s id place) (w : Str) (v : ℕ) (r : Record)
-    → slotKind a ≡ 0 → Generated s id place Setter w → TagHolds (tagAt a) r
+    → slotKind a ≡ 0 → Ran s id place Setter w → TagHolds (tagAt a) r
     → VoidSet a w v r
 
 -- ---- hasers
@@ -72,32 +144,12 @@ VoidSetHolds =
 abbrev pub HaserHolds : Type 0
 HaserHolds =
     (s : Str) (id place : ℕ) (a : SlotAt s id place) (isReader : Bool) (h : Str) (r : Record)
-    → isPointer (a .slot .ty) ≡ true → Generated s id place (Haser isReader) h
+    → isPointer (a .slot .ty) ≡ true → Ran s id place (Haser isReader) h
     → runHaser h r ≡ hasAnswer (tagAt a) (record { 0 = a .slot .offset }) r
 
 -- of any other slot: one newline
 abbrev pub NoHaserHolds : Type 0
 NoHaserHolds =
     (s : Str) (id place : ℕ) (a : SlotAt s id place) (isReader : Bool) (h : Str)
-    → isPointer (a .slot .ty) ≡ false → Generated s id place (Haser isReader) h
+    → isPointer (a .slot .ty) ≡ false → Ran s id place (Haser isReader) h
     → h ≡ unit 10
-
--- ---- answered bytes
-
--- the bytes between the two fill counts of an entry that is done are the text of its request
-abbrev pub AnsweredHolds : Type 0
-AnsweredHolds =
-    (s : Str) (id : ℕ) (asked : Request) (l : Str) (t : Text) (l′ : Str) (t′ : Text)
-    → Answered l t (outcomeOf (admitted s) id asked) l′ (Done t′)
-    → outcomeOf (admitted s) id asked ≡ gives (bytesBetween (t .at) (t′ .at) l′)
-
--- set and get of the bytes that two runs of the entry left, whatever buffers they were given; the other claims follow likewise
-abbrev pub AnsweredSetGetHolds : Type 0
-AnsweredSetGetHolds =
-    (s : Str) (id place : ℕ) (a : SlotAt s id place) (k : Kind) (isReader isFn : Bool)
-    (l : Str) (t : Text) (l′ : Str) (t′ : Text) (m : Str) (u : Text) (m′ : Str) (u′ : Text) (v : ℕ) (r : Record)
-    → Answered l t (outcomeOf (admitted s) id (ofField place Setter)) l′ (Done t′)
-    → Answered m u (outcomeOf (admitted s) id (ofField place (Getter isReader isFn))) m′ (Done u′)
-    → kindOf (slotKind a) ≡ some k → v < 2 ^ slotBits k
-    → Holds (placeAt a k) r → TagHolds (tagAt a) r → TagClear (tagAt a) (placeAt a k)
-    → SetGet a k (bytesBetween (t .at) (t′ .at) l′) (bytesBetween (u .at) (u′ .at) m′) v r

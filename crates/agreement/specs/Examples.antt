@@ -1,17 +1,20 @@
 -- Worked cases of the claims, computed from the bytes of a sheet: isFree with default true, the bed's status with default 2
--- without and with its flag, a Float32 with default -0.0, and members of a union. The record is sixteen bytes 165 and two
--- pointers, of which the first is null. Assumes nothing.
-use Prim.Native.Nat.{ℕ, _^_, _<_}
+-- without and with its flag, a Float32 with default -0.0, and members of a union. Each text is what a run of the entry left in a
+-- longer buffer. The record is sixteen bytes 165 and two pointers, of which the first is null; shorter ones have no value, no
+-- meaning. Assumes nothing.
+use Prim.Native.Nat.{ℕ, _+_, _^_, _<_}
 use Prim.Native.String.{String}
-use mathlib.Core.Path.{_≡_, refl, ap, _∙_}
+use mathlib.Core.Path.{_≡_, refl, sym, ap, _∙_}
 use mathlib.Core.Bool.{true, false}
 use mathlib.Core.List.{List, [], _∷_, _++_}
-use mathlib.Core.Option.{some}
+use mathlib.Core.Option.{Option, none, some}
 use native.Mathlib.Omega.{arith}
+use lib.ListN.{length, replicate}
 use Rattle.text.specs.Bytes.{Str, ascii, unit, same}
 use Rattle.text.specs.Answer as text
 use Rattle.text.specs.Decimal.{decimal, signed}
 use Rattle.text.specs.Lines.{toLines, flatMap, join, stringify}
+use Rattle.text.specs.Text.{stateAt}
 use Rattle.column.specs.Number.{trimmed, digits, unpadded, columnOf, padded}
 use Rattle.column.specs.Texts.{isWord, isGraphic, all, isName, isGraphicText, endsIn}
 use Rattle.row.specs.Rows.{rows, joined, onto, restOf}
@@ -28,7 +31,7 @@ use Rattle.tree.specs.Read.{readBinding, readScope, typeFrom, readType, valueOf
 use Rattle.tree.specs.Read.{among, overlap, fieldsUpTo, readFields, groupIds, readParams, readMembers, readNode, readNodes}
 use Rattle.tree.specs.Read.{readSheet}
 use Rattle.tree.specs.Print.{scopeCount, typeRows, wordRows, fieldRows, paramRows, nodeRows, sheetRows, printed}
-use Rattle.tree.specs.Worked.{slotWith, namedField, node, workedSheet}
+use Rattle.tree.specs.Worked.{slotOf, slotWith, namedField, node, workedSheet}
 use Rattle.codegen_types.specs.Out.{ok}
 use Rattle.codegen_types.specs.TypeString as types
 use Rattle.codegen_types.specs.TypeString.{typeString, isPointer}
@@ -38,23 +41,47 @@ use Rattle.codegen.specs.Getter.{getterText, getterRequest}
 use Rattle.codegen.specs.Haser.{generateHaser, haserRequest}
 use Rattle.codegen.specs.Setter.{generateSetter, setterRequest}
 use Rattle.nodes.specs.Index.{byId, nth}
-use Rattle.record.specs.Record.{found, stored, getBits, putBits, nullFlag, Holds}
+use Rattle.record.specs.Bits.{sectionBits}
+use Rattle.record.specs.Record.{Record, found, stored, getBits, putBits, nullFlag, get, Holds}
 use Rattle.record.specs.Types as kinds
 use Rattle.record.specs.Types.{uint, float32, Kind, bool, num, kindOf, slotBits}
 use Rattle.record.specs.declared.Width.the-variants.{One}
-use Rattle.meaning.specs.Claims.{TagHolds, TagClear}
+use Rattle.meaning.specs.Claims.{TagHolds, TagClear, setterLeaves}
 use Rattle.meaning.specs.Examples.{some16}
 use Rattle.meaning.specs.Reading.{bindO, typeName, truth, getMaskOf, setMaskOf, dataArg, boolArg}
 use Rattle.meaning.specs.Meaning.{writes, gets, getsIn, tests, runOp, runLine, runLines, runSetter, runGetter, testsOf, runTests}
 use Rattle.meaning.specs.Meaning.{runHaser}
-use Rattle.requests.specs.Requests.{fieldAt, accessorText, ofField, outcomeOf, outcome}
+use Rattle.requests.specs.Requests.{fieldAt, accessorText, ofField, refuses, outcomeOf, outcome}
 use Rattle.requests.specs.Requests as requests
 use Rattle.requests.specs.Told.{Answered}
 use Rattle.requests.specs.declared.Answer.the-variants.{Done}
 use Rattle.requests.specs.declared.Accessor.{Accessor}
 use Rattle.requests.specs.declared.Accessor.the-variants.{Getter, Setter, Haser}
-use Rattle.agreement.specs.Slots.{Generated, SlotAt, slotKind, tagAt, placeAt, expectedAt}
-use Rattle.agreement.specs.Claims.{Case}
+use Rattle.agreement.specs.Slots.{Generated, bytesBetween, Ran, SlotAt, slotKind, tagAt, placeAt, setterMask, expectedAt}
+use Rattle.agreement.specs.Claims.{SetCase, Case}
+
+-- ---- runs of the entry
+
+-- a buffer with six bytes in front of a text, and six behind it
+abbrev pub around : Str → Str
+around w = ascii "before" ++ w ++ ascii "behind"
+
+-- what is left to compute of a run that puts a text into such a buffer, zeros where it will stand, at the fill count 6
+abbrev pub Put : Str → Type 0
+Put w =
+    let l = around (replicate (length w) 0) in
+    _≡_ {A = text.Answer × Str × Str} (text.answerOf l 6 w, text.bufferOf l 6 w, bytesBetween 6 (6 + length w) (around w))
+    (text.done (6 + length w), around w, w)
+
+pub ran-of : (s : Str) (id place : ℕ) (a : Accessor) (w : Str) → Generated s id place a w → Put w → Ran s id place a w
+ran-of s id place a w e p = record {
+  buffer = around (replicate (length w) 0);
+  state = stateAt 6;
+  left = around w;
+  after = stateAt (6 + length w);
+  answered = rw e (record { answer = sym (ap (λ x. x .0) p); buffer = sym (ap (λ x. x .1) p) });
+  bytes = sym (ap (λ x. x .2) p);
+}
 
 -- ---- the sheet
 
@@ -83,6 +110,10 @@ guest = slotWith (plain 12) 1 0 0
 abbrev vacant : Slot
 vacant = slotWith (plain 0) 0 0 0
 
+-- a Bool at 5 whose V line is an Int8's
+abbrev odd : Slot
+odd = slotOf (plain 1) 5 1 2 3 []
+
 abbrev bed : Node
 bed = node 7 "bed" 3 4 (
     namedField "isFree" 65535 (slot isFree)
@@ -92,6 +123,7 @@ bed = node 7 "bed" 3 4 (
     ∷ namedField "nights" 1 (slot nights)
     ∷ namedField "guest" 42405 (slot guest)
     ∷ namedField "vacant" 2 (slot vacant)
+    ∷ namedField "odd" 65535 (slot odd)
     ∷ [])
 
 -- with the enum
@@ -129,6 +161,11 @@ slotAt place f s e h = record {
 given-bytes : (place : ℕ) (a : Accessor) (w : Str) → requests.requestText tree 7 (ofField place a) ≡ ok w
     → Generated bytes 7 place a w
 given-bytes place a w e = ap (λ x. outcomeOf x 7 (ofField place a)) is-admitted ∙ ap outcome e
+
+-- and a run of the entry leaves it
+ran-bytes : (place : ℕ) (a : Accessor) (w : Str) → requests.requestText tree 7 (ofField place a) ≡ ok w → Put w
+    → Ran bytes 7 place a w
+ran-bytes place a w e p = ran-of bytes 7 place a w (given-bytes place a w e) p
 
 -- ---- set and get
 
@@ -223,17 +260,18 @@ module _ (x : Example) (e : fieldAt (tree .nodes) 7 (x .place) ≡ ok (bed, x .f
       kindOf (slotKind here) ≡ some (x .kind)
       → requests.requestText tree 7 (ofField (x .place) Setter) ≡ ok (x .setter)
       → requests.requestText tree 7 (ofField (x .place) (Getter true false)) ≡ ok (x .getter)
+      → Put (x .setter) → Put (x .getter)
       → x .writes < 2 ^ slotBits (x .kind) → Holds (placeAt here (x .kind)) some16 → TagHolds (tagAt here) some16
       → TagClear (tagAt here) (placeAt here (x .kind))
       → expectedAt here (x .kind) (x .writes) ≡ x .reads
       → bindO (runSetter (x .setter) (x .writes) some16) (runGetter (x .getter)) ≡ some (x .reads)
       → Worked x
-  worked k s g v l t c r u = record {
+  worked k s g p q v l t c r u = record {
     at = here;
     case = record {
       has-bits = k;
-      setter = given-bytes (x .place) Setter (x .setter) s;
-      getter = given-bytes (x .place) (Getter true false) (x .getter) g;
+      setter = ran-bytes (x .place) Setter (x .setter) s p;
+      getter = ran-bytes (x .place) (Getter true false) (x .getter) g q;
       value = v;
       long = l;
       tag-long = t;
@@ -248,26 +286,102 @@ pub all-worked : All (free 1 ∷ free 0 ∷ noFlag ∷ withFlag ∷ negativeZero
 unfolding fieldAt byId nth accessorText same isAscii taken snakeFrom camelToSnakeCase typeString types.nodeOf getBoolField
     getDataField setBoolField setDataField primDefault getterMask getterText getterRequest generateSetter setterRequest
     toLines flatMap join stringify decimal signed kindOf found stored getBits putBits typeName truth getMaskOf setMaskOf
-    dataArg boolArg writes gets getsIn runOp runLine runLines runSetter runGetter
+    dataArg boolArg writes gets getsIn runOp runLine runLines runSetter runGetter text.answerOf text.bufferOf text.placed
 all-worked =
-    add (worked (free 1) refl refl refl refl refl (omega arith) (omega arith) tt tt refl refl)
-    (add (worked (free 0) refl refl refl refl refl (omega arith) (omega arith) tt tt refl refl)
-    (add (worked noFlag refl refl refl refl refl (omega arith) (omega arith) tt tt refl refl)
-    (add (worked withFlag refl refl refl refl refl (omega arith) (omega arith) tt tt refl refl)
-    (add (worked negativeZero refl refl refl refl refl (omega arith) (omega arith) tt tt refl refl)
-    (add (worked member refl refl refl refl refl (omega arith) (omega arith) (omega arith) (λ b h g. omega arith) refl refl)
+    add (worked (free 1) refl refl refl refl refl refl refl (omega arith) (omega arith) tt tt refl refl)
+    (add (worked (free 0) refl refl refl refl refl refl refl (omega arith) (omega arith) tt tt refl refl)
+    (add (worked noFlag refl refl refl refl refl refl refl (omega arith) (omega arith) tt tt refl refl)
+    (add (worked withFlag refl refl refl refl refl refl refl (omega arith) (omega arith) tt tt refl refl)
+    (add (worked negativeZero refl refl refl refl refl refl refl (omega arith) (omega arith) tt tt refl refl)
+    (add
+    (worked member refl refl refl refl refl refl refl (omega arith) (omega arith) (omega arith) (λ b h g. omega arith) refl refl)
     nil)))))
+
+-- ---- a getter alone, a setter alone
+
+-- isFree at its place
+pub freeAt : SlotAt bytes 7 0
+unfolding fieldAt byId nth
+freeAt = slotAt 0 (namedField "isFree" 65535 (slot isFree)) isFree refl refl
+
+-- three bits
+abbrev threeBits : Record
+threeBits = record { bits = true ∷ false ∷ true ∷ []; pointers = [] }
+
+-- The getter of isFree gives its bit, 0 in a byte 165, exclusive or its default true; on a record that does not reach to its bit
+-- it has no value.
+pub free-read :
+    (kindOf (slotKind freeAt) ≡ some bool) × Ran bytes 7 0 (Getter true false) (free 1 .getter)
+    × (runGetter (free 1 .getter) some16 ≡ some 1) × (get (placeAt freeAt bool) 1 some16 ≡ some 1)
+    × (runGetter (free 1 .getter) threeBits ≡ none) × (get (placeAt freeAt bool) 1 threeBits ≡ none)
+unfolding freeAt fieldAt byId nth accessorText typeString getBoolField getterMask getterText getterRequest toLines flatMap join
+    stringify decimal kindOf found getBits typeName truth getMaskOf gets getsIn runGetter text.answerOf text.bufferOf text.placed
+free-read = (refl, ran-bytes 0 (Getter true false) (free 1 .getter) refl refl, refl, refl, refl, refl)
+
+-- nights, a member of the union, at its place
+pub nightsAt : SlotAt bytes 7 4
+unfolding fieldAt byId nth
+nightsAt = slotAt 4 (namedField "nights" 1 (slot nights)) nights refl refl
+
+abbrev uint8 : Kind
+uint8 = num (uint One)
+
+pub nights-case : SetCase nightsAt uint8 (member .setter)
+unfolding nightsAt fieldAt byId nth accessorText isAscii taken snakeFrom camelToSnakeCase typeString setDataField primDefault
+    generateSetter setterRequest toLines flatMap join stringify decimal kindOf text.answerOf text.bufferOf text.placed
+nights-case = record {
+  has-bits = refl;
+  own-default = refl;
+  setter = ran-bytes 4 Setter (member .setter) refl refl;
+}
+
+-- of the sixteen bytes its setter leaves, with 9: 9 in the first, 1 in the two of the tag
+abbrev nine : Record
+nine = record {
+  bits = sectionBits ((9 ∷ replicate 7 165) ++ (1 ∷ 0 ∷ replicate 6 165));
+  pointers = some16 .pointers;
+}
+
+abbrev leaves : Record → Option Record
+leaves = setterLeaves (tagAt nightsAt) (placeAt nightsAt uint8) 9 (setterMask nightsAt uint8)
+
+-- one byte holds the slot and not the tag
+abbrev oneByte : Record
+oneByte = record { bits = sectionBits (165 ∷ []); pointers = [] }
+
+-- its setter leaves that, and on one byte it has no meaning
+pub nights-set :
+    (runSetter (member .setter) 9 some16 ≡ some nine) × (leaves some16 ≡ some nine) × Holds (placeAt nightsAt uint8) oneByte
+    × (runSetter (member .setter) 9 oneByte ≡ none) × (leaves oneByte ≡ none)
+unfolding nightsAt found stored getBits putBits typeName truth setMaskOf dataArg boolArg writes runOp runLine runLines runSetter
+nights-set = (refl, refl, omega arith, refl, refl)
+
+-- A default that is not of the slot's kind: there is no getter, and the setter masks with what is no Bool, so that it has no
+-- meaning where its bit is held.
+abbrev oddSetter : Str
+oddSetter = setterWith "odd(&mut self, value: bool" "    self.builder.set_bool_field_mask(5, value, 3);\n"
+
+pub odd-worked :
+    (outcomeOf (admitted bytes) 7 (ofField 7 (Getter true false)) ≡ refuses 10 0) × Ran bytes 7 7 Setter oddSetter
+    × (runSetter oddSetter 1 some16 ≡ none)
+unfolding fieldAt byId nth accessorText isAscii taken snakeFrom camelToSnakeCase typeString getterText getterRequest setBoolField
+    primDefault generateSetter setterRequest toLines flatMap join stringify decimal signed typeName truth setMaskOf dataArg
+    boolArg writes runOp runLine runLines runSetter text.answerOf text.bufferOf text.placed
+odd-worked = (ap (λ x. outcomeOf x 7 (ofField 7 (Getter true false))) is-admitted, ran-bytes 7 Setter oddSetter refl refl, refl)
 
 -- ---- the Void setter and hasers
 
 abbrev vacantSetter : Str
 vacantSetter = setterWith "vacant(&mut self, _value: ()" "    self.builder.set_data_field::<u16>(4, 2);\n"
 
--- a Void member of the union
-pub vacant-worked : (kind (vacant .ty) ≡ 0) × Generated bytes 7 6 Setter vacantSetter × TagHolds (some (4, 2)) some16
+-- a Void member of the union: on a record without its tag its setter has no meaning
+pub vacant-worked :
+    (kind (vacant .ty) ≡ 0) × Ran bytes 7 6 Setter vacantSetter × TagHolds (some (4, 2)) some16
+    × (runSetter vacantSetter 0 oneByte ≡ none)
 unfolding fieldAt byId nth accessorText isAscii taken snakeFrom camelToSnakeCase setDataField generateSetter setterRequest toLines
-    flatMap join stringify decimal
-vacant-worked = (refl, given-bytes 6 Setter vacantSetter refl, omega arith)
+    flatMap join stringify decimal stored putBits typeName truth dataArg boolArg writes runOp runLine runLines runSetter
+    text.answerOf text.bufferOf text.placed
+vacant-worked = (refl, ran-bytes 6 Setter vacantSetter refl refl, omega arith, refl)
 
 abbrev guestHaser : Str
 guestHaser =
@@ -277,15 +391,21 @@ guestHaser =
 
 -- a pointer in the union, whose tag is 42405 = 165 * 257: the second pointer is not null
 pub guest-worked :
-    (isPointer (guest .ty) ≡ true) × Generated bytes 7 5 (Haser true) guestHaser × (runHaser guestHaser some16 ≡ some true)
+    (isPointer (guest .ty) ≡ true) × Ran bytes 7 5 (Haser true) guestHaser × (runHaser guestHaser some16 ≡ some true)
 unfolding fieldAt byId nth accessorText isAscii taken snakeFrom camelToSnakeCase notNull tagTest generateHaser haserRequest
-    toLines
-    flatMap join stringify decimal found getBits nullFlag typeName tests testsOf runTests runHaser
-guest-worked = (refl, given-bytes 5 (Haser true) guestHaser refl, refl)
+    toLines flatMap join stringify decimal found getBits nullFlag typeName tests testsOf runTests runHaser text.answerOf
+    text.bufferOf text.placed
+guest-worked = (refl, ran-bytes 5 (Haser true) guestHaser refl refl, refl)
+
+-- the haser of a Bool is one newline
+pub no-haser-worked : (isPointer (isFree .ty) ≡ false) × Ran bytes 7 0 (Haser true) (unit 10)
+unfolding fieldAt byId nth accessorText generateHaser haserRequest toLines flatMap join stringify text.answerOf text.bufferOf
+    text.placed
+no-haser-worked = (refl, ran-bytes 0 (Haser true) (unit 10) refl refl)
 
 -- ---- answered bytes
 
--- the haser of a Bool, one newline, put into three bytes at 1
+-- the haser of a Bool, put into three bytes at 1
 pub answered-worked :
     Answered (0 ∷ 0 ∷ 0 ∷ []) (record { at = 1 }) (outcomeOf (admitted bytes) 7 (ofField 0 (Haser true))) (0 ∷ 10 ∷ 0 ∷ [])
     (Done (record { at = 2 }))

@@ -6,16 +6,20 @@ use Prim.Native.Nat.{ℕ, _-_}
 use lib.Dec.{eqb}
 use lib.ListN.{take, drop}
 use Rattle.text.specs.Bytes.{Str, cond}
+use Rattle.text.specs.declared.Text.{Text}
 use Rattle.tree.specs.Tree as arm
 use Rattle.tree.specs.Tree.{Slot, Field, Node, Sheet}
 use Rattle.tree.specs.Read.{sheet, admitted}
 use Rattle.codegen_types.specs.Out.{ok}
 use Rattle.record.specs.Lines.{Tag}
+use Rattle.record.specs.Masks.{setMask, maskBits}
 use Rattle.record.specs.Offsets.{Place}
 use Rattle.record.specs.Types.{Kind, placeOf}
 use Rattle.meaning.specs.Claims.{expected}
 use Rattle.requests.specs.Requests.{fieldAt, ofField, gives, outcomeOf}
+use Rattle.requests.specs.Told.{Answered}
 use Rattle.requests.specs.declared.Accessor.{Accessor}
+use Rattle.requests.specs.declared.Answer.the-variants.{Done}
 
 -- generated: the request for an accessor gets a text, given room
 abbrev pub Generated : Str → ℕ → ℕ → Accessor → Str → Type 0
@@ -24,6 +28,16 @@ Generated s id place accessor w = outcomeOf (admitted s) id (ofField place acces
 -- the bytes of a buffer from one fill count up to another
 abbrev pub bytesBetween : ℕ → ℕ → Str → Str
 bytesBetween from upto l = take (upto - from) (drop from l)
+
+-- w are the answered bytes of an accessor: a run of the entry, over any buffer and at any state, is done and left them between
+-- its two fill counts
+pub record Ran (s : Str) (id place : ℕ) (accessor : Accessor) (w : Str) : Type 0 where
+  pub buffer : Str
+  pub state : Text
+  pub left : Str
+  pub after : Text
+  pub answered : Answered buffer state (outcomeOf (admitted s) id (ofField place accessor)) left (Done after)
+  pub bytes : w ≡ bytesBetween (state .at) (after .at) left
 
 -- a tag: none where the discriminant is 65535, else the 16 bits at the node's tag offset
 abbrev pub tagOf : ℕ → ℕ → Option Tag
@@ -55,6 +69,14 @@ module _ {s : Str} {id place : ℕ} (a : SlotAt s id place) where
   -- its bits, as a slot of kind k
   abbrev pub placeAt : Kind → Place
   placeAt k = placeOf k (a .slot .offset)
+
+  -- its V line is of its T line's kind
+  abbrev pub OwnDefault : Type 0
+  OwnDefault = a .slot .default .kind ≡ slotKind
+
+  -- the bits that its setter masks with, 0 where it has no mask
+  abbrev pub setterMask : Kind → ℕ
+  setterMask k = maskBits (setMask k (a .slot .default .bits) (isExplicit (a .slot)))
 
   -- what the value v reads as
   abbrev pub expectedAt : Kind → ℕ → ℕ

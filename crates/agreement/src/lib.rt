@@ -1,10 +1,13 @@
 // Demand 3 from the answered bytes of the public entry: what the texts of one slot's accessors do to a record. The statements
 // stand in specs/ and the laws in proofs/; there is nothing to run.
-ghost use Rattle.agreement.specs.Claims.{SetGetHolds, VoidSetHolds, HaserHolds, NoHaserHolds};
-ghost use Rattle.agreement.specs.Claims.{AnsweredHolds, AnsweredSetGetHolds};
+ghost use Rattle.agreement.specs.Claims.{AnsweredHolds, RanHolds, GetHolds, OwnDefaultHolds, SetHolds, SetMeansHolds};
+ghost use Rattle.agreement.specs.Claims.{SetGetHolds, VoidHolds, VoidMeansHolds, VoidSetHolds, HaserHolds, NoHaserHolds};
 
-// Makes the claims a promise of this crate: set and get, the Void setter, hasers, that the bytes which a caller holds are the
-// request's text, and set and get from those bytes.
+// Makes the claims a promise of this crate: that the bytes which a caller holds are the request's text; a getter alone, a setter
+// alone, and one after the other; the Void setter; hasers.
 pub fn claims()
-    ensures { λ r. ⌜ SetGetHolds × VoidSetHolds × HaserHolds × NoHaserHolds × AnsweredHolds × AnsweredSetGetHolds ⌝ }
+    ensures answered { λ r. ⌜ AnsweredHolds × RanHolds ⌝ }
+    ensures slots { λ r. ⌜ GetHolds × OwnDefaultHolds × SetHolds × SetMeansHolds × SetGetHolds ⌝ }
+    ensures voids { λ r. ⌜ VoidHolds × VoidMeansHolds × VoidSetHolds ⌝ }
+    ensures hasers { λ r. ⌜ HaserHolds × NoHaserHolds ⌝ }
 {}

@@ -15,7 +15,6 @@ use Rattle.tree.specs.Tree.{Slot, Arm, slot, group, Field, Node, Sheet}
 use Rattle.codegen_types.specs.Out.{Out, ok, refused, _then_}
 use Rattle.codegen_types.specs.TypeString.{isPointer, nodeOf}
 use Rattle.calls.specs.Calls.{zeroTag}
-use Rattle.codegen.specs.Given.{Given}
 use Rattle.codegen.specs.Zeroing.{Zeroing, zeroLine, contains, push, noPush, zeroSlot, zeroField, zeroFields, zeroNode}
 use Rattle.codegen.specs.Zeroing.{zeroFieldsOfGroup}
 use Rattle.record.specs.Lines.{Zero, ofTag, zeroingLine, zeroTexts}
@@ -99,6 +98,11 @@ module _ (Due More : Str → Type 0) (seen : List Str) where
       go l (inr y) = d .due l y
 
 -- ---- code that may be refused
+
+-- P holds of what a function of the Rust gives, where it gives something
+abbrev pub Given : {A : Type 0} → Out A → (A → Type 0) → Type 0
+Given (ok a) P = P a
+Given (refused k) P = Unit {0}
 
 abbrev CoversAfter : (Str → Type 0) → List Str → Out Zeroing → Type 0
 CoversAfter Due seen o = Given o (λ z. Covers Due seen (z .result))

@@ -1,13 +1,12 @@
 -- The record that a group's zeroing leaves: what crate meaning claims of its zeros, for each slot inside the group. Assumes
 -- nothing.
-use mathlib.Core.Path.{_≡_, refl, sym, ap, _∙_}
+use mathlib.Core.Path.{_≡_, refl, ap, _∙_}
 use mathlib.Core.Bool.{Bool, true, false}
 use mathlib.Core.Logic.{_⊎_, inl, inr}
 use mathlib.Core.Option.{Option, none, some}
 use mathlib.Core.List.{[]}
 use Prim.Native.Nat.{ℕ, _^_, _<_}
 use native.Mathlib.Omega.{arith}
-use borrow.Author.Tests.{eqb-true}
 use lib.Dec.{eqb}
 use lib.ListN.{length, getD}
 use Rattle.text.specs.Bytes.{Str, cond}
@@ -17,22 +16,22 @@ use Rattle.tree.specs.Read.{sheet, admitted}
 use Rattle.codegen_types.specs.Out.{Out, ok, refused, _then_}
 use Rattle.codegen_types.specs.TypeString.{isPointer}
 use Rattle.calls.specs.Calls.{clearPointer}
-use Rattle.codegen.specs.Given.{Given}
 use Rattle.codegen.specs.Zeroing as codegen
 use Rattle.codegen.specs.Zeroing.{Zeroing, zeroFieldsOfGroup, zeroingRequest}
 use Rattle.record.specs.Lines.{Tag, getLine, getterLines, zeroCall, zeroTexts}
-use Rattle.record.specs.Masks.{getMask, getMaskText, maskBits}
+use Rattle.record.specs.Masks.{getMask, getMaskText}
 use Rattle.record.specs.Record.{Record, mapO, null}
 use Rattle.record.specs.Types.{Kind, slotBits, kindOf}
 use Rattle.meaning.specs.Claims as meaning
 use Rattle.meaning.specs.Claims.{In, hasAnswer}
 use Rattle.meaning.specs.Meaning.{whole, runGetter, runZeroing}
+use Rattle.meaning.proofs.MaskLaws.{get-mask-bits}
 use Rattle.meaning.proofs.ZeroLaws.{zeroing-holds}
 use Rattle.agreement.specs.Slots.{SlotAt}
-use Rattle.agreement.proofs.SetGetLaws.{get-fits}
+use Rattle.agreement.proofs.AloneLaws.{get-fits}
 use Rattle.agreement_zeroing.specs.Zeroing.{Inside, EachWrite, LongEnough, SparesBit, SparesPointer, TagReads}
 use Rattle.agreement_zeroing.proofs.LineLaws.{slot-line, pointer-line}
-use Rattle.agreement_zeroing.proofs.GroupLaws.{Covers, Due, group-covers}
+use Rattle.agreement_zeroing.proofs.GroupLaws.{Given, Covers, Due, group-covers}
 use Rattle.agreement_zeroing.proofs.InsideLaws.{due-inside}
 use Rattle.agreement_zeroing.proofs.TextLaws.{holds-zeros, spares-bit, spares-pointer}
 
@@ -54,14 +53,6 @@ run-of s tree is g w e r long = go (zeroFieldsOfGroup tree 16 g) (group-covers t
         → (o then λ z. ok (stringify (Branch (z .result)))) ≡ ok w → Run s g w r
     go (ok z) c e = record { tree = tree; is-admitted = is; code = z .result; text = cc; covers = c; long = long }
     go (refused k) c e = let z : _≡_ {A = ℕ} 0 1 = cc in absurd (omega arith)
-
--- the bits of a getter's mask are its default's
-default-bits : (k : Kind) (d : ℕ) (explicit : Bool) → maskBits (getMask k d explicit) ≡ d
-default-bits k d explicit = go (eqb d 0) refl
-  where
-    go : (b : Bool) → eqb d 0 ≡ b → maskBits (cond b none (some d)) ≡ d
-    go true e = sym (eqb-true d 0 e)
-    go false e = refl
 
 module _ {s : Str} {g : ℕ} {w : Str} {r : Record} (c : Run s g w r) where
   zeroed : meaning.TextZeroed (c .covers .zeros) (Branch (c .code)) r
@@ -113,7 +104,7 @@ module _ {s : Str} {g : ℕ} {w : Str} {r : Record} (c : Run s g w r) where
         let d : ℕ = a .slot .default .bits in
         zeroed .defaults k (a .slot .offset) (among (zeroCall k (a .slot .offset)) (slot-line (a .slot) k e))
         (getMask k d explicit) (get-fits k d explicit fits) typ one isReader
-        ∙ ap some (default-bits k d explicit)
+        ∙ ap some (get-mask-bits k d explicit)
 
     pub absent : isPointer (a .slot .ty) ≡ true → null (record { 0 = a .slot .offset }) left ≡ some true
     unfolding left

@@ -1,5 +1,5 @@
 -- A worked sheet, computed: a group in a group, whose slots share an offset, on a record that holds something else
--- than their defaults. Assumes nothing.
+-- than their defaults. The texts are what runs of the entry left. Assumes nothing.
 use Prim.Native.Nat.{ℕ}
 use mathlib.Core.Path.{_≡_, refl}
 use mathlib.Core.Bool.{Bool, true, false}
@@ -8,6 +8,7 @@ use mathlib.Core.Option.{Option, none, some}
 use native.Mathlib.Omega.{arith}
 use lib.ListN.{replicate}
 use Rattle.text.specs.Bytes.{Str, ascii, same}
+use Rattle.text.specs.Answer as text
 use Rattle.text.specs.Decimal.{decimal}
 use Rattle.text.specs.Lines.{toLines, flatMap, join, stringify}
 use Rattle.names.specs.Names.{isAscii, taken, snakeFrom, camelToSnakeCase}
@@ -28,7 +29,7 @@ use Rattle.tree.specs.Read.{readNodes, readSheet}
 use Rattle.tree.specs.Print.{scopeCount, typeRows, wordRows, fieldRows, paramRows, nodeRows, sheetRows, printed}
 use Rattle.tree.specs.Worked.{slotWith, namedField, loneSlot, workedNode, node, workedSheet}
 use Rattle.codegen_types.specs.TypeString as types
-use Rattle.codegen_types.specs.TypeString.{typeString}
+use Rattle.codegen_types.specs.TypeString.{typeString, isPointer}
 use Rattle.calls.specs.Calls.{setBoolField, setDataField, clearPointer, getBoolField, getDataField, notNull, tagTest}
 use Rattle.codegen.specs.Default.{getterMask}
 use Rattle.codegen.specs.Getter.{getterText, getterRequest}
@@ -38,14 +39,15 @@ use Rattle.nodes.specs.Index.{byId, nth}
 use Rattle.requests.specs.Requests as requests
 use Rattle.requests.specs.Requests.{accessorText, ofField, Outcome, gives, refuses, outcomeOf}
 use Rattle.requests.specs.declared.Accessor.the-variants.{Getter, Haser, Zeroing}
-use Rattle.agreement.specs.Slots.{Generated, SlotAt, slotKind}
+use Rattle.agreement.specs.Examples.{ran-of}
+use Rattle.agreement.specs.Slots.{Ran, SlotAt, slotKind, tagAt}
 use Rattle.record.specs.Record.{Record, found, stored, getBits, putBits, nullFlag, clearFlag}
 use Rattle.record.specs.Types as kinds
 use Rattle.record.specs.Types.{kindOf}
 use Rattle.meaning.specs.Reading.{typeName, truth, getMaskOf, dataArg, boolArg}
 use Rattle.meaning.specs.Meaning.{writes, gets, getsIn, tests, runOp, runLine, runLines, runGetter, runZeroing}
 use Rattle.meaning.specs.Meaning.{testsOf, runTests, runHaser}
-use Rattle.agreement_zeroing.specs.Zeroing.{GroupAt, Inside, here, deeper, LongEnough}
+use Rattle.agreement_zeroing.specs.Zeroing.{GroupAt, Inside, here, deeper, LongEnough, TagReads}
 
 -- A ward has a group bed, and that has a group state. The bed's rank (default 7) and the state's status (default 2) and isFree
 -- (default true) share bits; note is a pointer in the bed's union.
@@ -122,11 +124,10 @@ zeroText =
     ++ ascii "self.builder.set_data_field::<u16>(2, 0u16);\n"
     ++ ascii "self.builder.set_bool_field(35, false);\n"
 
-generated : Generated wardBytes 1 0 Zeroing zeroText
+zeroing-ran : Ran wardBytes 1 0 Zeroing zeroText
 unfolding requests.fieldAt byId nth accessorText zeroingRequest zeroFieldsOfGroup zeroFields zeroLine contains types.nodeOf
-    same stringify join toLines flatMap
-    decimal setBoolField setDataField clearPointer
-generated = rw ward-read refl
+    same stringify join toLines flatMap decimal setBoolField setDataField clearPointer text.answerOf text.bufferOf text.placed
+zeroing-ran = ran-of wardBytes 1 0 Zeroing zeroText (rw ward-read refl) refl
 
 -- six bytes, of which the tag's are zero, and a pointer that is not null
 abbrev before : Record
@@ -158,10 +159,34 @@ statusText =
     ascii "::core::result::Result<ward::Status,::capnp::NotInSchema>\n"
     ++ ascii "::core::convert::TryFrom::try_from(self.reader.get_data_field_mask::<u16>(2, 2))\n"
 
-status-given : Generated wardBytes 3 0 (Getter true false) statusText
+status-ran : Ran wardBytes 3 0 (Getter true false) statusText
 unfolding requests.fieldAt byId nth accessorText getterRequest getterText typeString types.nodeOf getterMask getDataField decimal
-    stringify join toLines flatMap
-status-given = rw ward-read refl
+    stringify join toLines flatMap text.answerOf text.bufferOf text.placed
+status-ran = ran-of wardBytes 3 0 (Getter true false) statusText (rw ward-read refl) refl
+
+-- the pointer slot, and its haser
+noteSlot : SlotAt wardBytes 2 1
+unfolding requests.fieldAt byId nth
+noteSlot = record {
+  tree = ward;
+  node = bedNode;
+  field = note;
+  slot = slotWith (plain 12) 0 0 0;
+  is-admitted = ward-read;
+  is-found = refl;
+  is-slot = refl;
+}
+
+abbrev noteText : Str
+noteText =
+    ascii "#[inline]\npub fn has_note(&self) -> bool {\n"
+    ++ ascii "    if self.reader.get_data_field::<u16>(1) != 0 { return false; }\n"
+    ++ ascii "    !self.reader.get_pointer_field(0).is_null()\n}\n"
+
+note-ran : (isPointer (noteSlot .slot .ty) ≡ true) × Ran wardBytes 2 1 (Haser true) noteText
+unfolding noteSlot requests.fieldAt byId nth accessorText haserRequest generateHaser camelToSnakeCase taken isAscii snakeFrom
+    notNull tagTest decimal stringify join toLines flatMap text.answerOf text.bufferOf text.placed
+note-ran = (refl, ran-of wardBytes 2 1 (Haser true) noteText (rw ward-read refl) refl)
 
 -- ---- what is left
 
@@ -171,6 +196,11 @@ after = record { bits = replicate 16 true ++ replicate 32 false; pointers = fals
 runs : runZeroing zeroText before ≡ some after
 unfolding found stored putBits clearFlag typeName truth dataArg boolArg writes runOp runLine runLines runZeroing
 runs = refl
+
+-- its tag can be read there
+note-tag : TagReads (tagAt noteSlot) after
+unfolding noteSlot found getBits
+note-tag = (0, refl)
 
 -- what a getter's and a haser's text answer on a record
 abbrev reads : Record → Outcome → Option ℕ

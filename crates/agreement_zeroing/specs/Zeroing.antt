@@ -1,5 +1,5 @@
--- Demand 3 of a group's zeroing, from the bytes that are answered: what stands inside the group, what its text touches, and what
--- is claimed of the record that it leaves. Assumes nothing.
+-- Demand 3 of a group's zeroing, from texts as runs of the entry left them: what stands inside the group, what its text touches,
+-- and what is claimed of the record that it leaves. Assumes nothing.
 use Prim.Native.Nat.{ℕ}
 use mathlib.Core.Path.{_≡_}
 use mathlib.Core.Bool.{Bool, true, false}
@@ -18,7 +18,7 @@ use Rattle.record.specs.Types.{Kind, kindOf, tagPlace}
 use Rattle.meaning.specs.Meaning.{Op, setOp, clearOp, writes, lines, trim, runGetter, runHaser, runZeroing}
 use Rattle.requests.specs.Requests.{fieldAt}
 use Rattle.requests.specs.declared.Accessor.the-variants.{Getter, Haser, Zeroing}
-use Rattle.agreement.specs.Slots.{Generated, SlotAt, slotKind, tagAt}
+use Rattle.agreement.specs.Slots.{Ran, SlotAt, slotKind, tagAt}
 
 -- ---- the slots of a group
 
@@ -84,19 +84,19 @@ pub record Zeroed (s : Str) (g : ℕ) (w : Str) (r : Record) : Type 0 where
   pub runs : runZeroing w r ≡ some left
   pub defaults : {id : ℕ} → Inside s g id → (place : ℕ) (a : SlotAt s id place)
       → (k : Kind) → kindOf (slotKind a) ≡ some k
-      → (isReader isFn : Bool) (t : Str) → Generated s id place (Getter isReader isFn) t
+      → (isReader isFn : Bool) (t : Str) → Ran s id place (Getter isReader isFn) t
       → runGetter t left ≡ some (a .slot .default .bits)
   pub absent : {id : ℕ} → Inside s g id → (place : ℕ) (a : SlotAt s id place) → isPointer (a .slot .ty) ≡ true
       → null (record { 0 = a .slot .offset }) left ≡ some true
   pub hasers : {id : ℕ} → Inside s g id → (place : ℕ) (a : SlotAt s id place) → isPointer (a .slot .ty) ≡ true
-      → (isReader : Bool) (h : Str) → Generated s id place (Haser isReader) h
+      → (isReader : Bool) (h : Str) → Ran s id place (Haser isReader) h
       → TagReads (tagAt a) left → runHaser h left ≡ some false
   pub lengths : (length (left .bits) ≡ length (r .bits)) × (length (left .pointers) ≡ length (r .pointers))
   pub bits-same : (b : ℕ) → EachWrite (SparesBit b) w → getD (left .bits) b false ≡ getD (r .bits) b false
   pub pointers-same : (j : ℕ) → EachWrite (SparesPointer j) w → getD (left .pointers) j false ≡ getD (r .pointers) j false
 
--- for every sheet, every group of it whose zeroing is generated, and every record that is long enough for the text
+-- for every sheet, every group of it with a zeroing, and every record that is long enough for the text
 abbrev pub ZeroingHolds : Type 0
 ZeroingHolds =
-    (s : Str) (id place : ℕ) (a : GroupAt s id place) (w : Str) → Generated s id place Zeroing w
+    (s : Str) (id place : ℕ) (a : GroupAt s id place) (w : Str) → Ran s id place Zeroing w
     → (r : Record) → LongEnough w r → Zeroed s (a .group) w r

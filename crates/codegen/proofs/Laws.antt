@@ -2,47 +2,57 @@
 use mathlib.Core.Path.{_≡_, refl, sym, ap, _∙_}
 use mathlib.Core.Bool.{Bool, true, false}
 use mathlib.Core.Option.{Option}
-use mathlib.Core.List.{List, [], _++_, append-assoc}
-use Prim.Native.Nat.{ℕ, _*_}
+use mathlib.Core.List.{[], _++_, append-assoc}
+use Prim.Native.Nat.{ℕ, _*_, _<_, _≤_}
 use native.Mathlib.Omega.{arith}
-use borrow.Author.Tests.{ne-eqb}
+use borrow.Author.Tests.{ne-eqb, eqb-false, le-leb, lt-leb, leb-false}
 use lib.Dec.{eqb, leb}
 use Rattle.text.specs.Bytes.{Str, ascii, unit, cond, both}
 use Rattle.text.specs.Lines.{FormattedTexts, Branch, Line, none, _&_, spaces, toLines, flatMap, stringify, ended}
 use Rattle.text.proofs.LinesLaws.{ended-append, stringify-lines}
-use Rattle.text.specs.Text.{Wrote}
 use Rattle.names.specs.Names.{camelToSnakeCase}
-use Rattle.text.specs.declared.Text.{Text}
 use Rattle.tree.specs.Tree.{Slot, kind}
 use Rattle.codegen_types.specs.Out.{Out, ok, refused}
-use Rattle.codegen_types.specs.TypeString.{isPointer}
+use Rattle.codegen_types.specs.TypeString.{isPointerKind}
 use Rattle.calls.specs.Calls.{notNull, tagTest}
-use Rattle.codegen.specs.Given.{Given}
+use Rattle.codegen.specs.Mask.{maskOr}
 use Rattle.codegen.specs.Default.{value, integer, unless, primDefault, getterMask}
 use Rattle.codegen.specs.Function.{function}
-use Rattle.codegen.specs.Haser.{haserRequest, generateHaser, tagTests, tagTestLine}
+use Rattle.codegen.specs.Haser.{haserRequest, haserOf, generateHaser, tagTests, tagTestLine}
 
 -- ---- masks
 
--- a text with the mask that is given
-pub given-wrote : {l : List ℕ} {t : Text} {l′ : List ℕ} {t′ : Text} (f : Option Str → Str) (m : Option Str) (o : Out (Option Str))
-    → Given o (λ mask. m ≡ mask) → Wrote l t (f m) l′ t′ → Given o (λ mask. Wrote l t (f mask) l′ t′)
-given-wrote f m (ok mask) e w = rw e at w
-given-wrote f m (refused k) e w = tt
+module _ (k b : ℕ) where
+  -- from kind 1 to 9 a setter's mask is a getter's
+  pub same-mask : 1 ≤ k → k < 10 → getterMask (value k b) ≡ maskOr (primDefault (value k b))
+  unfolding primDefault getterMask
+  same-mask lo hi = go (eqb k 1) (leb 2 k) (leb k 9) refl refl refl _
+    where
+      go : (one low high : Bool) → eqb k 1 ≡ one → leb 2 k ≡ low → leb k 9 ≡ high → (rest : Out (Option Str))
+          → unless (eqb b 0) (cond one (ascii "true") (integer (value k b)))
+          ≡ maskOr (cond one (ok (unless (eqb b 0) (ascii "true")))
+          (cond (both low high) (ok (unless (eqb b 0) (integer (value k b)))) rest))
+      go true low high e f g rest = refl
+      go false true true e f g rest = refl
+      go false true false e f g rest = let high = leb-false k 9 g in let z : ⊥ = omega arith in absurd z
+      go false false high e f g rest =
+          let n1 = eqb-false k 1 e in let low = leb-false 2 k f in let z : ⊥ = omega arith in absurd z
 
--- below kind 10 a setter's mask is a getter's
-pub same-mask : (k b : ℕ) → (k ≡ 10 → ⊥) → (k ≡ 11 → ⊥) → Given (primDefault (value k b)) (λ mask. getterMask (value k b) ≡ mask)
-unfolding primDefault getterMask
-same-mask k b h10 h11 = rw (ne-eqb k 10 h10, ne-eqb k 11 h11) (go (eqb k 1) (leb 2 k) (leb k 9))
-  where
-    go : (one low high : Bool)
-        → Given (cond one (ok (unless (eqb b 0) (ascii "true")))
-        (cond (both low high) (ok (unless (eqb b 0) (integer (value k b)))) (refused 11)))
-        (λ mask. unless (eqb b 0) (cond one (ascii "true") (integer (value k b))) ≡ mask)
-    go true low high = refl
-    go false true true = refl
-    go false true false = tt
-    go false false high = tt
+  -- kind 0, and those from 12 on, are refused
+  pub refused-below : k < 1 → primDefault (value k b) ≡ refused 11
+  unfolding primDefault
+  refused-below lo = rw (let z : k ≡ 0 = omega arith in z) refl
+
+  pub refused-above : 12 ≤ k → primDefault (value k b) ≡ refused 11
+  unfolding primDefault
+  refused-above hi =
+      rw (
+        ne-eqb k 1 (λ e. let z : ⊥ = omega arith in absurd z),
+        lt-leb k 9 (omega arith),
+        le-leb 2 k (omega arith),
+        ne-eqb k 10 (λ e. let z : ⊥ = omega arith in absurd z),
+        ne-eqb k 11 (λ e. let z : ⊥ = omega arith in absurd z),
+      ) refl
 
 -- ---- lines
 
@@ -76,32 +86,34 @@ function-text head interior more =
 
 -- ---- a haser
 
-pub pointer-is : (s : Slot) (k : ℕ) (b : Bool) → kind (s .ty) ≡ k
-    → b ≡ both (leb 12 k) (cond (eqb k 15) false true) → isPointer (s .ty) ≡ b
-pointer-is s k b e f = rw e (sym f)
+-- the haser of a slot of the tree, by its kind and its offset
+pub haser-is : (tag : ℕ) (name : Str) (d : ℕ) (s : Slot) (k offset : ℕ) (isReader : Bool) → kind (s .ty) ≡ k → s .offset ≡ offset
+    → haserOf tag name d k offset isReader ≡ haserRequest tag name d s isReader
+unfolding haserRequest
+haser-is tag name d s k offset isReader e f = rw (← e, ← f) refl
 
-pub haser-none : (tag : ℕ) (name : Str) (d : ℕ) (s : Slot) (isReader : Bool) → isPointer (s .ty) ≡ false
-    → haserRequest tag name d s isReader ≡ stringify (Branch none)
-unfolding haserRequest generateHaser
-haser-none tag name d s isReader h = rw h refl
+pub haser-none : (tag : ℕ) (name : Str) (d k offset : ℕ) (isReader : Bool) → isPointerKind k ≡ false
+    → haserOf tag name d k offset isReader ≡ stringify (Branch none)
+unfolding generateHaser
+haser-none tag name d k offset isReader h = rw h refl
 
 haser-join : (i p name q n line sp last e : Str)
     → i ++ (p ++ name ++ q ++ n ++ (line ++ ((sp ++ last) ++ n)) ++ e)
     ≡ (i ++ p) ++ name ++ (q ++ n) ++ line ++ sp ++ last ++ (n ++ e)
 haser-join i p name q n line sp last e = simp append-assoc
 
-pub haser-lines : (tag : ℕ) (name : Str) (d : ℕ) (s : Slot) (isReader : Bool) → isPointer (s .ty) ≡ true
-    → haserRequest tag name d s isReader
+pub haser-lines : (tag : ℕ) (name : Str) (d k offset : ℕ) (isReader : Bool) → isPointerKind k ≡ true
+    → haserOf tag name d k offset isReader
     ≡ ascii "#[inline]\npub fn has_" ++ camelToSnakeCase name ++ ascii "(&self) -> bool {\n" ++ tagTestLine isReader tag d
     ++ ascii "    "
-    ++ notNull isReader (s .offset) ++ ascii "\n}\n"
-unfolding haserRequest generateHaser toLines flatMap ended
-haser-lines tag name d s isReader h =
-    let last : FormattedTexts = Line (notNull isReader (s .offset)) & none in
+    ++ notNull isReader offset ++ ascii "\n}\n"
+unfolding generateHaser toLines flatMap ended
+haser-lines tag name d k offset isReader h =
+    let last : FormattedTexts = Line (notNull isReader offset) & none in
     let head : Str = ascii "pub fn has_" ++ camelToSnakeCase name ++ ascii "(&self) -> bool {" in
     rw h
     (function-text head (tagTests isReader tag d last) none ∙ function-lines head (tagTests isReader tag d last) none
     ∙ ap (λ (x : Str). ascii "#[inline]\n" ++ (head ++ unit 10 ++ x ++ ascii "}\n"))
     (line-or-none (eqb d 65535) 1 (tagTest isReader tag d) last)
     ∙ haser-join (ascii "#[inline]\n") (ascii "pub fn has_") (camelToSnakeCase name) (ascii "(&self) -> bool {") (unit 10)
-    (tagTestLine isReader tag d) (ascii "    ") (notNull isReader (s .offset)) (ascii "}\n"))
+    (tagTestLine isReader tag d) (ascii "    ") (notNull isReader offset) (ascii "}\n"))

@@ -1,5 +1,5 @@
-pub mod Given
 pub mod Default
+pub mod Mask
 pub mod WordArray
 pub mod Function
 pub mod Getter

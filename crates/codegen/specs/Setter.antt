@@ -9,7 +9,7 @@ use Rattle.text.specs.Bytes.{Str, ascii, cond, either}
 use Rattle.text.specs.Decimal.{decimal}
 use Rattle.text.specs.Lines.{FormattedText, FormattedTexts, Indent, Branch, Line, none, _&_, stringify}
 use Rattle.names.specs.Names.{camelToSnakeCase}
-use Rattle.tree.specs.Tree.{Ty, plain, list, enum, struct, interface, anyPointer, parameter, kind, Slot, Sheet}
+use Rattle.tree.specs.Tree.{Ty, plain, list, enum, struct, interface, anyPointer, parameter, kind, Value, Slot, Sheet}
 use Rattle.codegen_types.specs.Out.{Out, ok, refused, _then_}
 use Rattle.codegen_types.specs.TypeString.{typeString, getQualifiedModule}
 use Rattle.codegen_types.specs.declared.Leaf.the-variants.{Reader, Builder, Owned, Client}
@@ -122,10 +122,13 @@ listParts sheet element t offset =
     option.none)
 
 -- an enum: masked where the default is explicit, which must then be an Enum
+abbrev pub explicitMask : ℕ → Value → Out (Option Str)
+explicitMask explicit v =
+    cond (eqb explicit 0) (ok option.none)
+    (cond (eqb (v .kind) 15) (ok (some (decimal (v .bits)))) (refused 12))
+
 abbrev pub enumMask : Slot → Out (Option Str)
-enumMask s =
-    cond (eqb (s .explicit) 0) (ok option.none)
-    (cond (eqb (s .default .kind) 15) (ok (some (decimal (s .default .bits)))) (refused 12))
+enumMask s = explicitMask (s .explicit) (s .default)
 
 abbrev pub enumSetter : ℕ → Option Str → Str → Parts
 enumSetter offset mask theMod =

@@ -6,13 +6,11 @@ use text::Text;
 ghost use mathlib.Core.Path.{_≡_};
 ghost use Rattle.text.specs.Bytes.{ascii};
 ghost use Rattle.text.specs.Text.{Wrote};
-ghost use Rattle.tree.specs.Tree as tree;
-ghost use Rattle.field.specs.Slot.{SlotIs};
 ghost use Rattle.calls.specs.Calls.{getDataField, setBoolField, setDataField, zeroData};
 ghost use Rattle.calls.specs.Mask.{maskText};
 ghost use Rattle.codegen.specs.Default.{value, floatZero, primDefault, getterMask};
-ghost use Rattle.codegen.specs.Given.{Given};
-ghost use Rattle.codegen.specs.Haser.{haserRequest, tagTestLine};
+ghost use Rattle.codegen.specs.Mask.{maskOr};
+ghost use Rattle.codegen.specs.Haser.{haserOf, tagTestLine};
 ghost use Rattle.codegen_types.specs.Primitive.{primitiveText};
 ghost use Rattle.codegen_types.specs.TypeString.{isPointerKind};
 
@@ -49,9 +47,9 @@ fn is_float_zero(sign: u64, bits: u64) -> bool
     bits == sign
 }
 
-// The mask of a setter of a Bool or a number.
+// The mask of a setter of a Bool or a number; none where the default is refused.
 fn prim_default(kind: u64, bits: u64) -> Mask
-    ensures { λ r. ⌜ Given (primDefault (value kind bits)) (λ mask. maskText r ≡ mask) ⌝ }
+    ensures { λ r. ⌜ maskText r ≡ maskOr (primDefault (value kind bits)) ⌝ }
 {
     match kind {
         kinds::FLOAT32 => {
@@ -66,7 +64,8 @@ fn prim_default(kind: u64, bits: u64) -> Mask
             }
             Mask::U64(bits)
         },
-        _ => getter_mask(kind, bits),
+        kinds::BOOL..=kinds::UINT64 => getter_mask(kind, bits),
+        _ => Mask::None,
     }
 }
 
@@ -91,8 +90,8 @@ pub fn get_number(
 
 // The set of a Bool, masked by the default of any primitive kind.
 pub fn set_bool(offset: u64, default: u64, bits: u64, t: Text, buf: &mut [u8]) -> Text
-    ensures { λ r. ⌜ Given (primDefault (value default bits)) (λ mask. Wrote (now (buf .entry)) t
-        (setBoolField offset (ascii "value") mask) (now (buf .exit)) r) ⌝ }
+    ensures { λ r. ⌜ Wrote (now (buf .entry)) t
+        (setBoolField offset (ascii "value") (maskOr (primDefault (value default bits)))) (now (buf .exit)) r ⌝ }
 {
     let mask = prim_default(default, bits);
     calls::set_bool_field(t, buf, offset, b"value", mask)
@@ -100,8 +99,9 @@ pub fn set_bool(offset: u64, default: u64, bits: u64, t: Text, buf: &mut [u8]) -
 
 // The set of a number, masked by the default of any primitive kind.
 pub fn set_number(kind: u64, offset: u64, default: u64, bits: u64, t: Text, buf: &mut [u8]) -> Text
-    ensures { λ r. ⌜ Given (primDefault (value default bits)) (λ mask. Wrote (now (buf .entry)) t
-        (setDataField (primitiveText kind) offset (ascii "value") mask) (now (buf .exit)) r) ⌝ }
+    ensures { λ r. ⌜ Wrote (now (buf .entry)) t
+        (setDataField (primitiveText kind) offset (ascii "value") (maskOr (primDefault (value default bits))))
+        (now (buf .exit)) r ⌝ }
 {
     let name = codegen_types::primitive(kind);
     let bytes = name.bytes;
@@ -144,8 +144,8 @@ fn tag_test_line(is_reader: bool, tag: u64, discriminant: u64, t: Text, buf: &mu
 
 // `generate_haser` of a slot, for the name and the tag's offset of its field.
 pub fn haser(name: &[u8], slot: Slot, tag: u64, is_reader: bool, t: Text, buf: &mut [u8]) -> Text
-    ensures { λ r. ⌜ ((s : tree.Slot) → SlotIs slot s → Wrote (now (buf .entry)) t
-        (haserRequest tag (now (name .entry)) (slot .discriminant) s «is_reader») (now (buf .exit)) r) ⌝ }
+    ensures { λ r. ⌜ Wrote (now (buf .entry)) t
+        (haserOf tag (now (name .entry)) (slot .discriminant) (slot .kind) (slot .offset) «is_reader») (now (buf .exit)) r ⌝ }
 {
     if !is_pointer(slot.kind) {
         return t.no_lines(buf);

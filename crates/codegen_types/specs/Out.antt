@@ -1,8 +1,6 @@
 -- What a function of the Rust gives: a value, or the number of the refusal that its error or panic becomes. Assumes nothing.
 use mathlib.Core.Option.{Option, none, some}
 use Prim.Native.Nat.{ℕ}
-use Rattle.codegen_types.specs.declared.Refusal.{Refusal}
-use Rattle.codegen_types.specs.declared.Refusal.the-variants.{None, Number}
 
 pub data Out (A : Type 0) : Type 0 where
   ok : A → Out A
@@ -19,7 +17,7 @@ abbrev pub orRefused : {A : Type 0} → ℕ → Option A → Out A
 orRefused k none = refused k
 orRefused k (some a) = ok a
 
--- the refusal, if there is one
-abbrev pub refusalOf : {A : Type 0} → Out A → Refusal
-refusalOf (ok a) = None
-refusalOf (refused k) = Number k
+-- the number of the refusal, if there is one
+abbrev pub refusalOf : {A : Type 0} → Out A → Option ℕ
+refusalOf (ok a) = none
+refusalOf (refused k) = some k

@@ -4,14 +4,14 @@
 use terms::kinds;
 use text::Text;
 ghost use mathlib.Core.List.{_++_};
+ghost use mathlib.Core.Option.{none, some};
 ghost use Rattle.text.specs.Bytes.{ascii};
 ghost use Rattle.text.specs.Text.{Wrote};
 ghost use mathlib.Core.Path.{_≡_};
 ghost use Rattle.codegen_types.specs.Leaf.{bareName, display, lifetimeComma};
 ghost use Rattle.codegen_types.specs.TypeString.{elementLeaf};
 ghost use Rattle.codegen_types.specs.Primitive.{primitiveText, NameIs};
-ghost use Rattle.codegen_types.specs.Written.{firstOf};
-ghost use Rattle.codegen_types.specs.declared.Refusal.the-variants.{None, Number};
+ghost use Rattle.codegen_types.specs.Written.{firstOf, refusalNumber};
 
 // The lifetimes that are asked for: 'a and '_.
 pub enum Lifetime {
@@ -46,7 +46,7 @@ pub struct Written {
 
 // A text that is not refused.
 pub fn whole(t: Text) -> Written
-    ensures { λ r. ⌜ (r .text ≡ t) × (r .refusal ≡ None) ⌝ }
+    ensures { λ r. ⌜ (r .text ≡ t) × (refusalNumber (r .refusal) ≡ none) ⌝ }
 {
     Written {
         text: t,
@@ -56,7 +56,7 @@ pub fn whole(t: Text) -> Written
 
 // A text that is refused with a number.
 pub fn refused(t: Text, number: u64) -> Written
-    ensures { λ r. ⌜ r .refusal ≡ Number number ⌝ }
+    ensures { λ r. ⌜ (r .text ≡ t) × (refusalNumber (r .refusal) ≡ some number) ⌝ }
 {
     Written {
         text: t,
@@ -66,7 +66,7 @@ pub fn refused(t: Text, number: u64) -> Written
 
 // The first of two refusals.
 pub fn first(a: Refusal, b: Refusal) -> Refusal
-    ensures { λ r. ⌜ r ≡ firstOf a b ⌝ }
+    ensures { λ r. ⌜ refusalNumber r ≡ firstOf (refusalNumber a) (refusalNumber b) ⌝ }
 {
     match a {
         Refusal::None => b,

@@ -2,6 +2,7 @@
 use mathlib.Core.Path.{_≡_, refl, sym, ap, _∙_}
 use mathlib.Core.Bool.{Bool, true, false}
 use mathlib.Core.List.{[], _∷_}
+use mathlib.Core.Option.{Option, none, some}
 use Prim.Native.Nat.{ℕ, _+_, _-_, _*_, _/_, _^_, _≤_, _<_}
 use native.Mathlib.Omega.{arith}
 use native.Mathlib.Nat.{add-zero, add-sub-cancel-left, pow-suc, pow-le-pow-right}
@@ -11,10 +12,9 @@ use lib.Seq.{drop-cons, getD-drop, take-all}
 use lib.Dec.{eqb, leb, ltb}
 use borrow.Author.Tests.{eq-eqb, ne-eqb, lt-ltb, le-ltb, ltb-false, le-leb, lt-leb, leb-true}
 use Rattle.text.specs.Bytes.{Str, cond, both, either}
-use Rattle.column.specs.Number.{trimmed, four, fourBytes, digits, unpadded, within, columnOf}
+use Rattle.column.specs.Number.{trimmed, digits, unpadded, within, columnOf}
+use Rattle.column.specs.Fours.{four, fourBytes}
 use Rattle.column.specs.Texts.{between, isDigit, isWord, isGraphic, all, sized, isName, isGraphicText, endsIn}
-use Rattle.column.specs.declared.Number.{Number}
-use Rattle.column.specs.declared.Number.the-variants.{Is, Not}
 
 -- a byte inside bounds, below them and above them
 pub between-in : (lo hi b : ℕ) → lo ≤ b → b ≤ hi → between lo hi b ≡ true
@@ -47,16 +47,16 @@ module _ (t : Str) (i : ℕ) (h : i < length t) where
   unfolding trimmed
   trimmed-stop e = rw (drop-cons t i 0 h, trimmed, ne-eqb (getD t i 0) 32 e)
 
-  pub digits-below : (v : ℕ) → getD t i 0 < 48 → digits v (drop i t) ≡ Not
+  pub digits-below : (v : ℕ) → getD t i 0 < 48 → digits v (drop i t) ≡ none
   unfolding digits
   digits-below v l = rw (drop-cons t i 0 h, digits, lt-ltb (getD t i 0) 48 l)
 
-  pub digits-above : (v : ℕ) → 48 ≤ getD t i 0 → 57 < getD t i 0 → digits v (drop i t) ≡ Not
+  pub digits-above : (v : ℕ) → 48 ≤ getD t i 0 → 57 < getD t i 0 → digits v (drop i t) ≡ none
   unfolding digits
   digits-above v l g = rw (drop-cons t i 0 h, digits, le-ltb (getD t i 0) 48 l, lt-ltb 57 (getD t i 0) g)
 
   -- the number grows out of 64 bits
-  pub digits-over : (v : ℕ) → 48 ≤ getD t i 0 → getD t i 0 ≤ 57 → 2 ^ 64 ≤ v * 10 + (getD t i 0 - 48) → digits v (drop i t) ≡ Not
+  pub digits-over : (v : ℕ) → 48 ≤ getD t i 0 → getD t i 0 ≤ 57 → 2 ^ 64 ≤ v * 10 + (getD t i 0 - 48) → digits v (drop i t) ≡ none
   unfolding digits
   digits-over v l g o =
       let b = getD t i 0 in
@@ -108,7 +108,7 @@ pub four-are :
     (t : Str) (i a b c d : ℕ) → ((j : ℕ) → getD t j 0 < 256) → 0 < a → a < 256 → b < 256 → c < 256
     → fourBytes t i ≡ four a b c d → Four t i a b c d
 unfolding fourBytes
-four-are t i a b c d fits some ha hb hc e = go (ltb (length t) (i + 4)) refl e
+four-are t i a b c d fits positive ha hb hc e = go (ltb (length t) (i + 4)) refl e
   where
     go :
         (p : Bool) → ltb (length t) (i + 4) ≡ p
@@ -150,7 +150,7 @@ pub trimmed-end : (t : Str) (i : ℕ) → length t ≤ i → trimmed (drop i t) 
 unfolding trimmed
 trimmed-end t i h = rw (drop-of-length-le t h)
 
-pub digits-end : (v : ℕ) (t : Str) (i : ℕ) → length t ≤ i → digits v (drop i t) ≡ Is v
+pub digits-end : (v : ℕ) (t : Str) (i : ℕ) → length t ≤ i → digits v (drop i t) ≡ some v
 unfolding digits
 digits-end v t i h = rw (drop-of-length-le t h)
 
@@ -159,7 +159,7 @@ pub rest-is : (t : Str) (i : ℕ) → take (length t - i) (drop i t) ≡ drop i 
 rest-is t i = take-all (length t - i) (drop i t) (rw (length-drop i t) (omega arith))
 
 -- a number without spaces, by its length and its first byte
-pub unpadded-none : (t : Str) → length t ≡ 0 → unpadded t ≡ Not
+pub unpadded-none : (t : Str) → length t ≡ 0 → unpadded t ≡ none
 unfolding unpadded
 unpadded-none [] h = refl
 unpadded-none (b ∷ t) h = let z : ⊥ = omega arith in absurd z
@@ -169,13 +169,13 @@ unfolding unpadded
 unpadded-digits [] h e = absurd (h refl)
 unpadded-digits (b ∷ t) h e = rw (ne-eqb b 48 e)
 
-pub unpadded-zero : (t : Str) → getD t 0 0 ≡ 48 → length t ≡ 1 → unpadded t ≡ Is 0
+pub unpadded-zero : (t : Str) → getD t 0 0 ≡ 48 → length t ≡ 1 → unpadded t ≡ some 0
 unfolding unpadded
 unpadded-zero [] e h = let z : ⊥ = omega arith in absurd z
 unpadded-zero (b ∷ []) e h = rw (eq-eqb b 48 e)
 unpadded-zero (b ∷ x ∷ t) e h = let z : ⊥ = omega arith in absurd z
 
-pub unpadded-more : (t : Str) → getD t 0 0 ≡ 48 → (length t ≡ 1 → ⊥) → unpadded t ≡ Not
+pub unpadded-more : (t : Str) → getD t 0 0 ≡ 48 → (length t ≡ 1 → ⊥) → unpadded t ≡ none
 unfolding unpadded
 unpadded-more [] e h = refl
 unpadded-more (b ∷ []) e h = absurd (h refl)
@@ -183,12 +183,12 @@ unpadded-more (b ∷ x ∷ t) e h = rw (eq-eqb b 48 e)
 
 -- the number in some columns, where the row is too short and where it is not
 module _ (t : Str) (a least most : ℕ) where
-  pub column-short : length t < a + 21 → columnOf t a least most ≡ Not
+  pub column-short : length t < a + 21 → columnOf t a least most ≡ none
   unfolding columnOf
   column-short h = rw (lt-ltb (length t) (a + 21) h)
 
   pub column-is :
-      (x : Str) (n : Number) → a + 21 ≤ length t → x ≡ trimmed (take (a + 21 - a) (drop a t)) → n ≡ unpadded x
+      (x : Str) (n : Option ℕ) → a + 21 ≤ length t → x ≡ trimmed (take (a + 21 - a) (drop a t)) → n ≡ unpadded x
       → columnOf t a least most ≡ within least most n
   unfolding columnOf
   column-is x n h e f = rw (le-ltb (length t) (a + 21) h, f, e, add-sub-cancel-left a 21)

@@ -3,6 +3,7 @@
 use mathlib.Core.Path.{_≡_, refl, sym, ap, _∙_}
 use mathlib.Core.Bool.{Bool, true, false}
 use mathlib.Core.List.{[], _∷_, _++_, append-assoc, append-nil}
+use mathlib.Core.Option.{Option, none, some}
 use Prim.Native.Nat.{ℕ, zero, suc, _+_, _-_, _*_, _/_, _%_, _^_, _≤_, _<_}
 use native.Mathlib.Nat.{add-zero}
 use native.Mathlib.Decide.{decLt}
@@ -18,28 +19,26 @@ use Rattle.text.specs.Decimal.{decimal}
 use Rattle.text.proofs.DecimalLaws.{decimal-low, decimal-high, decimal-length}
 use Rattle.column.specs.Number.{trimmed, digits, lone, unpadded, number, within, columnOf, padded}
 use Rattle.column.specs.Texts.{endsIn}
-use Rattle.column.specs.declared.Number.{Number}
-use Rattle.column.specs.declared.Number.the-variants.{Is, Not}
 use Rattle.column.proofs.Laws.{unpadded-digits}
 
--- no number is a number
-not-is : {A : Type 0} {v : ℕ} → Not ≡ Is v → A
-not-is e = let z : _≡_ {A = ℕ} 0 1 = cc in let y : ⊥ = omega arith in absurd y
+-- none is no number
+none-some : {A : Type 0} {v : ℕ} → none ≡ some v → A
+none-some e = let z : _≡_ {A = ℕ} 0 1 = cc in let y : ⊥ = omega arith in absurd y
 
 -- a byte that goes on with a number: it is a digit, and the number fits
 module _ (v b : ℕ) (t : Str) where
   digits-back :
-      {A : Type 0} (n : ℕ) → digits v (b ∷ t) ≡ Is n
-      → (48 ≤ b → b ≤ 57 → v * 10 + (b - 48) < 2 ^ 64 → digits (v * 10 + (b - 48)) t ≡ Is n → A) → A
+      {A : Type 0} (n : ℕ) → digits v (b ∷ t) ≡ some n
+      → (48 ≤ b → b ≤ 57 → v * 10 + (b - 48) < 2 ^ 64 → digits (v * 10 + (b - 48)) t ≡ some n → A) → A
   unfolding digits
   digits-back {A} n e f = go (ltb b 48) refl (ltb 57 b) refl (ltb (v * 10 + (b - 48)) (2 ^ 64)) refl e
     where
       go :
           (p : Bool) → ltb b 48 ≡ p → (q : Bool) → ltb 57 b ≡ q → (r : Bool) → ltb (v * 10 + (b - 48)) (2 ^ 64) ≡ r
-          → cond p Not (cond q Not (cond r (digits (v * 10 + (b - 48)) t) Not)) ≡ Is n → A
-      go true _ q _ r _ e = not-is e
-      go false _ true _ r _ e = not-is e
-      go false _ false _ false _ e = not-is e
+          → cond p none (cond q none (cond r (digits (v * 10 + (b - 48)) t) none)) ≡ some n → A
+      go true _ q _ r _ e = none-some e
+      go false _ true _ r _ e = none-some e
+      go false _ false _ false _ e = none-some e
       go false l false h true s e = f (ltb-false b 48 l) (ltb-false 57 b h) (ltb-true _ (2 ^ 64) s) e
 
   digits-on : 48 ≤ b → b ≤ 57 → v * 10 + (b - 48) < 2 ^ 64 → digits v (b ∷ t) ≡ digits (v * 10 + (b - 48)) t
@@ -49,7 +48,7 @@ module _ (v b : ℕ) (t : Str) where
 -- ---- a number printed is read
 
 -- digits after digits
-digits-append : (s t : Str) (v w : ℕ) → digits v s ≡ Is w → digits v (s ++ t) ≡ digits w t
+digits-append : (s t : Str) (v w : ℕ) → digits v s ≡ some w → digits v (s ++ t) ≡ digits w t
 unfolding digits
 digits-append [] t v w e = let h : v ≡ w = cc in rw h
 digits-append (b ∷ s) t v w e =
@@ -78,24 +77,24 @@ leads-decimal (suc k) n h p = go (leads-decimal k (n / 10)) (ltb n 10) refl
         let l = ltb-false n 10 e in
         rw (decimal-high n l) (leads-append (decimal (n / 10)) (unit (48 + n % 10)) (f (omega arith) (omega arith)))
 
-digits-last : (v d : ℕ) → d ≤ 9 → v * 10 + d < 2 ^ 64 → digits v (unit (48 + d)) ≡ Is (v * 10 + d)
+digits-last : (v d : ℕ) → d ≤ 9 → v * 10 + d < 2 ^ 64 → digits v (unit (48 + d)) ≡ some (v * 10 + d)
 unfolding digits
 digits-last v d l f =
     let e : 48 + d - 48 ≡ d = omega arith in
     digits-on v (48 + d) [] (omega arith) (omega arith) (omega arith) ∙ rw e
 
-digits-low : (n : ℕ) → n < 10 → digits 0 (decimal n) ≡ Is n
+digits-low : (n : ℕ) → n < 10 → digits 0 (decimal n) ≡ some n
 digits-low n l =
     let z : 0 * 10 + n ≡ n = omega arith in
-    rw (decimal-low n l) (digits-last 0 n (omega arith) (omega arith) ∙ ap Is z)
+    rw (decimal-low n l) (digits-last 0 n (omega arith) (omega arith) ∙ ap some z)
 
-digits-decimal : (k n : ℕ) → n ≤ k → n < 2 ^ 64 → digits 0 (decimal n) ≡ Is n
+digits-decimal : (k n : ℕ) → n ≤ k → n < 2 ^ 64 → digits 0 (decimal n) ≡ some n
 digits-decimal zero n h s = digits-low n (omega arith)
 digits-decimal (suc k) n h s = go (digits-decimal k (n / 10)) (ltb n 10) refl
   where
     go :
-        (n / 10 ≤ k → n / 10 < 2 ^ 64 → digits 0 (decimal (n / 10)) ≡ Is (n / 10)) → (b : Bool) → ltb n 10 ≡ b
-        → digits 0 (decimal n) ≡ Is n
+        (n / 10 ≤ k → n / 10 < 2 ^ 64 → digits 0 (decimal (n / 10)) ≡ some (n / 10)) → (b : Bool) → ltb n 10 ≡ b
+        → digits 0 (decimal n) ≡ some n
     go f true e = digits-low n (ltb-true n 10 e)
     go f false e =
         let l = ltb-false n 10 e in
@@ -105,7 +104,7 @@ digits-decimal (suc k) n h s = go (digits-decimal k (n / 10)) (ltb n 10) refl
         ∙ digits-last (n / 10) (n % 10) (omega arith) (omega arith) ∙ rw w)
 
 -- 0 is printed alone; any other number does not begin with 0
-unpadded-decimal : (n : ℕ) → n < 2 ^ 64 → unpadded (decimal n) ≡ Is n
+unpadded-decimal : (n : ℕ) → n < 2 ^ 64 → unpadded (decimal n) ≡ some n
 unfolding unpadded
 unpadded-decimal zero s = rw (decimal-low 0 (omega arith))
 unpadded-decimal (suc n) s =
@@ -124,7 +123,7 @@ trimmed-spaces zero [] h = refl
 trimmed-spaces zero (b ∷ s) h = rw (ne-eqb b 32 h)
 trimmed-spaces (suc k) s h = trimmed-spaces k s h
 
-pub number-padded : (n : ℕ) → n < 2 ^ 64 → number (padded n) ≡ Is n
+pub number-padded : (n : ℕ) → n < 2 ^ 64 → number (padded n) ≡ some n
 unfolding padded
 number-padded n s =
     rw (trimmed-spaces (21 - length (decimal n)) (decimal n) (decimal-no-space n)) (unpadded-decimal n s)
@@ -140,7 +139,7 @@ padded-length n s =
 -- ---- columns that read as a number
 
 -- by the first digit: what is left, after the digits of v
-decimal-digits : (s : Str) (v n : ℕ) → 0 < v → digits v s ≡ Is n → decimal v ++ s ≡ decimal n
+decimal-digits : (s : Str) (v n : ℕ) → 0 < v → digits v s ≡ some n → decimal v ++ s ≡ decimal n
 unfolding digits
 decimal-digits [] v n p e = let h : v ≡ n = cc in append-nil (decimal v) ∙ ap decimal h
 decimal-digits (b ∷ s) v n p e = digits-back v b s n e (λ l h f g.
@@ -152,16 +151,16 @@ decimal-digits (b ∷ s) v n p e = digits-back v b s n e (λ l h f g.
         let r : 48 + (v * 10 + (b - 48)) % 10 ≡ b = omega arith in
         rw (decimal-high (v * 10 + (b - 48)) (omega arith), q, r) (sym (append-assoc (decimal v) (unit b) s))
 
-decimal-unpadded : (s : Str) (n : ℕ) → unpadded s ≡ Is n → s ≡ decimal n
+decimal-unpadded : (s : Str) (n : ℕ) → unpadded s ≡ some n → s ≡ decimal n
 unfolding unpadded
-decimal-unpadded [] n e = not-is e
+decimal-unpadded [] n e = none-some e
 decimal-unpadded (b ∷ s) n e = go (eqb b 48) refl e
   where
-    alone : b ≡ 48 → (s : Str) → lone s ≡ Is n → b ∷ s ≡ decimal n
+    alone : b ≡ 48 → (s : Str) → lone s ≡ some n → b ∷ s ≡ decimal n
     alone z [] e = let h : n ≡ 0 = cc in rw (z, h, decimal-low 0 (omega arith))
-    alone z (x ∷ s) e = not-is e
+    alone z (x ∷ s) e = none-some e
 
-    go : (t : Bool) → eqb b 48 ≡ t → cond t (lone s) (digits 0 (b ∷ s)) ≡ Is n → b ∷ s ≡ decimal n
+    go : (t : Bool) → eqb b 48 ≡ t → cond t (lone s) (digits 0 (b ∷ s)) ≡ some n → b ∷ s ≡ decimal n
     go true z e = alone (eqb-true b 48 z) s e
     go false z e = digits-back 0 b s n e (λ l h f g.
         let d = eqb-false b 48 z in
@@ -192,7 +191,7 @@ trimmed-back (b ∷ s) = go (trimmed-back s) (trimmed-le s) (eqb b 32) refl
         rw (m, h) (ap (λ (r : Str). 32 ∷ r) i)
     go i l false e = let m : suc (length s) - suc (length s) ≡ 0 = omega arith in rw m
 
-pub padded-number : (t : Str) (n : ℕ) → length t ≡ 21 → number t ≡ Is n → t ≡ padded n
+pub padded-number : (t : Str) (n : ℕ) → length t ≡ 21 → number t ≡ some n → t ≡ padded n
 unfolding padded
 padded-number t n w e = rw (← decimal-unpadded (trimmed t) n e, ← w) (trimmed-back t)
 
@@ -201,7 +200,7 @@ padded-number t n w e = rw (← decimal-unpadded (trimmed t) n e, ← w) (trimme
 -- printed there, they are read
 pub column-printed :
     (t rest : Str) (a least most n : ℕ) → drop a t ≡ padded n ++ rest → n < 2 ^ 64 → least ≤ n → n ≤ most
-    → columnOf t a least most ≡ Is n
+    → columnOf t a least most ≡ some n
 unfolding columnOf
 column-printed t rest a least most n e s l h =
     let w = padded-length n s in
@@ -223,25 +222,25 @@ pub record Stands (t : Str) (a least most n : ℕ) : Type 0 where
   pub high : n ≤ most
 
 within-back :
-    {A : Type 0} (least most n : ℕ) (v : Number) → within least most v ≡ Is n → (v ≡ Is n → least ≤ n → n ≤ most → A) → A
-within-back least most n Not e f = not-is e
-within-back {A} least most n (Is v) e f = go (ltb v least) refl (ltb most v) refl e
+    {A : Type 0} (least most n : ℕ) (v : Option ℕ) → within least most v ≡ some n → (v ≡ some n → least ≤ n → n ≤ most → A) → A
+within-back least most n none e f = none-some e
+within-back {A} least most n (some v) e f = go (ltb v least) refl (ltb most v) refl e
   where
-    go : (p : Bool) → ltb v least ≡ p → (q : Bool) → ltb most v ≡ q → cond p Not (cond q Not (Is v)) ≡ Is n → A
-    go true _ q _ e = not-is e
-    go false _ true _ e = not-is e
+    go : (p : Bool) → ltb v least ≡ p → (q : Bool) → ltb most v ≡ q → cond p none (cond q none (some v)) ≡ some n → A
+    go true _ q _ e = none-some e
+    go false _ true _ e = none-some e
     go false l false h e =
         let s : v ≡ n = cc in
         f e (rw s at (ltb-false v least l)) (rw s at (ltb-false most v h))
 
-pub column-stands : (t : Str) (a least most n : ℕ) → columnOf t a least most ≡ Is n → Stands t a least most n
+pub column-stands : (t : Str) (a least most n : ℕ) → columnOf t a least most ≡ some n → Stands t a least most n
 unfolding columnOf
 column-stands t a least most n e = go (ltb (length t) (a + 21)) refl e
   where
     go :
-        (p : Bool) → ltb (length t) (a + 21) ≡ p → cond p Not (within least most (number (take 21 (drop a t)))) ≡ Is n
+        (p : Bool) → ltb (length t) (a + 21) ≡ p → cond p none (within least most (number (take 21 (drop a t)))) ≡ some n
         → Stands t a least most n
-    go true _ e = not-is e
+    go true _ e = none-some e
     go false w e = within-back least most n (number (take 21 (drop a t))) e (λ v l h.
         let b = ltb-false (length t) (a + 21) w in
         let m = length-take-le 21 (drop a t) (rw (length-drop a t) (omega arith)) in

@@ -2,7 +2,8 @@
 ghost use mathlib.Core.Path.{_≡_};
 ghost use Prim.Native.Nat.{_≤_, _<_};
 ghost use lib.ListN.{length, drop};
-ghost use Rattle.column.specs.Number.{trimmed, fourBytes, digits, unpadded, columnOf};
+ghost use Rattle.column.specs.Number.{numberSaid, trimmed, digits, unpadded, columnOf};
+ghost use Rattle.column.specs.Fours.{fourBytes};
 ghost use Rattle.column.specs.Texts.{isDigit, isWord, isGraphic, all, sized, isName, isGraphicText, endsIn};
 
 // What stands in a number's columns: the number, where it is one and lies in its bounds.
@@ -61,7 +62,7 @@ fn trimmed(t: &[u8]) -> &[u8]
 // The number of which the digits before `from` make `head`, where it fits 64 bits. Past 1844674407370955161, ten times the
 // number does not.
 fn more_digits(t: &[u8], from: usize, head: u64) -> Number
-    ensures { λ r. ⌜ r ≡ digits head (drop from (now (t .entry))) ⌝ }
+    ensures { λ r. ⌜ numberSaid r ≡ digits head (drop from (now (t .entry))) ⌝ }
 {
     let mut v = head;
     let mut i = from;
@@ -88,7 +89,7 @@ fn more_digits(t: &[u8], from: usize, head: u64) -> Number
 
 // The number that digits make, where it fits 64 bits: 19 digits do, and those after them are tested.
 fn digits(t: &[u8]) -> Number
-    ensures { λ r. ⌜ r ≡ digits 0 (now (t .entry)) ⌝ }
+    ensures { λ r. ⌜ numberSaid r ≡ digits 0 (now (t .entry)) ⌝ }
 {
     let mut v: u64 = 0;
     let mut i = 0;
@@ -111,7 +112,7 @@ fn digits(t: &[u8]) -> Number
 
 // A number without spaces: 0 alone, or digits of which the first is not 0.
 fn unpadded(t: &[u8]) -> Number
-    ensures { λ r. ⌜ r ≡ unpadded (now (t .entry)) ⌝ }
+    ensures { λ r. ⌜ numberSaid r ≡ unpadded (now (t .entry)) ⌝ }
 {
     if t.len() == 0 {
         return Number::Not;
@@ -127,7 +128,7 @@ fn unpadded(t: &[u8]) -> Number
 
 // The number in the 21 columns from `a` on, where they are there whole and it lies from `least` to `most`.
 pub fn column(t: &[u8], a: usize, least: u64, most: u64) -> Number
-    ensures { λ r. ⌜ r ≡ columnOf (now (t .entry)) a least most ⌝ }
+    ensures { λ r. ⌜ numberSaid r ≡ columnOf (now (t .entry)) a least most ⌝ }
 {
     if t.len() < 21 {
         return Number::Not;

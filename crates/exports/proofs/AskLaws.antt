@@ -2,7 +2,7 @@
 use mathlib.Core.Path.{_≡_, refl, sym, ap, subst, _∙_}
 use mathlib.Core.List.{List, [], _∷_}
 use Prim.Native.Nat.{ℕ, zero, suc, _-_, _^_, _≤_}
-use lib.ListN.{length, getD}
+use lib.ListN.{length, take, getD}
 use native.Mathlib.Omega.{arith}
 use Rattle.text.specs.Bytes.{Str}
 use Rattle.text.specs.Text.{stateAt}
@@ -11,7 +11,7 @@ use Rattle.tree.specs.Tree.{Sheet}
 use Rattle.tree.specs.Read.{sheet}
 use Rattle.requests.specs.Requests.{requestText, Outcome, outcome, entryAnswer, entryBuffer}
 use Rattle.requests.specs.declared.Request.{Request}
-use Rattle.requests.specs.Told.{inNumbers, Answered}
+use Rattle.requests.specs.Told.{inNumbers, Answered, AnswerWithin}
 use Rattle.requests.specs.declared.Answer.{Answer}
 use Rattle.requests.specs.declared.Answer.the-variants.{Done, Refused}
 use Rattle.requests.proofs.LeafLaws.{more}
@@ -45,6 +45,16 @@ pub asked-in :
 asked-in l fill sh id q q′ t l′ r e at answered =
     asked l fill (outcome (requestText sh id q′)) t l′ r at
     (subst (λ (x : Request). Answered l t (outcome (requestText sh id x)) l′ r) e answered)
+
+-- over any index: no byte before the fill count changes, and the count does not fall
+pub told-within : (l l′ : Str) (fill : ℕ) (t : Text) (r : Answer) (fill′ number line : ℕ) → t ≡ stateAt fill
+    → AnswerWithin l t l′ r → Said (inNumbers r) fill fill′ number line → (take fill l′ ≡ take fill l) × (fill ≤ fill′)
+told-within l l′ fill t (Done u) fill′ number line e h s =
+    let x : take fill l′ ≡ take fill l = rw e at (h .0) in
+    let y : fill ≤ u .at = rw e at (h .1) in
+    (x, omega (arith, y, s .fill-is))
+told-within l l′ fill t (Refused k line₁) fill′ number line e h s =
+    (ap (λ (x : Str). take fill x) h, omega (arith, s .fill-is))
 
 -- the two cases of an answer
 pub said-done : (fill n : ℕ) (r : Answer) (t : Text) → r ≡ Done t → n ≡ t .at → Said (inNumbers r) fill n 0 0

@@ -5,10 +5,11 @@ use mathlib.Core.List.{List, [], _∷_}
 use mathlib.Core.Option.{Option, none, some}
 use Prim.Native.Nat.{ℕ, _-_, _≤_}
 use native.Mathlib.Omega.{arith}
-use lib.ListN.{drop}
+use lib.ListN.{length, drop}
 use Rattle.text.specs.Bytes.{Str}
 use Rattle.row.specs.Rows.{rows, restOf}
-use Rattle.row.specs.Line.{textAt, spanned}
+use Rattle.row.specs.Line.{textAt}
+use Rattle.row.specs.Span.{spanned}
 use Rattle.row.specs.declared.Span.{Span}
 use Rattle.tree.specs.Tree as tree
 use Rattle.tree.specs.Tree.{Arm, slot, group, Node}
@@ -27,16 +28,24 @@ use Rattle.field.specs.declared.Group.{Group}
 use Rattle.field.specs.declared.Field.{Field}
 use Rattle.field.specs.declared.Field.the-variants as field
 use Rattle.field.proofs.NumbersLaws.{field-put}
-use Rattle.requests.specs.Told.{Passed}
+use Rattle.requests.specs.Told.{passNumbers, Passed, PassWithin}
 use Rattle.requests.specs.declared.Pass.{Pass}
-use Rattle.exports.specs.Boundary.{numberPass, lengthPass, PassTold, NodeSaid, kindTold, FieldSaid, FirstPut}
+use Rattle.requests.specs.declared.Pass.the-variants.{Whole}
+use Rattle.exports.specs.Boundary.{lengthTold, PassTold, NodeSaid, kindTold, FieldSaid, FirstPut}
 
 -- a pass, told by its number and length
-pub pass-told : (o : Out Str) (l l′ : Str) (r p : Pass) (number size : ℕ) → Passed o l l′ r → r ≡ p → number ≡ numberPass p
-    → size ≡ lengthPass p → PassTold o l l′ number size
+pub pass-told : (o : Out Str) (l l′ : Str) (r p : Pass) (number size : ℕ) → Passed o l l′ r → r ≡ p
+    → number ≡ passNumbers p .0 → size ≡ lengthTold (passNumbers p .1) → PassTold o l l′ number size
 pass-told o l l′ r p number size h e n m =
-    let z = sym e ∙ h .says in
-    record { number-is = n ∙ ap numberPass z; length-is = m ∙ ap lengthPass z; text = h .text }
+    let z = ap passNumbers (sym e) ∙ h .says in record {
+      number-is = n ∙ ap (λ (x : ℕ × Option ℕ). x .0) z;
+      length-is = m ∙ ap (λ (x : ℕ × Option ℕ). lengthTold (x .1)) z;
+      text = h .text;
+    }
+
+-- a whole text is within its buffer
+pub whole-within : (l : Str) (r : Pass) (n : ℕ) → PassWithin l r → r ≡ Whole n → n ≤ length l
+whole-within l r n h e = rw e at h
 
 -- the text of the row at a position, for whoever knows where the next begins, is what a span spans
 abbrev Spans : Str → Span → ℕ → ℕ → Type 0

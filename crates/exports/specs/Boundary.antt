@@ -4,7 +4,7 @@ use mathlib.Core.Path.{_≡_}
 use mathlib.Core.Bool.{Bool, true, false}
 use mathlib.Core.List.{List, [], _∷_}
 use mathlib.Core.Option.{Option, none, some}
-use Prim.Native.Nat.{ℕ, _-_, _%_, _^_, _≤_}
+use Prim.Native.Nat.{ℕ, _-_, _%_, _^_, _≤_, min}
 use lib.Dec.{eqb}
 use lib.ListN.{length, take, drop, getD}
 use Rattle.text.specs.Bytes.{Str, cond, either}
@@ -25,17 +25,15 @@ use Rattle.field.specs.Field.{FindsField}
 use Rattle.field.specs.Numbers.{fieldSize, fieldIn}
 use Rattle.requests.specs.Requests.{accessorText, ofField, Outcome, outcomeOf, entryAnswer, entryBuffer}
 use Rattle.requests.specs.Told.{passOf, inNode}
-use Rattle.requests.specs.declared.Pass.{Pass}
-use Rattle.requests.specs.declared.Pass.the-variants as pass
 use Rattle.requests.specs.declared.Request.{Request}
 use Rattle.requests.specs.declared.Accessor.{Accessor}
 use Rattle.requests.specs.declared.Accessor.the-variants.{TypeText, Getter, Setter, Haser, Zeroing}
 
--- where it is taken, the text s is written at a fill count into l, which leaves l′ and the fill count r; else nothing is
--- written, and the answer is the largest count
+-- where it is taken, the text s is written at a fill count into l, which leaves l′ and the fill count r, which stops at
+-- 2 ^ 64 - 2; else nothing is written, and the answer is 2 ^ 64 - 1, which is no fill count
 pub record FillsIf (isTaken : Bool) (l : Str) (at : ℕ) (s : Str) (l′ : Str) (r : ℕ) : Type 0 where
   pub bytes : l′ ≡ cond isTaken (put l (stateAt at) s) l
-  pub fill : r ≡ cond isTaken (adv (stateAt at) s .at) (2 ^ 64 - 1)
+  pub fill : r ≡ cond isTaken (min (adv (stateAt at) s .at) (2 ^ 64 - 2)) (2 ^ 64 - 1)
 
 -- a text that is written in any case
 abbrev pub Fills : Str → ℕ → Str → Str → ℕ → Type 0
@@ -134,21 +132,15 @@ SameAnswersHold =
     → OverIndex s index (λ a. Asked l fill (ask a id request) l′ fill′ number line)
     → Asked l fill (ask (admitted s) id request) l′ fill′ number line
 
--- a pass by its number and the length that it tells
-abbrev pub numberPass : Pass → ℕ
-numberPass (pass.Whole n) = 0
-numberPass (pass.Longer n) = 22
-numberPass (pass.Refused k) = k
-
-abbrev pub lengthPass : Pass → ℕ
-lengthPass (pass.Whole n) = n
-lengthPass (pass.Longer n) = n
-lengthPass (pass.Refused k) = 0
+-- the length of a text, 0 where there is none
+abbrev pub lengthTold : Option ℕ → ℕ
+lengthTold (some n) = n
+lengthTold none = 0
 
 -- a text that comes to o, written in one pass from the start of l on, leaves l′, and is told by a number and a length
 pub record PassTold (o : Out Str) (l l′ : Str) (number size : ℕ) : Type 0 where
-  pub number-is : number ≡ numberPass (passOf (length l) o)
-  pub length-is : size ≡ lengthPass (passOf (length l) o)
+  pub number-is : number ≡ passOf (length l) o .0
+  pub length-is : size ≡ lengthTold (passOf (length l) o .1)
   pub text : (w : Str) → o ≡ ok w → length w ≤ length l → l′ ≡ text.placed l 0 w
 
 -- a text of the field with these numbers, in the node with a number

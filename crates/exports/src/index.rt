@@ -50,7 +50,8 @@ pub extern "C" fn kitlubas_index(s: &[u8], index: &mut [u64], line: &mut usize) 
     }
 }
 
-// The answer to the request with a number, in the sheet with this index. No byte before the fill count changes.
+// The answer to the request with a number, in the sheet with this index. Over any index no byte before the fill count changes,
+// and the count does not fall.
 #[no_mangle]
 pub extern "C" fn kitlubas_answer_in(
     s: &[u8],
@@ -66,6 +67,7 @@ pub extern "C" fn kitlubas_answer_in(
     ensures asked { λ r. ⌜ OverIndex (now (s .entry)) (now (index .entry)) (λ sheet. Asked (now (buf .entry)) (now (fill .entry))
         (ask sheet id (requestOf request place leaf)) (now (buf .exit)) (now (fill .exit)) r (now (line .exit))) ⌝ }
     ensures before { λ r. ⌜ take (now (fill .entry)) (now (buf .exit)) ≡ take (now (fill .entry)) (now (buf .entry)) ⌝ }
+    ensures after { λ r. ⌜ now (fill .entry) ≤ now (fill .exit) ⌝ }
 {
     let asked = request_of(request, place, leaf);
     let answer = requests::answer_in(s, index, id, asked, Text::at(*fill), buf);
@@ -74,7 +76,8 @@ pub extern "C" fn kitlubas_answer_in(
 
 // The text with a number of the field with these numbers, as `kitlubas_field` puts them, in the node with a number, from 0: 0,
 // and the text from the start of the buffer on; 22 where it is longer than the buffer; or its refusal. `size` becomes the text's
-// length, 0 for a refusal. Where the answer is not 0, the bytes of the buffer may be any.
+// length, 0 for a refusal. Where the answer is not 0, the bytes of the buffer may be any; where it is 0, the length is within the
+// buffer over any index.
 #[no_mangle]
 pub extern "C" fn kitlubas_text(
     s: &[u8],
@@ -86,8 +89,9 @@ pub extern "C" fn kitlubas_text(
     size: &mut usize,
     buf: &mut [u8],
 ) -> u64
-    ensures { λ r. ⌜ TextTold (now (s .entry)) (now (index .entry)) node (now (field .entry)) (accessorNumbered request leaf)
-        (now (buf .entry)) (now (buf .exit)) r (now (size .exit)) ⌝ }
+    ensures told { λ r. ⌜ TextTold (now (s .entry)) (now (index .entry)) node (now (field .entry))
+        (accessorNumbered request leaf) (now (buf .entry)) (now (buf .exit)) r (now (size .exit)) ⌝ }
+    ensures within { λ r. ⌜ (r ≡ 0 → now (size .exit) ≤ length (now (buf .entry))) ⌝ }
 {
     let accessor = accessor_of(request, leaf);
     let pass = requests::text(s, index, node, field::get(field), accessor, buf);

@@ -1,8 +1,9 @@
 // The static library's boundary, for C, Rust and the comparison with capnpc; kitlubas.h declares it.
 //
-// The writers put their text at the fill count `at` and answer the new one. Bytes past the end of the buffer are counted and
-// not written. What is not taken writes nothing and answers 18446744073709551615, the largest count.
+// The writers put their text at the fill count `at` and answer the new one, which stops at 18446744073709551614. Bytes past the
+// end of the buffer are counted and not written. What is not taken writes nothing and answers 18446744073709551615.
 mod index;
+mod pad;
 
 pub use index::claims;
 pub use index::kitlubas_answer_in;
@@ -11,6 +12,7 @@ pub use index::kitlubas_index;
 pub use index::kitlubas_index_size;
 pub use index::kitlubas_node;
 pub use index::kitlubas_text;
+pub use pad::kitlubas_pad;
 use requests::Accessor;
 use requests::Answer;
 use requests::Request;
@@ -22,6 +24,21 @@ ghost use Rattle.text.specs.Lines.{Line, BlankLine, Branch, none, toLines, stri
 ghost use Rattle.requests.specs.Told.{inNumbers};
 ghost use Rattle.exports.specs.Boundary.{Fills, FillsName, Signed, Told, Asked, ask, Said, accessorNumbered, requestOf};
 ghost use mathlib.Core.Path.{_≡_};
+ghost use Prim.Native.Nat.{_-_, _^_, min};
+
+// The largest fill count that is answered: one below the answer for what is not taken.
+const LARGEST: usize = 0xffff_ffff_ffff_fffe;
+
+// The fill count of a state, as it is answered.
+fn count(t: Text) -> usize
+    ensures { λ r. ⌜ r ≡ min (t .at) (2 ^ 64 - 2) ⌝ }
+{
+    let n = t.fill();
+    if LARGEST < n {
+        return LARGEST;
+    }
+    n
+}
 
 // The number in decimal.
 #[no_mangle]
@@ -29,7 +46,7 @@ pub extern "C" fn kitlubas_number(at: usize, buf: &mut [u8], n: u64) -> usize
     ensures { λ r. ⌜ Fills (now (buf .entry)) at (decimal n) (now (buf .exit)) r ⌝ }
 {
     let t = Text::at(at).number(buf, n);
-    t.fill()
+    count(t)
 }
 
 // The number with these bits in two's complement. Bits past the width are dropped; a width is taken that is 8, 16, 32 or 64.
@@ -39,10 +56,10 @@ pub extern "C" fn kitlubas_signed(at: usize, buf: &mut [u8], width: u32, n: u64)
 {
     let t = Text::at(at);
     match width {
-        8 => t.signed(buf, 0x80, n % 0x100).fill(),
-        16 => t.signed(buf, 0x8000, n % 0x1_0000).fill(),
-        32 => t.signed(buf, 0x8000_0000, n % 0x1_0000_0000).fill(),
-        64 => t.signed(buf, 0x8000_0000_0000_0000, n).fill(),
+        8 => count(t.signed(buf, 0x80, n % 0x100)),
+        16 => count(t.signed(buf, 0x8000, n % 0x1_0000)),
+        32 => count(t.signed(buf, 0x8000_0000, n % 0x1_0000_0000)),
+        64 => count(t.signed(buf, 0x8000_0000_0000_0000, n)),
         _ => usize::MAX,
     }
 }
@@ -53,7 +70,7 @@ pub extern "C" fn kitlubas_line(at: usize, buf: &mut [u8], indent: usize, line: 
     ensures { λ r. ⌜ Fills (now (buf .entry)) at (ended (toLines (Line (now (line .entry))) indent)) (now (buf .exit)) r ⌝ }
 {
     let t = Text::at(at).line(buf, indent, line);
-    t.fill()
+    count(t)
 }
 
 #[no_mangle]
@@ -61,7 +78,7 @@ pub extern "C" fn kitlubas_blank_line(at: usize, buf: &mut [u8]) -> usize
     ensures { λ r. ⌜ Fills (now (buf .entry)) at (ended (toLines BlankLine 0)) (now (buf .exit)) r ⌝ }
 {
     let t = Text::at(at).blank_line(buf);
-    t.fill()
+    count(t)
 }
 
 #[no_mangle]
@@ -69,7 +86,7 @@ pub extern "C" fn kitlubas_no_lines(at: usize, buf: &mut [u8]) -> usize
     ensures { λ r. ⌜ Fills (now (buf .entry)) at (stringify (Branch none)) (now (buf .exit)) r ⌝ }
 {
     let t = Text::at(at).no_lines(buf);
-    t.fill()
+    count(t)
 }
 
 // The names made of a name: `camel_to_snake_case`, the name of its default's constant, `module_name`. A name is taken that has
@@ -82,7 +99,7 @@ pub extern "C" fn kitlubas_snake(at: usize, buf: &mut [u8], name: &[u8]) -> usiz
         return usize::MAX;
     }
     let t = names::snake_name(Text::at(at), buf, name);
-    t.fill()
+    count(t)
 }
 
 #[no_mangle]
@@ -93,7 +110,7 @@ pub extern "C" fn kitlubas_default_name(at: usize, buf: &mut [u8], name: &[u8]) 
         return usize::MAX;
     }
     let t = names::default_name(Text::at(at), buf, name);
-    t.fill()
+    count(t)
 }
 
 #[no_mangle]
@@ -104,7 +121,7 @@ pub extern "C" fn kitlubas_module_name(at: usize, buf: &mut [u8], name: &[u8]) -
         return usize::MAX;
     }
     let t = names::module_name(Text::at(at), buf, name);
-    t.fill()
+    count(t)
 }
 
 // The number of the sheet's refusal, 0 for a sheet that is admitted; `line` becomes the refusal's line, or 0.

@@ -11,7 +11,8 @@ use denote.Enum.Declared.{tagOf}
 use lib.ListN.{drop}
 use Rattle.text.specs.Bytes.{Str}
 use Rattle.row.specs.Rows.{rows, restOf}
-use Rattle.row.specs.Line.{lineAt, textAt}
+use Rattle.row.specs.Line as content
+use Rattle.row.specs.Line.{Content, lineSaid, lineAt, textAt}
 use Rattle.row.specs.declared.Line.{Line}
 use Rattle.row.specs.declared.Line.the-variants as line
 use Rattle.row.proofs.Line.{the-type}
@@ -38,21 +39,21 @@ field-none : (rs : Rows) → isField (lineAt rs) ≡ false → readField rs ≡ 
 unfolding readField
 field-none rs h = go (lineAt rs) refl h
   where
-    go : (l : Line) → lineAt rs ≡ l → isField l ≡ false → readField rs ≡ no 2 rs
-    go line.Root e h = rw (e, e)
-    go (line.Node a b c d x f g) e h = rw (e, e)
-    go line.Parameter e h = rw (e, e)
-    go (line.Field a b c d) e h = never cc
-    go (line.Group a b) e h = never cc
-    go (line.Typ a b c d) e h = rw (e, e)
-    go (line.Scope a b c) e h = rw (e, e)
-    go line.Unbound e h = rw (e, e)
-    go (line.Value a b) e h = rw (e, e)
-    go (line.Word a) e h = rw (e, e)
-    go line.Bad e h = rw (e, e)
+    go : (l : Content) → lineAt rs ≡ l → isField l ≡ false → readField rs ≡ no 2 rs
+    go content.Root e h = rw (e, e)
+    go (content.Node a b c d x f g) e h = rw (e, e)
+    go content.Parameter e h = rw (e, e)
+    go (content.Field a b c d) e h = never cc
+    go (content.Group a b) e h = never cc
+    go (content.Typ a b c d) e h = rw (e, e)
+    go (content.Scope a b c) e h = rw (e, e)
+    go content.Unbound e h = rw (e, e)
+    go (content.Value a b) e h = rw (e, e)
+    go (content.Word a) e h = rw (e, e)
+    go content.Bad e h = rw (e, e)
 
--- the row l that stands at a position, and the rows after it
-module _ (s : Str) (at next : ℕ) (l : Line) (here : l ≡ lineAt (rows (drop at s)))
+-- what the code says of the row at a position, and the rows after it
+module _ (s : Str) (at next : ℕ) (l : Line) (here : lineSaid l ≡ lineAt (rows (drop at s)))
     (after : rows (drop next s) ≡ restOf (rows (drop at s))) where
   abbrev rs : Rows
   rs = rows (drop at s)
@@ -60,12 +61,13 @@ module _ (s : Str) (at next : ℕ) (l : Line) (here : l ≡ lineAt (rows (drop a
   -- an F row
   module _ (o d e p : ℕ) (is : l ≡ line.Field o d e p) where
     of-slot : readField rs ≡ (readSlot o e p (rows (drop next s)) then λ sl. got (read.field (textAt rs) d (slot sl)))
-    unfolding readField
+    unfolding lineSaid readField
     of-slot = rw (← here, is, ← after)
 
     pub first-slot :
         (r : Field) → Gets (readSlot o e p (rows (drop next s))) (SlotRead s r at d) → (fs : List tree.Field)
         → FieldsHere rs fs → ReadsFirst s r fs
+    unfolding lineSaid
     first-slot r h [] (fields.none x) =
         let i : isField (lineAt rs) ≡ true = rw (← here, is) refl in never cc
     first-slot r h (f ∷ fs) (fields.more {rest = rest} x y) =
@@ -90,10 +92,11 @@ module _ (s : Str) (at next : ℕ) (l : Line) (here : l ≡ lineAt (rows (drop a
     here-group = field.Group (record { id = i; discriminant = d; at = at; next = next })
 
     of-group : readField rs ≡ got (read.field (textAt rs) d (group i)) (rows (drop next s))
-    unfolding readField
+    unfolding lineSaid readField
     of-group = rw (← here, is, ← here, is, ← after)
 
     pub first-group : (fs : List tree.Field) → FieldsHere rs fs → ReadsFirst s here-group fs
+    unfolding lineSaid
     first-group [] (fields.none x) = let i : isField (lineAt rs) ≡ true = rw (← here, is) refl in never cc
     first-group (f ∷ fs) (fields.more {rest = rest} x y) =
         let e : got (read.field (textAt rs) d (group i)) (rows (drop next s)) ≡ got f rest = sym of-group ∙ x in
@@ -102,7 +105,8 @@ module _ (s : Str) (at next : ℕ) (l : Line) (here : l ≡ lineAt (rows (drop a
         (rw j (record { name-is = refl; after = after; discriminant-is = refl; id-is = refl }), rw k y)
 
     pub fewer-group : Fewer s at here-group
-    fewer-group = row-fewer _ _ l here after (λ e. never cc)
+    unfolding lineSaid
+    fewer-group = row-fewer _ _ (lineSaid l) here after (rw is tt)
 
   -- another row
   pub first-none : OneOf (0 ∷ 1 ∷ 2 ∷ 5 ∷ 6 ∷ 7 ∷ 8 ∷ 9 ∷ 10 ∷ []) (tagOf the-type l) → (fs : List tree.Field)

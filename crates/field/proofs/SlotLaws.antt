@@ -10,10 +10,11 @@ use denote.Enum.Declared.{tagOf}
 use lib.ListN.{drop, length}
 use Rattle.text.specs.Bytes.{Str}
 use Rattle.row.specs.Rows.{rows, restOf}
-use Rattle.row.specs.Line.{lineAt}
+use Rattle.row.specs.Line.{Content, lineSaid, lineAt}
 use Rattle.row.specs.declared.Line.{Line}
 use Rattle.row.specs.declared.Line.the-variants as line
 use Rattle.row.proofs.Line.{the-type}
+use Rattle.row.proofs.ReadLaws.{Good}
 use Rattle.tree.specs.Tree as tree
 use Rattle.tree.specs.Tree.{Ty, Value}
 use Rattle.tree.specs.Reader.{Rows, Reading, Reader, got, no, _then_, mapR}
@@ -57,14 +58,14 @@ slot-gets o e p rs P f = types (readType 16 rs) refl
     types (no k q) et = tt
 
 -- a row that says something is left behind
-pub row-fewer : (rs rest : Rows) (l : Line) → l ≡ lineAt rs → rest ≡ restOf rs → (l ≡ line.Bad → ⊥) → length rest < length rs
+pub row-fewer : (rs rest : Rows) (l : Content) → l ≡ lineAt rs → rest ≡ restOf rs → Good l → length rest < length rs
 unfolding restOf lineAt
-row-fewer [] rest l here after h = absurd (h here)
+row-fewer [] rest l here after h = let z : ⊥ = rw here at h in absurd z
 row-fewer (r ∷ rs) rest l here after h = rw after (omega arith)
 
--- the type t that stands at a position, and the line l of the row after it
+-- the type t that stands at a position, and what the code says of the row after it
 module _ (s : Str) (typ : ℕ) (t : TypeRow) (type-is : Gets (readType 16 (rows (drop typ s))) (TypeIs s t)) (l : Line)
-    (here : l ≡ lineAt (rows (drop (t .past) s))) where
+    (here : lineSaid l ≡ lineAt (rows (drop (t .past) s))) where
   -- no V row
   pub slot-no-value :
       (o e p : ℕ) (P : tree.Slot → Rows → Type 0)
@@ -81,14 +82,14 @@ module _ (s : Str) (typ : ℕ) (t : TypeRow) (type-is : Gets (readType 16 (rows 
 
 -- a slot by value, whose type t, V row l and words these are
 module _ (s : Str) (r : Slot) (t : TypeRow) (type-is : Gets (readType 16 (rows (drop (r .typ) s))) (TypeIs s t))
-    (kind : r .kind ≡ t .kind) (id : r .id ≡ t .id) (l : Line) (here : l ≡ lineAt (rows (drop (t .past) s)))
+    (kind : r .kind ≡ t .kind) (id : r .id ≡ t .id) (l : Line) (here : lineSaid l ≡ lineAt (rows (drop (t .past) s)))
     (after : rows (drop (r .words) s) ≡ restOf (rows (drop (t .past) s))) (is : l ≡ line.Value (r .default) (r .bits))
     (has : Bool) (has-is : has ≡ hasWords (r .explicit) (r .default))
     (counted : got (r .count) (rows (drop (r .next) s))
     ≡ mapR length (readWordsUpTo (mostWords has)) (rows (drop (r .words) s))) where
   value-is : (q : Rows) (v : Value) (w : Rows) → rows (drop (t .past) s) ≡ q → valueOf q ≡ got v w
       → (v ≡ record { kind = r .default; bits = r .bits }) × (w ≡ rows (drop (r .words) s))
-  unfolding valueOf
+  unfolding lineSaid valueOf
   value-is q v w e ev =
       let g : valueOf q ≡ got (record { kind = r .default; bits = r .bits }) (restOf q) = rw (← e, ← here, is) refl in
       let w-is : w ≡ restOf q = cc in
@@ -131,8 +132,9 @@ module _ (s : Str) (r : Slot) (t : TypeRow) (type-is : Gets (readType 16 (rows (
           )
 
   slot-fewer : length (rows (drop (t .past) s)) ≤ length (rows (drop (r .typ) s)) → Fewer s (r .typ) (field.Slot r)
+  unfolding lineSaid
   slot-fewer h =
-      let v = row-fewer _ _ l here after (λ e. never cc) in
+      let v = row-fewer _ _ (lineSaid l) here after (rw is tt) in
       let w = counted-fewer (mostWords has) (rows (drop (r .words) s)) (r .count) (rows (drop (r .next) s)) counted in
       omega arith
 

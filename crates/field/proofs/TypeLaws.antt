@@ -13,7 +13,7 @@ use lib.Dec.{eqb, ltb}
 use lib.ListN.{drop, length}
 use Rattle.text.specs.Bytes.{Str, cond}
 use Rattle.row.specs.Rows.{rows, restOf}
-use Rattle.row.specs.Line.{lineAt, lineOf, asType}
+use Rattle.row.specs.Line.{lineSaid, lineAt, lineOf, asType}
 use Rattle.row.specs.declared.Line.{Line}
 use Rattle.row.specs.declared.Line.the-variants as line
 use Rattle.row.proofs.Line.{the-type}
@@ -89,40 +89,42 @@ pub nested-fewer : (rs rest q : Rows) (n : ℕ) → rest ≡ restOf rs → q ≡
 nested-fewer rs rest q n e f =
     let g = rest-fewer rs rest e in let h = past-fewer rest n in rw f (omega arith)
 
--- the row l that stands first, and the rows after it
-module _ (s : Str) (r : TypeRow) (rs rest : Rows) (l : Line) (here : l ≡ lineAt rs) (after : rest ≡ restOf rs) where
+-- what the code says of the row that stands first, and the rows after it
+module _ (s : Str) (r : TypeRow) (rs rest : Rows) (l : Line) (here : lineSaid l ≡ lineAt rs) (after : rest ≡ restOf rs) where
   pub type-other : OneOf (0 ∷ 1 ∷ 2 ∷ 3 ∷ 4 ∷ 6 ∷ 7 ∷ 8 ∷ 9 ∷ 10 ∷ []) (tagOf the-type l) → Gets (readType 16 rs) (TypeIs s r)
   unfolding readType
   type-other other = rw (← here, not-type {A = Reader _} l _ _ other) tt
 
   module _ (k a b c : ℕ) (is : l ≡ line.Typ k a b c) (id : r .id ≡ a) where
-    past-is : rows (drop (r .past) s) ≡ pastRows rest (owed l) → rows (drop (r .past) s) ≡ pastRows rs 1
+    past-is : rows (drop (r .past) s) ≡ pastRows rest (owed (lineSaid l)) → rows (drop (r .past) s) ≡ pastRows rs 1
     past-is h = h ∙ sym (rw (add-zero, ← here, ← after) at (past-next rs 0))
 
     id-is : r .id ≡ idAt rs
+    unfolding lineSaid
     id-is = id ∙ rw (← here, is) refl
 
     below : k < 18 → r .kind ≡ k → r .kind ≡ kindAt rs
+    unfolding lineSaid
     below h e = e ∙ rw (← here, is, lt-ltb k 18 h) refl
 
     pub type-plain : r .kind ≡ k → k < 14 → rows (drop (r .past) s) ≡ rest → Gets (readType 16 rs) (TypeIs s r)
-    unfolding owed
+    unfolding lineSaid owed
     type-plain e h p =
         type-gets s r rs (below (omega arith) e) id-is (past-is (p ∙ rw (is, lt-ltb k 14 h) (sym (past-none rest))))
 
     pub type-list : r .kind ≡ k → k ≡ 14 → rows (drop (r .past) s) ≡ pastRows rest 1 → Gets (readType 16 rs) (TypeIs s r)
-    unfolding owed
+    unfolding lineSaid owed
     type-list e h p =
         type-gets s r rs (below (omega arith) e) id-is (past-is (p ∙ rw (is, le-ltb k 14 (omega arith), eq-eqb k 14 h) refl))
 
     pub type-brand : r .kind ≡ k → 14 ≤ k → (k ≡ 14 → ⊥) → k < 18 → rows (drop (r .past) s) ≡ pastRows rest b
         → Gets (readType 16 rs) (TypeIs s r)
-    unfolding owed
+    unfolding lineSaid owed
     type-brand e h n u p =
         type-gets s r rs (below u e) id-is (past-is (p ∙ rw (is, le-ltb k 14 h, ne-eqb k 14 n, lt-ltb k 18 u) refl))
 
     pub type-pointer : r .kind ≡ 18 → 18 ≤ k → rows (drop (r .past) s) ≡ rest → Gets (readType 16 rs) (TypeIs s r)
-    unfolding owed
+    unfolding lineSaid owed
     type-pointer e h p =
         type-gets s r rs (e ∙ rw (← here, is, le-ltb k 18 h) refl) id-is
         (past-is (p ∙ rw (is, le-ltb k 14 (omega arith), ne-eqb k 14 (λ z. omega arith), le-ltb k 18 h) (sym (past-none rest))))

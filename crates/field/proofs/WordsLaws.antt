@@ -10,7 +10,8 @@ use denote.Enum.Declared.{tagOf}
 use lib.ListN.{length}
 use Rattle.text.specs.Bytes.{Str}
 use Rattle.row.specs.Rows.{restOf}
-use Rattle.row.specs.Line.{lineAt, asWord}
+use Rattle.row.specs.Line as content
+use Rattle.row.specs.Line.{Content, lineSaid, lineAt, asWord}
 use Rattle.row.specs.declared.Line.{Line}
 use Rattle.row.specs.declared.Line.the-variants as line
 use Rattle.row.proofs.Line.{the-type}
@@ -43,10 +44,10 @@ unfolding counting readWordsUpTo
 count-full k rs h =
     let e : 255 - k ≡ 0 = omega arith in let f : k + 0 ≡ k = omega arith in rw e (ap (λ (n : ℕ). got n rs) f)
 
--- the first row's line l, and the rows after it
-module _ (rs rest : Rows) (l : Line) (here : l ≡ lineAt rs) (after : rest ≡ restOf rs) where
+-- what the code says of the first row, and the rows after it
+module _ (rs rest : Rows) (l : Line) (here : lineSaid l ≡ lineAt rs) (after : rest ≡ restOf rs) where
   pub count-on : (k w : ℕ) → k < 255 → l ≡ line.Word w → counting k rs ≡ counting (k + 1) rest
-  unfolding counting
+  unfolding lineSaid counting
   count-on k w h is =
       let e : 255 - k - 1 ≡ 255 - (k + 1) = omega arith in
       rw (words-more (255 - k) rs (omega arith), ← here, is, ← after, e) (go (readWordsUpTo (255 - (k + 1)) rest))
@@ -66,19 +67,19 @@ module _ (rs rest : Rows) (l : Line) (here : l ≡ lineAt rs) (after : rest ≡ 
 -- ---- the words that are read
 
 -- two choices by whether a line is a W row
-two : {A B : Type 0} (R : A → B → Type 0) (l : Line) (y : ℕ → A) (z : A) (y′ : ℕ → B) (z′ : B) → ((w : ℕ) → R (y w) (y′ w))
-    → R z z′ → R (asWord l y z) (asWord l y′ z′)
-two R line.Root y z y′ z′ f g = g
-two R (line.Node i p k x v c o) y z y′ z′ f g = g
-two R line.Parameter y z y′ z′ f g = g
-two R (line.Field o d e p) y z y′ z′ f g = g
-two R (line.Group i d) y z y′ z′ f g = g
-two R (line.Typ k a b c) y z y′ z′ f g = g
-two R (line.Scope i b c) y z y′ z′ f g = g
-two R line.Unbound y z y′ z′ f g = g
-two R (line.Value k b) y z y′ z′ f g = g
-two R (line.Word w) y z y′ z′ f g = f w
-two R line.Bad y z y′ z′ f g = g
+two : {A B : Type 0} (R : A → B → Type 0) (l : Content) (y : ℕ → A) (z : A) (y′ : ℕ → B) (z′ : B)
+    → ((w : ℕ) → R (y w) (y′ w)) → R z z′ → R (asWord l y z) (asWord l y′ z′)
+two R content.Root y z y′ z′ f g = g
+two R (content.Node i p k x v c o) y z y′ z′ f g = g
+two R content.Parameter y z y′ z′ f g = g
+two R (content.Field o d e p) y z y′ z′ f g = g
+two R (content.Group i d) y z y′ z′ f g = g
+two R (content.Typ k a b c) y z y′ z′ f g = g
+two R (content.Scope i b c) y z y′ z′ f g = g
+two R content.Unbound y z y′ z′ f g = g
+two R (content.Value k b) y z y′ z′ f g = g
+two R (content.Word w) y z y′ z′ f g = f w
+two R content.Bad y z y′ z′ f g = g
 
 -- where a slot has words, they are those up to 255
 words-whole : (has : Bool) (rs : Rows) (ws : List ℕ) (z : Rows) → readWords has rs ≡ got ws z

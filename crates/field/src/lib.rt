@@ -8,6 +8,7 @@ ghost use Prim.Native.Nat.{ℕ, _≤_};
 ghost use lib.ListN.{drop, length};
 ghost use Rattle.text.specs.Bytes.{Str};
 ghost use Rattle.row.specs.Rows.{rows, restOf};
+ghost use Rattle.row.specs.Span.{textBetween};
 ghost use Rattle.tree.specs.Tree as tree;
 ghost use Rattle.tree.specs.Reader.{got, mapR};
 ghost use Rattle.tree.specs.Read.{readType, readWordsUpTo, readSlot};
@@ -64,7 +65,8 @@ pub enum Field {
 impl Slot {
     // The field's name: the sheet's own bytes.
     pub fn name(self, s: &[u8]) -> &[u8]
-        ensures { λ r. ⌜ ((f : SlotField) → SlotHere (now (s .entry)) self f → now r ≡ f .name) ⌝ }
+        ensures name { λ r. ⌜ ((f : SlotField) → SlotHere (now (s .entry)) self f → now r ≡ f .name) ⌝ }
+        ensures is { λ r. ⌜ now r ≡ textBetween (now (s .entry)) (self .at) (self .typ) ⌝ }
     {
         row::text_before(s, self.at, self.typ)
     }
@@ -73,7 +75,8 @@ impl Slot {
 impl Group {
     // The field's name: the sheet's own bytes.
     pub fn name(self, s: &[u8]) -> &[u8]
-        ensures { λ r. ⌜ ((name : Str) (d id : ℕ) → GroupHere (now (s .entry)) self name d id → now r ≡ name) ⌝ }
+        ensures name { λ r. ⌜ ((name : Str) (d id : ℕ) → GroupHere (now (s .entry)) self name d id → now r ≡ name) ⌝ }
+        ensures is { λ r. ⌜ now r ≡ textBetween (now (s .entry)) (self .at) (self .next) ⌝ }
     {
         row::text_before(s, self.at, self.next)
     }

@@ -3,6 +3,7 @@
 use mathlib.Core.Path.{_≡_, refl, sym, _∙_}
 use mathlib.Core.Bool.{Bool, true, false}
 use mathlib.Core.List.{_++_}
+use mathlib.Core.Option.{none, some}
 use Prim.Native.Nat.{ℕ}
 use native.Mathlib.Omega.{arith}
 use borrow.Author.Tests.{eq-eqb, ne-eqb}
@@ -16,7 +17,6 @@ use Rattle.codegen_types.proofs.Laws.{refusal-then}
 use Rattle.codegen_types.proofs.WrittenLaws.{not-ok, ok-one}
 use Rattle.codegen_types.specs.declared.Leaf.{Leaf}
 use Rattle.codegen_types.specs.declared.Leaf.the-variants.{Client}
-use Rattle.codegen_types.specs.declared.Refusal.the-variants.{None, Number}
 use Rattle.field.specs.Slot.{HasId, SlotIs}
 use Rattle.field.specs.declared.Slot.{Slot}
 use Rattle.codegen.specs.Getter.{isOptionField, isFallible, resultType}
@@ -28,11 +28,11 @@ pub record Ok {A : Type 0} (o : Out A) : Type 0 where
   pub given : A
   pub is : o ≡ ok given
 
-pub ok-is : {A : Type 0} (o : Out A) → refusalOf o ≡ None → Ok o
+pub ok-is : {A : Type 0} (o : Out A) → refusalOf o ≡ none → Ok o
 ok-is (ok a) e = record { given = a; is = refl }
 ok-is (refused k) e = let z : _≡_ {A = ℕ} 0 1 = cc in let w : ⊥ = omega arith in absurd w
 
-pub refused-is : {A : Type 0} (o : Out A) (k : ℕ) → refusalOf o ≡ Number k → o ≡ refused k
+pub refused-is : {A : Type 0} (o : Out A) (k : ℕ) → refusalOf o ≡ some k → o ≡ refused k
 refused-is (ok a) k e = let z : _≡_ {A = ℕ} 0 1 = cc in let w : ⊥ = omega arith in absurd w
 refused-is (refused j) k e = let f : j ≡ k = cc in rw f refl
 
@@ -58,12 +58,12 @@ client-same sheet id ss leaf = start (nodeOf (sheet .nodes) id)
 
 -- the result type refuses nothing that the type did not
 pub result-ok : (sheet : Sheet) (t : Ty) (a : ℕ) (leaf : Leaf) (typ : Str) → HasId t a
-    → refusalOf (typeString t sheet leaf) ≡ None → refusalOf (resultType sheet t typ) ≡ None
+    → refusalOf (typeString t sheet leaf) ≡ none → refusalOf (resultType sheet t typ) ≡ none
 result-ok sheet (plain k) a leaf typ h e =
     rw (ne-eqb k 15 (λ z. let w : ⊥ = omega arith in absurd w), ne-eqb k 17 (λ z. let w : ⊥ = omega arith in absurd w))
     (either-ok (isFallible (plain k)))
   where
-    either-ok : (b : Bool) → refusalOf (cond b (ok (sheet .root ++ ascii "::Result<" ++ typ ++ ascii ">")) (ok typ)) ≡ None
+    either-ok : (b : Bool) → refusalOf (cond b (ok (sheet .root ++ ascii "::Result<" ++ typ ++ ascii ">")) (ok typ)) ≡ none
     either-ok true = refl
     either-ok false = refl
 result-ok sheet (list t) a leaf typ h e = refl
@@ -79,18 +79,18 @@ result-ok sheet (parameter i k) a leaf typ h e = refl
 
 -- the code's four ways
 module _ (s : tree.Slot) (r : Slot) (is : SlotIs r s) where
-  pub option-absent : r .option ≡ 0 → None ≡ refusalOf (isOptionField s)
+  pub option-absent : r .option ≡ 0 → none ≡ refusalOf (isOptionField s)
   option-absent e = rw (is .option, eq-eqb (r .option) 0 e) refl
 
   module _ (e : r .option ≡ 0 → ⊥) where
-    pub option-client : r .kind ≡ 17 → Number 9 ≡ refusalOf (isOptionField s)
+    pub option-client : r .kind ≡ 17 → some 9 ≡ refusalOf (isOptionField s)
     option-client k = rw (is .option, ne-eqb (r .option) 0 e, is .kind ∙ k) refl
 
     module _ (k : r .kind ≡ 17 → ⊥) (b : Bool) (told : b ≡ both (leb 12 (r .kind)) (cond (eqb (r .kind) 15) false true)) where
-      pub option-pointer : b ≡ true → None ≡ refusalOf (isOptionField s)
+      pub option-pointer : b ≡ true → none ≡ refusalOf (isOptionField s)
       option-pointer t = rw (is .option, ne-eqb (r .option) 0 e, is .kind, sym told ∙ t, ne-eqb (r .kind) 17 k) refl
 
-      pub option-other : b ≡ false → Number 9 ≡ refusalOf (isOptionField s)
+      pub option-other : b ≡ false → some 9 ≡ refusalOf (isOptionField s)
       option-other t = rw (is .option, ne-eqb (r .option) 0 e, is .kind, sym told ∙ t) refl
 
 -- is_option_field's answer is the slot's own

@@ -3,6 +3,7 @@
 use mathlib.Core.Path.{_≡_, refl, sym, ap, _∙_, subst}
 use mathlib.Core.Bool.{Bool, true, false, not}
 use mathlib.Core.List.{List, [], _∷_, _++_, append-assoc}
+use mathlib.Core.Option.{none}
 use Prim.Native.Nat.{ℕ, zero, suc, _<_, _≤_}
 use native.Mathlib.Omega.{arith}
 use borrow.Author.Tests.{ne-eqb, le-leb, lt-leb}
@@ -21,13 +22,12 @@ use Rattle.codegen_types.specs.Out.{Out, ok, refused, _then_, refusalOf}
 use Rattle.codegen_types.specs.Leaf.{display}
 use Rattle.codegen_types.specs.TypeString.{typeString, getQualifiedModule, primitives, isPointer}
 use Rattle.codegen_types.specs.Primitive.{primitiveText}
-use Rattle.codegen_types.specs.Written.{Writes}
+use Rattle.codegen_types.specs.Written.{refusalNumber, Writes}
 use Rattle.codegen_types.specs.declared.Leaf.{Leaf}
 use Rattle.codegen_types.specs.declared.Leaf.the-variants.{Client}
 use Rattle.codegen_types.specs.declared.Written.{Written}
-use Rattle.codegen_types.specs.declared.Refusal.the-variants.{None}
 use Rattle.codegen_types.proofs.Laws.{refusal-then}
-use Rattle.codegen_types.proofs.WrittenLaws.{whole, none, text-of, around}
+use Rattle.codegen_types.proofs.WrittenLaws.{whole, no-text, text-of, around}
 use Rattle.types.proofs.Laws.{on-one, on-has}
 use Rattle.field.specs.Slot.{HasId, SlotIs, SlotField, SlotHere}
 use Rattle.field.specs.declared.Slot.{Slot}
@@ -61,18 +61,18 @@ after-alike (refused k) p e = sym (refused-is p k (sym e))
 front : {a : Str} {l l₁ l₂ : List ℕ} {t t₁ : Text} {r : Written} (f : Str → Str) (o : Out Str) → Wrote l t a l₁ t₁
     → Writes (o then λ w. ok (f w)) l₁ t₁ l₂ r → Writes (o then λ w. ok (a ++ f w)) l t l₂ r
 front f (ok w) x y = whole (x ⨾ text-of y) (y .refusal)
-front f (refused k) x y = none (y .refusal)
+front f (refused k) x y = no-text (y .refusal)
 
 between : {a b : Str} {l l₁ l₂ l₃ : List ℕ} {t t₁ t₃ : Text} {r q : Written} (f : Str → Str) (o : Out Str) → Wrote l t a l₁ t₁
-    → Writes (o then λ w. ok (f w)) l₁ t₁ l₂ r → Wrote l₂ (r .text) b l₃ t₃ → q .text ≡ t₃ → q .refusal ≡ r .refusal
-    → Writes (o then λ w. ok (a ++ f w ++ b)) l t l₃ q
+    → Writes (o then λ w. ok (f w)) l₁ t₁ l₂ r → Wrote l₂ (r .text) b l₃ t₃ → q .text ≡ t₃
+    → refusalNumber (q .refusal) ≡ refusalNumber (r .refusal) → Writes (o then λ w. ok (a ++ f w ++ b)) l t l₃ q
 between f (ok w) x y z e n = around (ok (f w)) x y z e n
 between f (refused k) x y z e n = around (refused k) x y z e n
 
 -- the text of whatever type is read, in an option or between two texts
-module _ (g : Reading Ty) (sheet : Sheet) (leaf : Leaf) {l l₁ l₂ l₃ : List ℕ} {t t₁ t₃ : Text} {r : Written} (q : Written) where
+module _ (g : Reading Ty) (sheet : Sheet) (leaf : Leaf) {l l₁ l₂ l₃ : List ℕ} {t t₁ t₃ : Text} (r q : Written) where
   pub on-option : Wrote l t (ascii "Option<") l₁ t₁ → On g (λ ty. Writes (typeString ty sheet leaf) l₁ t₁ l₂ r)
-      → Wrote l₂ (r .text) (ascii ">") l₃ t₃ → q .text ≡ t₃ → q .refusal ≡ r .refusal
+      → Wrote l₂ (r .text) (ascii ">") l₃ t₃ → q .text ≡ t₃ → refusalNumber (q .refusal) ≡ refusalNumber (r .refusal)
       → On g (λ ty. Writes (typeString ty sheet leaf then λ w. ok (optional true w)) l t l₃ q)
   on-option a x b e n =
       on-one (λ ty. Writes (typeString ty sheet leaf) l₁ t₁ l₂ r)
@@ -81,7 +81,7 @@ module _ (g : Reading Ty) (sheet : Sheet) (leaf : Leaf) {l l₁ l₂ l₃ : List
 
   pub on-fallible : (root : Str) (option : Bool) → Wrote l t (root ++ ascii "::Result<") l₁ t₁
       → On g (λ ty. Writes (typeString ty sheet leaf then λ w. ok (optional option w)) l₁ t₁ l₂ r)
-      → Wrote l₂ (r .text) (ascii ">") l₃ t₃ → q .text ≡ t₃ → q .refusal ≡ r .refusal
+      → Wrote l₂ (r .text) (ascii ">") l₃ t₃ → q .text ≡ t₃ → refusalNumber (q .refusal) ≡ refusalNumber (r .refusal)
       → On g (λ ty. Writes (typeString ty sheet leaf then λ w. ok (fallibleResult root (optional option w))) l t l₃ q)
   on-fallible root option a x b e n =
       on-one (λ ty. Writes (typeString ty sheet leaf then λ w. ok (optional option w)) l₁ t₁ l₂ r)
@@ -91,10 +91,10 @@ module _ (g : Reading Ty) (sheet : Sheet) (leaf : Leaf) {l l₁ l₂ l₃ : List
 -- a module in the result type of an enum
 pub enum-told : {l l₁ l₂ l₃ l₄ l₅ : List ℕ} {t t₁ t₃ t₄ : Text} {r : Written} {root : Str} (q : Written) (o : Out Str)
     → Wrote l t (ascii "::core::result::Result<") l₁ t₁ → Writes o l₁ t₁ l₂ r → Wrote l₂ (r .text) (ascii ",") l₃ t₃
-    → Wrote l₃ t₃ root l₄ t₄ → Wrote l₄ t₄ (ascii "::NotInSchema>") l₅ (q .text) → q .refusal ≡ r .refusal
-    → Writes (o then λ typ. ok (enumResult root typ)) l t l₅ q
+    → Wrote l₃ t₃ root l₄ t₄ → Wrote l₄ t₄ (ascii "::NotInSchema>") l₅ (q .text)
+    → refusalNumber (q .refusal) ≡ refusalNumber (r .refusal) → Writes (o then λ typ. ok (enumResult root typ)) l t l₅ q
 enum-told q (ok w) a x b c d n = whole (a ⨾ text-of x ⨾ b ⨾ c ⨾ d) (n ∙ x .refusal)
-enum-told q (refused k) a x b c d n = none (n ∙ x .refusal)
+enum-told q (refused k) a x b c d n = no-text (n ∙ x .refusal)
 
 -- ---- functions
 
@@ -362,7 +362,8 @@ module _ (sheet : Sheet) (isReader isFn : Bool) (bytes : Str) (r : Slot) (f : Sl
   read = readType 16 (rows (drop (r .typ) bytes))
 
   pub prim-here : {l l′ : List ℕ} {t t₁ : Text} {q : Written} → r .kind ≤ 11
-      → Wrote l t (asFunction isFn (primitiveText (r .kind))) l′ t₁ → (q .text ≡ t₁) × (q .refusal ≡ None) → Writes out l t l′ q
+      → Wrote l t (asFunction isFn (primitiveText (r .kind))) l′ t₁
+      → (q .text ≡ t₁) × (refusalNumber (q .refusal) ≡ none) → Writes out l t l′ q
   prim-here {l} {l′} {t} le w n =
       rw (prim-out sheet (f .slot) isReader isFn r (h .slot) le)
       (whole (subst (λ (x : Text). Wrote l t (asFunction isFn (primitiveText (r .kind))) l′ x) (sym (n .0)) w) (n .1))

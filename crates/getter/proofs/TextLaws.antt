@@ -3,6 +3,7 @@
 use mathlib.Core.Path.{_≡_, refl, sym, ap, _∙_}
 use mathlib.Core.Bool.{Bool, true, false}
 use mathlib.Core.List.{List, []}
+use mathlib.Core.Option.{Option, none, some}
 use Prim.Native.Nat.{ℕ, _≤_}
 use borrow.Author.Tests.{eqb-true, leb-true}
 use lib.Dec.{eqb, leb}
@@ -16,41 +17,46 @@ use Rattle.names.specs.Names.{defaultName}
 use Rattle.row.specs.Rows.{rows}
 use Rattle.tree.specs.Tree as tree
 use Rattle.tree.specs.Tree.{kind, Sheet}
-use Rattle.tree.specs.Read.{hasWords, readWords}
-use Rattle.tree.specs.Reader.{Has}
+use Rattle.tree.specs.Read.{hasWords}
+use Rattle.tree.specs.Reader.{Rows}
 use Rattle.codegen_types.specs.Out.{Out, ok, refused, refusalOf}
 use Rattle.codegen_types.specs.TypeString.{typeString}
 use Rattle.codegen_types.specs.Primitive.{primitiveText}
-use Rattle.codegen_types.specs.Written.{Writes, firstOf}
+use Rattle.codegen_types.specs.Written.{refusalNumber, Writes, firstOf}
 use Rattle.codegen_types.specs.declared.Leaf.{Leaf}
-use Rattle.codegen_types.specs.declared.Refusal.{Refusal}
-use Rattle.codegen_types.specs.declared.Refusal.the-variants.{None, Number}
 use Rattle.codegen_types.specs.declared.Written.{Written}
-use Rattle.codegen_types.proofs.WrittenLaws.{whole, none, text-of}
+use Rattle.codegen_types.proofs.WrittenLaws.{whole, no-text, text-of}
 use Rattle.field.specs.Slot.{SlotIs, SlotField, SlotHere}
 use Rattle.field.specs.declared.Slot.{Slot}
 use Rattle.codegen.specs.WordArray.{wordArrayDeclaration}
 use Rattle.codegen.specs.Getter.{moduleLeaf, isOptionField, optional, resultType, asFunction, fragmentOf, getterFragment}
 use Rattle.codegen.specs.Getter.{getterCode, defaultDeclaration, declared, getterText, getterRequest}
-use Rattle.getter.specs.Result.{yes, resultOut}
+use Rattle.getter_code.specs.Parts.{codeBy}
+use Rattle.getter_code.proofs.Laws.{code-of}
+use Rattle.pointer_constants.specs.Words.{wordsAt, declarationText}
+use Rattle.pointer_constants.proofs.Laws.{declaration-of}
+use Rattle.getter.specs.Result.{yes, resultOut, declaredBy}
 use Rattle.getter.proofs.RefusalLaws.{ok-is, result-ok, option-is}
 use Rattle.getter.proofs.ResultLaws.{at-plain, prim-text}
 
 -- ---- the declaration
 
-module _ (bytes : Str) (r : Slot) (f : SlotField) (h : SlotHere bytes r f) where
-  pub words-here : r .kind ≡ r .default → hasWords (r .explicit) (r .kind) ≡ true
-      → Has (readWords true (rows (drop (r .words) bytes))) (λ ws. ws ≡ f .slot .words)
-  words-here k e = rw (← k, e) at (h .words)
+-- a declaration by a slot's numbers is that of the tree's slot, where the default is of the slot's type
+pub declared-here : {l : List ℕ} {t : Text} {l′ : List ℕ} {t′ : Text} (root name bytes : Str) (r : Slot) (f : SlotField)
+    → SlotHere bytes r f → r .kind ≡ r .default → Wrote l t (declaredBy root name bytes r) l′ t′
+    → Wrote l t (declared (defaultDeclaration root name (f .slot))) l′ t′
+declared-here {l} {t} {l′} {t′} root name bytes r f h k w =
+    rw (h .slot .explicit, h .slot .kind) (go (hasWords (r .explicit) (r .kind)) refl w)
+  where
+    there : Rows
+    there = rows (drop (r .words) bytes)
 
-  pub words-text : (root name : Str) → hasWords (r .explicit) (r .kind) ≡ true
-      → declared (defaultDeclaration root name (f .slot))
-      ≡ stringify (wordArrayDeclaration root (defaultName name) (f .slot .words) true)
-  words-text root name e = rw (h .slot .explicit, h .slot .kind, e) refl
-
-  pub no-words : (root name : Str) → hasWords (r .explicit) (r .kind) ≡ false
-      → declared (defaultDeclaration root name (f .slot)) ≡ []
-  no-words root name e = rw (h .slot .explicit, h .slot .kind, e) refl
+    go : (b : Bool) → hasWords (r .explicit) (r .kind) ≡ b
+        → Wrote l t (cond b (declarationText root (defaultName name) (r .count) (wordsAt (r .count) there)) []) l′ t′
+        → Wrote l t (declared (cond b (some (wordArrayDeclaration root (defaultName name) (f .slot .words) true)) none)) l′ t′
+    go true e x =
+        declaration-of root (defaultName name) there (r .count) x (f .slot .words) (rw (← k, e) at (h .words)) (h .count)
+    go false e x = x
 
 -- ---- the whole
 
@@ -84,13 +90,14 @@ codeText root name s isReader isFn r =
 -- a slot r of the tree's s: what its result type x, the newline, the code and the declaration leave, and the refusals of its
 -- option and its default
 module _ (sheet : Sheet) (name : Str) (s : tree.Slot) (isReader isFn : Bool) (r : Slot) (is : SlotIs r s)
-    {l l₁ l₂ l₃ l₄ : List ℕ} {t t₂ t₃ : Text} {p q : Written} (x : Writes (resultOut sheet s isReader isFn) l t l₁ p)
+    {l l₁ l₂ l₃ l₄ : List ℕ} {t t₂ t₃ : Text} {p : Written} (q : Written)
+    (x : Writes (resultOut sheet s isReader isFn) l t l₁ p)
     (newline : Wrote l₁ (p .text) (unit 10) l₂ t₂)
     (code : s .default .kind ≡ kind (s .ty) → Wrote l₂ t₂ (codeText (sheet .root) name s isReader isFn r) l₃ t₃)
     (decl : s .default .kind ≡ kind (s .ty) → Wrote l₃ t₃ (declared (defaultDeclaration (sheet .root) name s)) l₄ (q .text))
-    (of-option of-default : Refusal) (option-told : of-option ≡ refusalOf (isOptionField s))
+    (of-option of-default : Option ℕ) (option-told : of-option ≡ refusalOf (isOptionField s))
     (default-told : (typ : Str) → of-default ≡ refusalOf (getterFragment (sheet .root) name s isReader isFn typ))
-    (first : q .refusal ≡ firstOf (p .refusal) (firstOf of-option of-default)) where
+    (first : refusalNumber (q .refusal) ≡ firstOf (refusalNumber (p .refusal)) (firstOf of-option of-default)) where
   abbrev leaf : Leaf
   leaf = moduleLeaf isReader
 
@@ -102,7 +109,7 @@ module _ (sheet : Sheet) (name : Str) (s : tree.Slot) (isReader isFn : Bool) (r 
   unfolding getterRequest getterText
   by-type k e =
       let y : Writes (refused k) l t l₁ p = rw e at x in
-      rw e (none (first ∙ ap (λ (z : Refusal). firstOf z (firstOf of-option of-default)) (y .refusal)))
+      rw e (no-text (first ∙ ap (λ (z : Option ℕ). firstOf z (firstOf of-option of-default)) (y .refusal)))
 
   -- the type has a text, and so has the result type
   module _ (w result : Str) (typ : typeString (s .ty) sheet leaf ≡ ok w)
@@ -114,14 +121,14 @@ module _ (sheet : Sheet) (name : Str) (s : tree.Slot) (isReader isFn : Bool) (r 
     by-option : (k : ℕ) → isOptionField s ≡ refused k → Told
     unfolding getterRequest getterText
     by-option k e =
-        let n : of-option ≡ Number k = option-told ∙ ap refusalOf e in
-        rw (typ, e) (none (first ∙ rw (given .refusal, n) refl))
+        let n : of-option ≡ some k = option-told ∙ ap refusalOf e in
+        rw (typ, e) (no-text (first ∙ rw (given .refusal, n) refl))
 
     -- or not
     module _ (b : Bool) (e : isOptionField s ≡ ok b) where
-      own : q .refusal ≡ of-default
+      own : refusalNumber (q .refusal) ≡ of-default
       own =
-          let n : of-option ≡ None = option-told ∙ ap refusalOf e in
+          let n : of-option ≡ none = option-told ∙ ap refusalOf e in
           first ∙ rw (given .refusal, n) refl
 
       result-is : resultType sheet (s .ty) (optional b w) ≡ ok result
@@ -130,14 +137,14 @@ module _ (sheet : Sheet) (name : Str) (s : tree.Slot) (isReader isFn : Bool) (r 
       by-default : eqb (kind (s .ty)) (s .default .kind) ≡ false → Told
       unfolding getterRequest getterText
       by-default n =
-          let d : of-default ≡ Number 10 = default-told w ∙ rw n refl in
-          rw (typ, e, result-is, n) (none (own ∙ d))
+          let d : of-default ≡ some 10 = default-told w ∙ rw n refl in
+          rw (typ, e, result-is, n) (no-text (own ∙ d))
 
       by-none : eqb (kind (s .ty)) (s .default .kind) ≡ true → Told
       unfolding getterRequest getterText
       by-none n =
           let k : s .default .kind ≡ kind (s .ty) = sym (eqb-true (kind (s .ty)) (s .default .kind) n) in
-          let d : of-default ≡ None = default-told w ∙ rw n refl in
+          let d : of-default ≡ none = default-told w ∙ rw n refl in
           rw (typ, e, result-is, n, option-is s b e, ← fragment-typ sheet (sheet .root) name s isReader isFn r is leaf w typ)
           (whole (text-of given ⨾ newline ⨾ code k ⨾ decl k) (own ∙ d))
 
@@ -157,22 +164,23 @@ module _ (sheet : Sheet) (name : Str) (s : tree.Slot) (isReader isFn : Bool) (r 
           told w (result .given) e (result .is) (isOptionField s) refl (eqb (kind (s .ty)) (s .default .kind)) refl
 
 -- the slot that was read, by its name's bytes
-pub getter-here : {l₁ l₂ l₃ l₄ : List ℕ} {t₂ t₃ : Text} {p : Written} {of-option of-default of-slot : Refusal} (q : Written)
+pub getter-here : {l₁ l₂ l₃ l₄ : List ℕ} {t₂ t₃ : Text} {p : Written} {of-option of-default of-slot : Option ℕ} (q : Written)
     (l : List ℕ) (t : Text) (bytes : Str) (r : Slot) (name : Str) (sheet : Sheet) (isReader isFn : Bool)
     → ((f : SlotField) → SlotHere bytes r f → name ≡ f .name)
     → ((f : SlotField) → SlotHere bytes r f → Writes (resultOut sheet (f .slot) isReader isFn) l t l₁ p)
     → Wrote l₁ (p .text) (unit 10) l₂ t₂
-    → ((sl : tree.Slot) → SlotIs r sl → sl .default .kind ≡ kind (sl .ty)
-    → Wrote l₂ t₂ (codeText (sheet .root) name sl isReader isFn r) l₃ t₃)
-    → ((f : SlotField) → SlotHere bytes r f → r .kind ≡ r .default
-    → Wrote l₃ t₃ (declared (defaultDeclaration (sheet .root) name (f .slot))) l₄ (q .text))
+    → Wrote l₂ t₂ (stringify (codeBy (sheet .root) name r isReader isFn)) l₃ t₃
+    → Wrote l₃ t₃ (declaredBy (sheet .root) name bytes r) l₄ (q .text)
     → ((sl : tree.Slot) → SlotIs r sl → of-option ≡ refusalOf (isOptionField sl))
     → ((sl : tree.Slot) (root name typ : Str) (isReader isFn : Bool) → SlotIs r sl
     → of-default ≡ refusalOf (getterFragment root name sl isReader isFn typ))
-    → of-slot ≡ firstOf of-option of-default → q .refusal ≡ firstOf (p .refusal) of-slot
+    → of-slot ≡ firstOf of-option of-default → refusalNumber (q .refusal) ≡ firstOf (refusalNumber (p .refusal)) of-slot
     → (f : SlotField) → SlotHere bytes r f → Writes (getterRequest sheet (f .name) (f .slot) isReader isFn) l t l₄ q
 getter-here {p = p} {of-option} {of-default} q l t bytes r name sheet isReader isFn named x newline code decl o d own first f h =
     rw (← named f h)
-    (getter-told sheet name (f .slot) isReader isFn r (h .slot) (x f h) newline (code (f .slot) (h .slot))
-    (λ k. decl f h (sym (h .slot .kind) ∙ sym k ∙ h .slot .default)) of-option of-default (o (f .slot) (h .slot))
-    (λ typ. d (f .slot) (sheet .root) name typ isReader isFn (h .slot)) (first ∙ ap (firstOf (p .refusal)) own))
+    (getter-told sheet name (f .slot) isReader isFn r (h .slot) q (x f h) newline
+    (λ k. code-of r (f .slot) (h .slot) k (sheet .root) name isReader isFn code)
+    (λ k. declared-here (sheet .root) name bytes r f h (sym (h .slot .kind) ∙ sym k ∙ h .slot .default) decl)
+    of-option of-default (o (f .slot) (h .slot))
+    (λ typ. d (f .slot) (sheet .root) name typ isReader isFn (h .slot))
+    (first ∙ ap (firstOf (refusalNumber (p .refusal))) own))

@@ -11,7 +11,7 @@ ghost use mathlib.Core.Path.{_≡_};
 ghost use mathlib.Core.Bool.{Bool};
 ghost use lib.ListN.{drop};
 ghost use Rattle.text.specs.Bytes.{Str};
-ghost use Rattle.text.specs.Text.{Wrote};
+ghost use Rattle.text.specs.Text.{Wrote, WroteSome};
 ghost use Rattle.row.specs.Rows.{rows};
 ghost use Rattle.tree.specs.Tree as tree;
 ghost use Rattle.tree.specs.Read.{readType};
@@ -20,11 +20,10 @@ ghost use Rattle.nodes.specs.Index.{ForAll};
 ghost use Rattle.codegen_types.specs.Out.{ok, _then_, refusalOf};
 ghost use Rattle.codegen_types.specs.TypeString.{typeString, getQualifiedModule};
 ghost use Rattle.codegen_types.specs.Primitive.{primitiveText};
-ghost use Rattle.codegen_types.specs.Written.{Writes};
+ghost use Rattle.codegen_types.specs.Written.{refusalNumber, Writes};
 ghost use Rattle.field.specs.Slot.{SlotIs, SlotField, SlotHere};
-ghost use Rattle.codegen.specs.Getter.{moduleLeaf, isOptionField, optional, asFunction, getterFragment};
-ghost use Rattle.codegen.specs.Getter.{defaultDeclaration, declared, getterRequest};
-ghost use Rattle.getter.specs.Result.{arrow, enumResult, fallibleResult, resultOut};
+ghost use Rattle.codegen.specs.Getter.{moduleLeaf, isOptionField, optional, asFunction, getterFragment, getterRequest};
+ghost use Rattle.getter.specs.Result.{arrow, enumResult, fallibleResult, resultOut, declaredBy};
 
 // The leaf of a Reader's getter, or a Builder's.
 fn module_leaf(is_reader: bool) -> Leaf
@@ -38,7 +37,7 @@ fn module_leaf(is_reader: bool) -> Leaf
 
 // What is_option_field refuses: an option of what is no pointer, or of an interface.
 fn option_refusal(slot: Slot) -> Refusal
-    ensures { λ r. ⌜ ((sl : tree.Slot) → SlotIs slot sl → r ≡ refusalOf (isOptionField sl)) ⌝ }
+    ensures { λ r. ⌜ ((sl : tree.Slot) → SlotIs slot sl → refusalNumber r ≡ refusalOf (isOptionField sl)) ⌝ }
 {
     if slot.option == 0 {
         return Refusal::None;
@@ -55,7 +54,7 @@ fn option_refusal(slot: Slot) -> Refusal
 // What getter_fragment refuses: a default that is not of the slot's type.
 fn default_refusal(slot: Slot) -> Refusal
     ensures { λ r. ⌜ ((sl : tree.Slot) (root name typ : Str) (isReader isFn : Bool) → SlotIs slot sl
-        → r ≡ refusalOf (getterFragment root name sl isReader isFn typ)) ⌝ }
+        → refusalNumber r ≡ refusalOf (getterFragment root name sl isReader isFn typ)) ⌝ }
 {
     if slot.kind == slot.default {
         return Refusal::None;
@@ -89,9 +88,10 @@ fn prim_result(kind: u64, is_fn: bool, t: Text, buf: &mut [u8]) -> Text
 
 // The result type of an enum, whose node has this id.
 fn enum_result(root: &[u8], s: &[u8], index: &[u64], id: u64, t: Text, buf: &mut [u8]) -> Written
-    ensures { λ r. ⌜ ForAll (now (root .entry)) (now (s .entry)) (now (index .entry)) (λ sheet.
+    ensures text { λ r. ⌜ ForAll (now (root .entry)) (now (s .entry)) (now (index .entry)) (λ sheet.
         Writes (getQualifiedModule sheet id then λ typ. ok (enumResult (now (root .entry)) typ))
         (now (buf .entry)) t (now (buf .exit)) r) ⌝ }
+    ensures some { λ r. ⌜ WroteSome (now (buf .entry)) t (now (buf .exit)) (r .text) ⌝ }
 {
     let t = t.bytes(buf, b"::core::result::Result<");
     let typ = type_parts::qualified_module(s, index, id, t, buf);
@@ -113,9 +113,10 @@ fn optional_type(
     t: Text,
     buf: &mut [u8],
 ) -> Written
-    ensures { λ r. ⌜ ForAll (now (root .entry)) (now (s .entry)) (now (index .entry)) (λ sheet.
+    ensures text { λ r. ⌜ ForAll (now (root .entry)) (now (s .entry)) (now (index .entry)) (λ sheet.
         On (readType 16 (rows (drop at (now (s .entry))))) (λ ty.
         Writes (typeString ty sheet leaf then λ typ. ok (optional option typ)) (now (buf .entry)) t (now (buf .exit)) r)) ⌝ }
+    ensures some { λ r. ⌜ WroteSome (now (buf .entry)) t (now (buf .exit)) (r .text) ⌝ }
 {
     if option {
         let t = t.bytes(buf, b"Option<");
@@ -138,10 +139,11 @@ fn fallible_result(
     t: Text,
     buf: &mut [u8],
 ) -> Written
-    ensures { λ r. ⌜ ForAll (now (root .entry)) (now (s .entry)) (now (index .entry)) (λ sheet.
+    ensures text { λ r. ⌜ ForAll (now (root .entry)) (now (s .entry)) (now (index .entry)) (λ sheet.
         On (readType 16 (rows (drop at (now (s .entry))))) (λ ty.
         Writes (typeString ty sheet leaf then λ typ. ok (fallibleResult (now (root .entry)) (optional option typ)))
         (now (buf .entry)) t (now (buf .exit)) r)) ⌝ }
+    ensures some { λ r. ⌜ WroteSome (now (buf .entry)) t (now (buf .exit)) (r .text) ⌝ }
 {
     let t = t.bytes(buf, root);
     let t = t.bytes(buf, b"::Result<");
@@ -162,9 +164,10 @@ fn result_type(
     t: Text,
     buf: &mut [u8],
 ) -> Written
-    ensures { λ r. ⌜ ForAll (now (root .entry)) (now (s .entry)) (now (index .entry)) (λ sheet.
+    ensures text { λ r. ⌜ ForAll (now (root .entry)) (now (s .entry)) (now (index .entry)) (λ sheet.
         (f : SlotField) → SlotHere (now (s .entry)) slot f
         → Writes (resultOut sheet (f .slot) «is_reader» «is_fn») (now (buf .entry)) t (now (buf .exit)) r) ⌝ }
+    ensures some { λ r. ⌜ WroteSome (now (buf .entry)) t (now (buf .exit)) (r .text) ⌝ }
 {
     let kind = slot.kind;
     if kind <= kinds::FLOAT64 {
@@ -189,9 +192,8 @@ fn result_type(
 
 // The declaration of the default, if there is one.
 fn declaration(root: &[u8], s: &[u8], name: &[u8], slot: Slot, t: Text, buf: &mut [u8]) -> Text
-    ensures { λ r. ⌜ ((f : SlotField) → SlotHere (now (s .entry)) slot f → slot .kind ≡ slot .default
-        → Wrote (now (buf .entry)) t (declared (defaultDeclaration (now (root .entry)) (now (name .entry)) (f .slot)))
-        (now (buf .exit)) r) ⌝ }
+    ensures { λ r. ⌜ Wrote (now (buf .entry)) t
+        (declaredBy (now (root .entry)) (now (name .entry)) (now (s .entry)) slot) (now (buf .exit)) r ⌝ }
 {
     if tree::has_words(slot.explicit, slot.kind) {
         return pointer_constants::word_array_declaration(root, s, name, slot, t, buf);
@@ -211,9 +213,10 @@ pub fn getter(
     t: Text,
     buf: &mut [u8],
 ) -> Written
-    ensures { λ r. ⌜ ForAll (now (root .entry)) (now (s .entry)) (now (index .entry)) (λ sheet.
+    ensures text { λ r. ⌜ ForAll (now (root .entry)) (now (s .entry)) (now (index .entry)) (λ sheet.
         (f : SlotField) → SlotHere (now (s .entry)) slot f
         → Writes (getterRequest sheet (f .name) (f .slot) «is_reader» «is_fn») (now (buf .entry)) t (now (buf .exit)) r) ⌝ }
+    ensures some { λ r. ⌜ WroteSome (now (buf .entry)) t (now (buf .exit)) (r .text) ⌝ }
 {
     let name = slot.name(s);
     let result = result_type(root, s, index, slot, is_reader, is_fn, t, buf);

@@ -3,18 +3,12 @@ use field::Slot;
 use terms::kinds;
 use text::Text;
 ghost use mathlib.Core.Path.{_≡_};
-ghost use mathlib.Core.Bool.{true, false};
-ghost use lib.Dec.{eqb};
-ghost use Rattle.text.specs.Bytes.{cond};
 ghost use Rattle.text.specs.Lines.{stringify};
 ghost use Rattle.text.specs.Text.{Wrote};
-ghost use Rattle.tree.specs.Tree as tree;
-ghost use Rattle.field.specs.Slot.{SlotIs};
-ghost use Rattle.codegen_types.specs.Primitive.{primitiveText};
 ghost use Rattle.codegen.specs.Getter.{void, pointerDefault, fromPointer, capability, untyped};
-ghost use Rattle.codegen.specs.Getter.{isFallible, fragmentOf, getterCode};
+ghost use Rattle.codegen.specs.Getter.{isFallible};
 ghost use Rattle.getter_code.specs.Parts.{fromPointerHead, capabilityHead, anyPointerHead};
-ghost use Rattle.getter_code.specs.Parts.{nullHead, absent, someEnd};
+ghost use Rattle.getter_code.specs.Parts.{nullHead, absent, someEnd, typeBy, fragmentBy, codeBy};
 
 fn void(is_fn: bool, t: Text, buf: &mut [u8]) -> Text
     ensures { λ r. ⌜ Wrote (now (buf .entry)) t (void «is_fn») (now (buf .exit)) r ⌝ }
@@ -134,7 +128,7 @@ fn untyped(
     t.bytes(buf, b"))")
 }
 
-// getter_fragment of a slot whose default is of its type.
+// getter_fragment of a slot, its default taken to be of its type.
 fn fragment(
     root: &[u8],
     name: &[u8],
@@ -144,9 +138,8 @@ fn fragment(
     t: Text,
     buf: &mut [u8],
 ) -> Text
-    ensures { λ r. ⌜ ((s : tree.Slot) → SlotIs slot s → s .default .kind ≡ tree.kind (s .ty) → Wrote (now (buf .entry)) t
-        (fragmentOf (now (root .entry)) (now (name .entry)) s «is_reader» «is_fn» (primitiveText (slot .kind)))
-        (now (buf .exit)) r) ⌝ }
+    ensures { λ r. ⌜ Wrote (now (buf .entry)) t
+        (fragmentBy (now (root .entry)) (now (name .entry)) slot «is_reader» «is_fn») (now (buf .exit)) r ⌝ }
 {
     let kind = slot.kind;
     let bits = slot.bits;
@@ -176,7 +169,7 @@ fn fragment(
 
 // is_fallible, whether the result can be an error: for an enum, a parameter and every pointer but AnyPointer it can.
 fn is_fallible(slot: Slot) -> bool
-    ensures { λ r. ⌜ ((s : tree.Slot) → SlotIs slot s → r ≡ isFallible (s .ty)) ⌝ }
+    ensures { λ r. ⌜ r ≡ isFallible (typeBy (slot .kind) (slot .id)) ⌝ }
 {
     let kind = slot.kind;
     match kind {
@@ -220,7 +213,7 @@ fn some_end(fallible: bool, t: Text, buf: &mut [u8]) -> Text
     t.bytes(buf, b")\n}\n")
 }
 
-// The code of a slot whose default is of its type: the fragment, or with an option the test and both answers.
+// The code of a slot, its default taken to be of its type: the fragment, or with an option the test and both answers.
 pub fn code(
     root: &[u8],
     name: &[u8],
@@ -230,10 +223,8 @@ pub fn code(
     t: Text,
     buf: &mut [u8],
 ) -> Text
-    ensures { λ r. ⌜ ((s : tree.Slot) → SlotIs slot s → s .default .kind ≡ tree.kind (s .ty) → Wrote (now (buf .entry)) t
-        (stringify (getterCode s «is_reader» (cond (eqb (s .option) 0) false true)
-        (fragmentOf (now (root .entry)) (now (name .entry)) s «is_reader» «is_fn» (primitiveText (slot .kind)))))
-        (now (buf .exit)) r) ⌝ }
+    ensures { λ r. ⌜ Wrote (now (buf .entry)) t
+        (stringify (codeBy (now (root .entry)) (now (name .entry)) slot «is_reader» «is_fn»)) (now (buf .exit)) r ⌝ }
 {
     if slot.option == 0 {
         let t = fragment(root, name, slot, is_reader, is_fn, t, buf);

@@ -3,7 +3,7 @@
 use mathlib.Core.Path.{_≡_, refl, ap, _∙_}
 use mathlib.Core.Bool.{Bool, true, false}
 use mathlib.Core.Option.{Option, none, some}
-use mathlib.Core.List.{[], _∷_, _++_, append-assoc}
+use mathlib.Core.List.{List, [], _∷_, _++_, append-assoc}
 use Prim.Native.Nat.{ℕ, zero, suc, _+_, _-_, _/_, _%_, _^_, _≤_, _<_}
 use native.Mathlib.Nat.{mod-lt, zero-lt-suc}
 use native.Mathlib.Omega.{arith}
@@ -21,9 +21,10 @@ use Rattle.record.specs.Types.{Num, int, uint, float32, float64, typeNameOf, Ki
 use Rattle.meaning.specs.Reading.{value, constant}
 use Rattle.meaning.specs.Claims.{MaskFits}
 use Rattle.meaning.specs.Meaning as meaning
-use Rattle.meaning.specs.Meaning.{setOp, clearOp, writes, gets, getsIn, nullTest, tests}
-use Rattle.meaning.proofs.ReadingLaws.{by-type, number-decimal, type-name, type-u16, truth-mask, get-truth, get-mask}
-use Rattle.meaning.proofs.ReadingLaws.{get-mask-enum}
+use Rattle.meaning.specs.Meaning.{Get, setOp, clearOp, writes, gets, opensGet, adds, getsIn, nullTest, tests}
+use Rattle.record.specs.declared.Width.the-variants.{Two}
+use Rattle.meaning.proofs.ReadingLaws.{is-digit, by-type, number-decimal, type-name, type-u16, truth-mask, get-truth}
+use Rattle.meaning.proofs.ReadingLaws.{get-mask, get-mask-enum}
 use Rattle.meaning.proofs.ReadingLaws.{set-mask, set-mask-enum, arg-value, arg-value-mask, arg-enum, arg-tag, arg-zero}
 use Rattle.meaning.proofs.ReadingLaws.{arg-zero-u16, arg-zero-tag, bool-value, bool-false}
 
@@ -165,75 +166,158 @@ tests-tag false o n = rw (tag-test false o n) (simp parts)
 
 -- ---- gets: the call is one get, and nothing else in its line is
 
--- no get begins in a number or in a type's name
-gets-digit : (x : ℕ) (s : Str) → x < 10 → gets ((48 + x) ∷ s) ≡ none
-unfolding gets
-gets-digit x s h = rw (ne-eqb 115 (48 + x) (λ e. omega arith))
-
-in-digit : (x : ℕ) (s : Str) → x < 10 → getsIn ((48 + x) ∷ s) ≡ getsIn s
+-- a digit belongs to a word, and no call begins with it
+in-digit : (inWord : Bool) (x : ℕ) (s : Str) → x < 10 → getsIn inWord ((48 + x) ∷ s) ≡ getsIn true s
 unfolding getsIn
-in-digit x s h = rw (gets-digit x s h)
+in-digit true x s h = rw (is-digit x h)
+in-digit false x s h = rw (ne-eqb 115 (48 + x) (λ e. omega arith), is-digit x h)
 
-pub in-decimal : (n : ℕ) (s : Str) → getsIn (decimal n ++ s) ≡ getsIn s
-in-decimal n s = go n n (omega arith) s
+in-decimal : (inWord : Bool) (n : ℕ) (s : Str) → getsIn inWord (decimal n ++ s) ≡ getsIn true s
+in-decimal inWord n s = go n n (omega arith) s
   where
-    go : (f n : ℕ) → n ≤ f → (s : Str) → getsIn (decimal n ++ s) ≡ getsIn s
-    go zero n h s = rw (decimal-low n (omega arith)) (in-digit n s (omega arith))
+    go : (f n : ℕ) → n ≤ f → (s : Str) → getsIn inWord (decimal n ++ s) ≡ getsIn true s
+    go zero n h s = rw (decimal-low n (omega arith)) (in-digit inWord n s (omega arith))
     go (suc f) n h s = pick (ltb n 10) refl (λ k. go f (n / 10) k ((48 + n % 10) ∷ s))
       where
         pick : (b : Bool) → ltb n 10 ≡ b
-            → (n / 10 ≤ f → getsIn (decimal (n / 10) ++ (48 + n % 10) ∷ s) ≡ getsIn ((48 + n % 10) ∷ s))
-            → getsIn (decimal n ++ s) ≡ getsIn s
-        pick true e ih = rw (decimal-low n (ltb-true n 10 e)) (in-digit n s (ltb-true n 10 e))
+            → (n / 10 ≤ f → getsIn inWord (decimal (n / 10) ++ (48 + n % 10) ∷ s) ≡ getsIn true ((48 + n % 10) ∷ s))
+            → getsIn inWord (decimal n ++ s) ≡ getsIn true s
+        pick true e ih = rw (decimal-low n (ltb-true n 10 e)) (in-digit inWord n s (ltb-true n 10 e))
         pick false e ih =
             let big = ltb-false n 10 e in
-            rw (decimal-high n big, append-assoc) (ih (omega arith) ∙ in-digit (n % 10) s (mod-lt n (zero-lt-suc 9)))
+            rw (decimal-high n big, append-assoc) (ih (omega arith) ∙ in-digit true (n % 10) s (mod-lt n (zero-lt-suc 9)))
 
-pub in-name : (t : Num) (s : Str) → getsIn (typeNameOf t ++ s) ≡ getsIn s
+in-name : (t : Num) (s : Str) → getsIn false (typeNameOf t ++ s) ≡ getsIn true s
 unfolding getsIn gets
-in-name t s = by-type (λ t. getsIn (typeNameOf t ++ s) ≡ getsIn s) refl refl refl refl refl refl refl refl refl refl t
+in-name t s = by-type (λ t. getsIn false (typeNameOf t ++ s) ≡ getsIn true s) refl refl refl refl refl refl refl refl refl refl t
 
-in-minus : (s : Str) → getsIn (45 ∷ s) ≡ getsIn s
+in-minus : (s : Str) → getsIn false (45 ∷ s) ≡ getsIn false s
 unfolding getsIn gets
 in-minus s = refl
 
-in-truth : (b : Bool) (s : Str) → getsIn (cond b (ascii "false") (ascii "true") ++ 41 ∷ s) ≡ getsIn (41 ∷ s)
+in-truth : (b : Bool) (s : Str) → getsIn false (cond b (ascii "false") (ascii "true") ++ s) ≡ getsIn true s
 unfolding getsIn gets
 in-truth true s = refl
 in-truth false s = refl
 
-in-signed : (half m : ℕ) (s : Str) → getsIn (signed half m ++ s) ≡ getsIn s
+in-signed : (half m : ℕ) (s : Str) → getsIn false (signed half m ++ s) ≡ getsIn true s
 in-signed half m s = go (ltb m half) refl
   where
-    go : (b : Bool) → ltb m half ≡ b → getsIn (signed half m ++ s) ≡ getsIn s
-    go true e = rw (signed-low half m (ltb-true m half e)) (in-decimal m s)
+    go : (b : Bool) → ltb m half ≡ b → getsIn false (signed half m ++ s) ≡ getsIn true s
+    go true e = rw (signed-low half m (ltb-true m half e)) (in-decimal false m s)
     go false e =
-        rw (signed-high half m (ltb-false m half e)) (in-minus (decimal (half + half - m) ++ s) ∙ in-decimal (half + half - m) s)
+        rw (signed-high half m (ltb-false m half e))
+        (in-minus (decimal (half + half - m) ++ s) ∙ in-decimal false (half + half - m) s)
 
-pub in-mask : (k : Kind) (m : ℕ) (s : Str) → getsIn (getMaskText k m ++ 41 ∷ s) ≡ getsIn (41 ∷ s)
+in-mask : (k : Kind) (m : ℕ) (s : Str) → getsIn false (getMaskText k m ++ s) ≡ getsIn true s
 unfolding getMaskText
 in-mask bool m s = in-truth (eqb m 0) s
-in-mask (num (int w)) m s = in-signed (halfOf w) m (41 ∷ s)
-in-mask (num (uint w)) m s = in-decimal m (41 ∷ s)
-in-mask (num float32) m s = in-decimal m (41 ∷ s)
-in-mask (num float64) m s = in-decimal m (41 ∷ s)
-in-mask enum m s = in-decimal m (41 ∷ s)
+in-mask (num (int w)) m s = in-signed (halfOf w) m s
+in-mask (num (uint w)) m s = in-decimal false m s
+in-mask (num float32) m s = in-decimal false m s
+in-mask (num float64) m s = in-decimal false m s
+in-mask enum m s = in-decimal false m s
 
-pub ruleset around = (in-decimal, in-name, in-mask)
+-- nor does a call begin in what is fixed, behind the first byte of its own
+in-member : (isReader : Bool) (s : Str) → getsIn true (ascii "elf." ⧺ member isReader ⧺ ascii "." ⧺ s) ≡ getsIn false s
+unfolding getsIn
+in-member true s = refl
+in-member false s = refl
+
+in-bool : (s : Str) → getsIn false (ascii "get_bool_field(" ++ s) ≡ getsIn false s
+unfolding getsIn
+in-bool s = refl
+
+in-bool-mask : (s : Str) → getsIn false (ascii "get_bool_field_mask(" ++ s) ≡ getsIn false s
+unfolding getsIn
+in-bool-mask s = refl
+
+in-data : (s : Str) → getsIn false (ascii "get_data_field::<" ++ s) ≡ getsIn false s
+unfolding getsIn
+in-data s = refl
+
+in-data-mask : (s : Str) → getsIn false (ascii "get_data_field_mask::<" ++ s) ≡ getsIn false s
+unfolding getsIn
+in-data-mask s = refl
+
+in-front : (s : Str) → getsIn false (ascii "::core::convert::TryFrom::try_from(" ++ s) ≡ getsIn false s
+unfolding getsIn
+in-front s = refl
+
+-- ends of a type and of a number
+in-offset : (s : Str) → getsIn true (ascii ">(" ++ s) ≡ getsIn false s
+unfolding getsIn
+in-offset s = refl
+
+in-comma : (s : Str) → getsIn true (ascii ", " ++ s) ≡ getsIn false s
+unfolding getsIn
+in-comma s = refl
+
+in-close : (getsIn true (ascii ")") ≡ some []) × (getsIn true (ascii "))") ≡ some [])
+unfolding getsIn
+in-close = (refl, refl)
+
+-- a line that begins with the call of its one get
+one-get : (t : Str) {o : Unit {0} × Str} {g : Get} (s : Str) → opensGet (115 ∷ t) ≡ some o → gets (115 ∷ t) ≡ some (g, s)
+    → getsIn true t ≡ some [] → getsIn false (115 ∷ t) ≡ some (g ∷ [])
+unfolding getsIn
+one-get t {o} {g} s opened got rest =
+    ap (λ (x : Option (Unit {0} × Str)). adds x (gets (115 ∷ t)) (getsIn true t)) opened
+    ∙ ap (λ (x : Option (Get × Str)). adds (some o) x (getsIn true t)) got
+    ∙ ap (λ (x : Option (List Get)). adds (some o) (some (g, s)) x) rest
+
+-- what follows the first byte of a call, without a mask and with one
+module _ (isReader : Bool) (o : ℕ) where
+  after-bool : getsIn true (ascii "elf." ⧺ member isReader ⧺ ascii ".get_bool_field(" ⧺ decimal o ⧺ ascii ")") ≡ some []
+  after-bool = in-member isReader _ ∙ in-bool _ ∙ in-decimal false o _ ∙ in-close .0
+
+  after-bool-mask : (m : ℕ)
+      → getsIn true
+      (ascii "elf." ⧺ member isReader ⧺ ascii ".get_bool_field_mask(" ⧺ decimal o ⧺ ascii ", " ⧺ getMaskText bool m ⧺ ascii ")")
+      ≡ some []
+  after-bool-mask m =
+      in-member isReader _ ∙ in-bool-mask _ ∙ in-decimal false o _ ∙ in-comma _ ∙ in-mask bool m _ ∙ in-close .0
+
+  after-data : (t : Num) (end : Str) → getsIn true end ≡ some []
+      → getsIn true
+      (ascii "elf." ⧺ member isReader ⧺ ascii ".get_data_field::<" ⧺ typeNameOf t ⧺ ascii ">(" ⧺ decimal o ⧺ end)
+      ≡ some []
+  after-data t end ends = in-member isReader _ ∙ in-data _ ∙ in-name t _ ∙ in-offset _ ∙ in-decimal false o _ ∙ ends
+
+  after-data-mask : (t : Num) (k : Kind) (m : ℕ) (end : Str) → getsIn true end ≡ some []
+      → getsIn true
+      (ascii "elf." ⧺ member isReader ⧺ ascii ".get_data_field_mask::<" ⧺ typeNameOf t ⧺ ascii ">(" ⧺ decimal o ⧺ ascii ", "
+      ⧺ getMaskText k m ⧺ end)
+      ≡ some []
+  after-data-mask t k m end ends =
+      in-member isReader _ ∙ in-data-mask _ ∙ in-name t _ ∙ in-offset _ ∙ in-decimal false o _ ∙ in-comma _ ∙ in-mask k m _ ∙ ends
 
 pub gets-line : (isReader : Bool) (k : Kind) (o : ℕ) (m : Option ℕ) → MaskFits k m
-    → getsIn (getLine isReader k o (mapO (getMaskText k) m)) ≡ (placeOf k o, maskBits m) ∷ []
-unfolding getsIn gets
-gets-line true bool o none h = rw get-bool (simp (parts, around))
-gets-line true bool o (some m) h = rw get-bool-mask (simp (parts, around, get-truth m h))
-gets-line true (num t) o none h = rw get-data (simp (parts, around))
-gets-line true (num t) o (some m) h = rw get-data-mask (simp (parts, around, get-mask t m h))
-gets-line true enum o none h = ap getsIn (get-enum true o) ∙ simp (parts, around)
-gets-line true enum o (some m) h = ap getsIn (get-enum-mask true o (getMaskText enum m)) ∙ simp (parts, around, get-mask-enum m h)
-gets-line false bool o none h = rw get-bool (simp (parts, around))
-gets-line false bool o (some m) h = rw get-bool-mask (simp (parts, around, get-truth m h))
-gets-line false (num t) o none h = rw get-data (simp (parts, around))
-gets-line false (num t) o (some m) h = rw get-data-mask (simp (parts, around, get-mask t m h))
-gets-line false enum o none h = ap getsIn (get-enum false o) ∙ simp (parts, around)
+    → getsIn false (getLine isReader k o (mapO (getMaskText k) m)) ≡ some ((placeOf k o, maskBits m) ∷ [])
+unfolding gets
+gets-line true bool o none h = rw get-bool (one-get _ [] refl (simp parts) (after-bool true o))
+gets-line true bool o (some m) h = rw get-bool-mask (one-get _ [] refl (simp (parts, get-truth m h)) (after-bool-mask true o m))
+gets-line true (num t) o none h = rw get-data (one-get _ [] refl (simp parts) (after-data true o t _ (in-close .0)))
+gets-line true (num t) o (some m) h =
+    rw get-data-mask (one-get _ [] refl (simp (parts, get-mask t m h)) (after-data-mask true o t (num t) m _ (in-close .0)))
+gets-line true enum o none h =
+    ap (getsIn false) (get-enum true o)
+    ∙ in-front _
+    ∙ one-get _ (ascii ")") refl (simp parts) (after-data true o (uint Two) _ (in-close .1))
+gets-line true enum o (some m) h =
+    ap (getsIn false) (get-enum-mask true o (getMaskText enum m))
+    ∙ in-front _
+    ∙ one-get _ (ascii ")") refl (simp (parts, get-mask-enum m h)) (after-data-mask true o (uint Two) enum m _ (in-close .1))
+gets-line false bool o none h = rw get-bool (one-get _ [] refl (simp parts) (after-bool false o))
+gets-line false bool o (some m) h = rw get-bool-mask (one-get _ [] refl (simp (parts, get-truth m h)) (after-bool-mask false o m))
+gets-line false (num t) o none h = rw get-data (one-get _ [] refl (simp parts) (after-data false o t _ (in-close .0)))
+gets-line false (num t) o (some m) h =
+    rw get-data-mask (one-get _ [] refl (simp (parts, get-mask t m h)) (after-data-mask false o t (num t) m _ (in-close .0)))
+gets-line false enum o none h =
+    ap (getsIn false) (get-enum false o)
+    ∙ in-front _
+    ∙ one-get _ (ascii ")") refl (simp parts) (after-data false o (uint Two) _ (in-close .1))
 gets-line false enum o (some m) h =
-    ap getsIn (get-enum-mask false o (getMaskText enum m)) ∙ simp (parts, around, get-mask-enum m h)
+    ap (getsIn false) (get-enum-mask false o (getMaskText enum m))
+    ∙ in-front _
+    ∙ one-get _ (ascii ")") refl (simp (parts, get-mask-enum m h)) (after-data-mask false o (uint Two) enum m _ (in-close .1))

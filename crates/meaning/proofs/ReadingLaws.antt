@@ -22,7 +22,7 @@ use Rattle.meaning.specs.Reading.{setMaskOf, value, constant, dataArg, b
 
 -- ---- numbers
 
-is-digit : (x : ℕ) → x < 10 → digitByte (48 + x) ≡ true
+pub is-digit : (x : ℕ) → x < 10 → digitByte (48 + x) ≡ true
 is-digit x h = rw (le-leb 48 (48 + x) (omega arith), le-leb (48 + x) 57 (omega arith))
 
 digits-one : (k x : ℕ) (s : Str) → x < 10 → digitsFrom k ((48 + x) ∷ s) ≡ digitsFrom (k * 10 + x) s

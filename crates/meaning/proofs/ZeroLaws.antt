@@ -26,12 +26,11 @@ use Rattle.record.proofs.RecordLaws.{clear-inside, cleared-bits, cleared-length
 use Rattle.record.proofs.SectionLaws.{where?}
 use Rattle.meaning.specs.Claims.{In, HoldsZero, ZeroHas, ZeroClears, TextZeroed, TextZeroingHolds}
 use Rattle.meaning.specs.Meaning.{Op, setOp, clearOp, writes, runOp, runLine, runLines, runZeroing}
-use Rattle.meaning.specs.Reading.{_>>=_, _>>_, pure}
 use Rattle.meaning.proofs.HaserLaws.{haser-null}
 use Rattle.meaning.proofs.LineLaws.{Says, says-zero, zeroOp, Saying, wholes-saying, lines-stringify, indented, runOps}
 use Rattle.meaning.proofs.LineLaws.{run-lines}
 use Rattle.meaning.proofs.MaskLaws.{slot-size, mask-below}
-use Rattle.meaning.proofs.SetLaws.{getter-answers}
+use Rattle.meaning.proofs.SetLaws.{get-holds}
 
 -- ---- one operation
 
@@ -282,7 +281,7 @@ module _ (zs : List Zero) (r : Record) (h : Holding zs r) where
     left = left;
     runs = zeroing-runs zs ft r e ∙ steps-run zs r h;
     defaults = λ k o i mg f typ w isReader.
-        getter-answers typ w isReader k o mg f left
+        get-holds typ isReader k o mg left w f
         ∙ get-off (placeOf k o) (maskBits mg) left (slot-holds k o i) (rw (slot-size k o) (mask-below k mg f)) (slot-off k o i);
     absent = pointer-null;
     hasers = λ i n opening w isReader tag t. haser-null opening w isReader tag i left t (pointer-null i n);

@@ -1,5 +1,6 @@
--- What is claimed of accessor texts, from their bytes: set and then get, the Void setter, hasers, zeroing. The masks of setter
--- and getter are parameters; `expected` says what document 01's rules for masks make of them. Assumes nothing.
+-- What is claimed of accessor texts, from their bytes: a getter, a setter, one after the other, the Void setter, hasers, zeroing.
+-- The masks of setter and getter are parameters; `expected` says what document 01's rules for masks make of them. Assumes
+-- nothing.
 use Prim.Native.Nat.{ℕ, _^_, _<_}
 use mathlib.Core.Path.{_≡_}
 use mathlib.Core.Bool.{Bool, true, false, not}
@@ -15,8 +16,8 @@ use Rattle.calls.specs.Calls.{clearPointer}
 use Rattle.record.specs.Lines.{Tag, getLine, setterText, voidSetterText, getterLines, haserText, Zero, ofSlot, ofTag, ofPointer}
 use Rattle.record.specs.Lines.{zeroCall, zeroTexts}
 use Rattle.record.specs.Masks.{getMask, setMask, getMaskText, setMaskText, maskBits}
-use Rattle.record.specs.Offsets.{Place}
-use Rattle.record.specs.Record.{Record, mapO, get, null, Covers, Clear, Holds, HoldsPointer, Same}
+use Rattle.record.specs.Offsets.{Place, bitCount}
+use Rattle.record.specs.Record.{Record, mapO, get, putValue, null, Covers, Clear, Holds, HoldsPointer, Same}
 use Rattle.record.specs.Types.{int, uint, float32, float64, Kind, bool, num, enum, slotBits, placeOf, tagPlace}
 use Rattle.record.specs.declared.PointerOffset.{PointerOffset}
 use Rattle.meaning.specs.Reading.{bindO}
@@ -51,6 +52,55 @@ TagClear (some t) p = Clear p (tagPlace (t .0))
 abbrev pub TagIs : Option Tag → Record → Type 0
 TagIs none r = Unit {0}
 TagIs (some t) r = get (tagPlace (t .0)) 0 r ≡ some (t .1)
+
+-- ---- a getter alone, a setter alone
+
+-- A getter's text answers the bits of its slot, exclusive or its mask: for every record, by the one definition of a get, which
+-- has no value where the section does not hold them all.
+abbrev pub TextGetHolds : Type 0
+TextGetHolds =
+    (typ : Str) (isReader : Bool) (k : Kind) (o : ℕ) (mg : Option ℕ) (r : Record) → whole typ ≡ true → MaskFits k mg
+    → runGetter (getterLines typ (getLine isReader k o (mapO (getMaskText k) mg))) r ≡ get (placeOf k o) (maskBits mg) r
+
+-- what the tag's line leaves, and after it the value's line
+abbrev pub voidLeaves : Option Tag → Record → Option Record
+voidLeaves none r = some r
+voidLeaves (some t) r = putValue (tagPlace (t .0)) (t .1) 0 r
+
+abbrev pub setterLeaves : Option Tag → Place → ℕ → ℕ → Record → Option Record
+setterLeaves tag p v m r = bindO (voidLeaves tag r) (putValue p v m)
+
+-- A setter's text writes its tag and then its value under its mask, on every record.
+abbrev pub TextSetHolds : Type 0
+TextSetHolds =
+    (opening : Str) (tag : Option Tag) (k : Kind) (o : ℕ) (ms : Option ℕ) (v : ℕ) (r : Record) → whole opening ≡ true
+    → TagFits tag → MaskFits k ms
+    → runSetter (setterText opening tag k o (mapO (setMaskText k) ms)) v r ≡ setterLeaves tag (placeOf k o) v (maskBits ms) r
+
+-- It has a meaning exactly where the section holds its slot and its tag whole.
+abbrev pub SetterMeansHolds : Type 0
+SetterMeansHolds =
+    (tag : Option Tag) (p : Place) (v m : ℕ) (r : Record)
+    → (Holds p r → TagHolds tag r → (left : Record) × (setterLeaves tag p v m r ≡ some left))
+    × ((left : Record) → setterLeaves tag p v m r ≡ some left → Holds p r × TagHolds tag r)
+
+-- What it leaves: a get of the slot under mask k gives the value, exclusive or both masks; only the slot's bits and the tag's
+-- change; the tag is the member's where the slot has no bit in common with it.
+pub record SetterLeft (tag : Option Tag) (p : Place) (v m : ℕ) (r left : Record) : Type 0 where
+  pub reads : (k : ℕ) → k < 2 ^ bitCount p → get p k left ≡ some (bitXor (bitXor v m) k)
+  pub same : Same (λ b. Covers p b ⊎ TagHas tag b) r left
+  pub tagged : TagClear tag p → TagIs tag left
+
+abbrev pub SetterLeavesHolds : Type 0
+SetterLeavesHolds =
+    (tag : Option Tag) (p : Place) (v m : ℕ) (r left : Record) → TagFits tag → v < 2 ^ bitCount p → m < 2 ^ bitCount p
+    → setterLeaves tag p v m r ≡ some left → SetterLeft tag p v m r left
+
+-- A Void slot's setter writes its tag and nothing else.
+abbrev pub TextVoidHolds : Type 0
+TextVoidHolds =
+    (opening : Str) (tag : Option Tag) (v : ℕ) (r : Record) → whole opening ≡ true → TagFits tag
+    → runSetter (voidSetterText opening tag) v r ≡ voidLeaves tag r
 
 -- ---- set and get
 

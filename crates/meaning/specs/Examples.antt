@@ -13,10 +13,10 @@ use Rattle.text.specs.Decimal.{decimal, signed}
 use Rattle.text.specs.Lines.{FormattedTexts, Branch, Line, none as noMore, _&_, toLines, flatMap, join, stringify}
 use Rattle.record.specs.Bits.{sectionBits}
 use Rattle.calls.specs.Calls.{getBoolField, getDataField, setBoolField, setDataField, clearPointer, notNull, tagTest}
-use Rattle.record.specs.Lines.{getLine, setLine, functionText, getterLines, haserText, Zero, ofSlot, ofTag, ofPointer}
+use Rattle.record.specs.Lines.{getLine, setLine, functionText, setterText, getterLines, haserText, Zero, ofSlot, ofTag, ofPointer}
 use Rattle.record.specs.Lines.{zeroingLine}
 use Rattle.record.specs.Masks.{getMask, setMask, getMaskText, setMaskText}
-use Rattle.record.specs.Record.{Record, mapO, found, stored, getBits, putBits, nullFlag, clearFlag}
+use Rattle.record.specs.Record.{Record, isSome, mapO, found, stored, getBits, putBits, nullFlag, clearFlag}
 use Rattle.record.specs.Types.{int, uint, float32, Kind, bool, num, enum, kindOf}
 use Rattle.record.specs.declared.Width.the-variants.{One, Two, Eight}
 use Rattle.meaning.specs.Reading.{bindO, typeName, truth, getMaskOf, setMaskOf, dataArg, boolArg}
@@ -157,6 +157,36 @@ pub no-get : runGetter (ascii "self.reader.get_bool_field(0)\n()\n") some16 ≡ 
 unfolding typeName truth getMaskOf gets getsIn runGetter
 no-get = refl
 
+-- a call inside a longer word is no get
+pub in-a-word :
+    (runGetter (ascii "bool\nmyself.reader.get_bool_field(0)\n") some16 ≡ none)
+    × (runGetter (ascii "bool\nself.reader.get_bool_field(0) && !myself.reader.get_bool_field(1)\n") some16 ≡ some 1)
+unfolding found getBits typeName truth getMaskOf gets getsIn runGetter
+in-a-word = (refl, refl)
+
+-- a get whose mask is not of its type leaves the text no meaning, also beside one that has one
+pub ill-mask : runGetter (ascii "bool\nself.reader.get_bool_field(0) && self.reader.get_bool_field_mask(0, 3)\n") some16 ≡ none
+unfolding typeName truth getMaskOf gets getsIn runGetter
+ill-mask = refl
+
+-- the last bit and the last eight bytes of the section have a value, those past it have none
+pub past-the-section :
+    (runGetter (ascii "bool\nself.reader.get_bool_field(127)\n") some16 ≡ some 1)
+    × (runGetter (ascii "bool\nself.reader.get_bool_field(128)\n") some16 ≡ none)
+    × (runGetter (ascii "u8\nself.builder.get_data_field::<u8>(15)\n") some16 ≡ some 165)
+    × (runGetter (ascii "u64\nself.builder.get_data_field_mask::<u64>(2, 7)\n") some16 ≡ none)
+unfolding found getBits typeName truth getMaskOf gets getsIn runGetter
+past-the-section = (refl, refl, refl, refl)
+
+-- a Bool's setter in a union whose tag is element o: element 7 is the last of the section
+abbrev pub inUnion : ℕ → Option Record
+inUnion o = runSetter (setterText (ascii "pub fn set_x(&mut self, value: bool)  {") (some (o, 1)) bool 0 none) 0 some16
+
+pub tag-held : (isSome (inUnion 7) ≡ true) × (inUnion 8 ≡ none)
+unfolding toLines flatMap join stringify decimal setBoolField setDataField functionText found stored putBits typeName truth
+    setMaskOf dataArg boolArg writes runOp runLine runLines runSetter
+tag-held = (refl, refl)
+
 -- ---- a haser of the second pointer in a union, whose tag is 42405 = 165 * 257; a zeroing
 
 pub has-second : runHaser (haserText (ascii "pub fn has_x(&self) -> bool {") true (some (3, 42405)) 1) some16 ≡ some true
@@ -168,6 +198,11 @@ pub has-other-tag : runHaser (haserText (ascii "pub fn has_x(&self) -> bool {") 
 unfolding toLines flatMap join stringify decimal notNull tagTest functionText found getBits nullFlag typeName tests testsOf
     runTests runHaser
 has-other-tag = refl
+
+-- a null test past the pointers has no value
+pub no-third : runHaser (haserText (ascii "pub fn has_x(&self) -> bool {") true none 2) some16 ≡ none
+unfolding toLines flatMap join stringify decimal notNull functionText found nullFlag typeName tests testsOf runTests runHaser
+no-third = refl
 
 abbrev pub zeros : List Zero → FormattedTexts
 zeros [] = noMore

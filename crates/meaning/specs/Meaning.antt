@@ -10,7 +10,7 @@ use Rattle.record.specs.Offsets.{Place, boolAt, dataAt}
 use Rattle.record.specs.Record.{Record, mapO, get, putValue, null, clear}
 use Rattle.record.specs.Types.{Num, widthOf, tagPlace}
 use Rattle.record.specs.declared.PointerOffset.{PointerOffset}
-use Rattle.meaning.specs.Reading.{Reads, bindO, _>>=_, _>>_, pure, _or_, lit, end, numeral, typeName, truth}
+use Rattle.meaning.specs.Reading.{Reads, bindO, _>>=_, _>>_, pure, _or_, lit, end, wordByte, numeral, typeName, truth}
 use Rattle.meaning.specs.Reading.{getMaskOf, setMaskOf, Arg, value, constant, dataArg, boolArg}
 
 -- ---- a line that writes
@@ -105,14 +105,21 @@ memberDot = lit "reader." or lit "builder."
 unfoldable pub gets : Reads Get
 gets = lit "self." >> memberDot >> (getBoolCall or getBoolMask or getData or getDataMask)
 
--- all gets of a line, wherever they begin
-abbrev pub adds : Option (Get × Str) → List Get → List Get
-adds none l = l
-adds (some x) l = x .0 ∷ l
+-- where the call of a get begins, whatever follows
+abbrev pub opensGet : Reads (Unit {0})
+opensGet = lit "self." >> memberDot >> (lit "get_bool_field" or lit "get_data_field")
 
-unfoldable pub getsIn : Str → List Get
-getsIn [] = []
-getsIn (c ∷ s) = adds (gets (c ∷ s)) (getsIn s)
+-- one get more where its call begins; a call that is none of the four gets, with a mask of its own type, has no meaning
+abbrev pub adds : Option (Unit {0} × Str) → Option (Get × Str) → Option (List Get) → Option (List Get)
+adds none g more = more
+adds (some opened) none more = none
+adds (some opened) (some g) more = mapO (λ gs. g .0 ∷ gs) more
+
+-- All gets of a line; the Bool says whether a word's byte stands in front of it, since no call begins inside a word.
+unfoldable pub getsIn : Bool → Str → Option (List Get)
+getsIn inWord [] = some []
+getsIn true (c ∷ s) = getsIn (wordByte c) s
+getsIn false (c ∷ s) = adds (opensGet (c ∷ s)) (gets (c ∷ s)) (getsIn (wordByte c) s)
 
 -- ---- the tests of a haser
 
@@ -202,9 +209,9 @@ unfoldable pub runZeroing : Str → Record → Option Record
 runZeroing t r = runLines none (lines t) r
 
 -- a getter: line 1 does nothing; the single get below it, whatever stands around it, is the answer
-abbrev pub allGets : List Str → List Get
-allGets [] = []
-allGets (l ∷ ls) = getsIn l ++ allGets ls
+abbrev pub allGets : List Str → Option (List Get)
+allGets [] = some []
+allGets (l ∷ ls) = bindO (getsIn false l) (λ gs. mapO (λ more. gs ++ more) (allGets ls))
 
 abbrev pub afterFirst : List Str → List Str
 afterFirst [] = []
@@ -216,7 +223,7 @@ single (g ∷ []) = some g
 single (g ∷ (h ∷ l)) = none
 
 unfoldable pub runGetter : Str → Record → Option ℕ
-runGetter t r = bindO (single (allGets (afterFirst (lines t)))) (λ g. get (g .0) (g .1) r)
+runGetter t r = bindO (bindO (allGets (afterFirst (lines t))) single) (λ g. get (g .0) (g .1) r)
 
 -- a haser: the first two lines and the last do nothing; each line between them that is not empty is a test
 unfoldable pub testsOf : List Str → Option (List Test)

@@ -5,7 +5,7 @@ use mathlib.Core.Bool.{Bool}
 use mathlib.Core.List.{[], _∷_}
 use mathlib.Core.Option.{Option, none, some}
 use lib.Dec.{eqb, leb, ltb}
-use Rattle.text.specs.Bytes.{Str, ascii, cond, both}
+use Rattle.text.specs.Bytes.{Str, ascii, cond, both, either}
 use Rattle.record.specs.Masks.{halfOf}
 use Rattle.record.specs.Record.{only}
 use Rattle.record.specs.Types.{Num, int, uint, float32, float64, bitsOf, typeNameOf}
@@ -56,6 +56,11 @@ end (x ∷ s) = none
 
 abbrev pub digitByte : ℕ → Bool
 digitByte c = both (leb 48 c) (leb c 57)
+
+-- a letter, a digit or an underscore
+abbrev pub wordByte : ℕ → Bool
+wordByte c =
+    either (digitByte c) (either (both (leb 65 c) (leb c 90)) (either (both (leb 97 c) (leb c 122)) (eqb c 95)))
 
 -- the digits in front, after those whose number is n
 abbrev pub digitsFrom : ℕ → Str → ℕ × Str

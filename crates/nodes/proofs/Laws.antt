@@ -3,8 +3,8 @@
 use mathlib.Core.Path.{_≡_, refl, ap, _∙_}
 use mathlib.Core.Bool.{Bool, true, false}
 use mathlib.Core.List.{List, [], _∷_}
-use mathlib.Core.Option.{some}
-use Prim.Native.Nat.{ℕ, zero, suc, _+_, _-_, _*_, _/_, _%_, _<_, _≤_}
+use mathlib.Core.Option.{none, some}
+use Prim.Native.Nat.{ℕ, zero, suc, _+_, _-_, _*_, _/_, _%_, _<_, _≤_, min}
 use native.Mathlib.Numerals.{add-one, sub-one}
 use native.Mathlib.Decide.{decLt}
 use native.Mathlib.Omega.{arith}
@@ -18,7 +18,7 @@ use Rattle.tree.specs.Read.{among}
 use Rattle.tree.specs.Tree.{Node}
 use Rattle.tree.proofs.OtherLines.{never}
 use Rattle.nodes.specs.Index.{entryAt, byId, nth, lookupFrom, lookup, entryWith, EntryIs, Entries, Indexed, Finds}
-use Rattle.nodes.specs.Index.{namesOf, rowsAfter, NameAt}
+use Rattle.nodes.specs.Index.{namesOf, rowsAfter, NameAt, parameterRows}
 use Rattle.nodes.specs.declared.Entry.{Entry}
 use Rattle.nodes.specs.declared.Found.the-variants.{At, Nothing}
 use Rattle.nodes.specs.declared.Position.{Position}
@@ -127,34 +127,36 @@ nth-is s ns index k x = go (decLt k (length ns))
     go : Dec (k < length ns) → Finds s index (entryWith index k) (nth k ns)
     go (yes h) =
         let r = nth-entry s index k 1 ns (x .entries) h in
-        rw (entryWith, x .count, lt-ltb k (length ns) h, le-ltb (length index) (1 + 12 * k + 12) (r .fits), r .is) (r .entry)
+        let l : k < min 64 (length ns) = omega (arith, x .few) in
+        rw (entryWith, x .count, lt-ltb k (min 64 (length ns)) l, le-ltb (length index) (1 + 12 * k + 12) (r .fits), r .is)
+        (r .entry)
     go (no h) =
         let o : length ns ≤ k = omega arith in
-        rw (entryWith, x .count, le-ltb k (length ns) o, names-out k ns o) tt
+        let l : min 64 (length ns) ≤ k = omega arith in
+        rw (entryWith, x .count, le-ltb k (min 64 (length ns)) l, names-out k ns o) tt
 
 -- ---- the entry with a number, as the code finds it
 
 module _ (index : List ℕ) (k : ℕ) where
-  pub with-none : getD index 0 0 ≤ k → Nothing ≡ entryWith index k
+  pub with-none : min 64 (getD index 0 0) ≤ k → Nothing ≡ entryWith index k
   unfolding entryWith
-  with-none h = rw (le-ltb k (getD index 0 0) h)
+  with-none h = rw (le-ltb k (min 64 (getD index 0 0)) h)
 
   pub with-empty : length index ≡ 0 → Nothing ≡ entryWith index k
-  unfolding entryWith
-  with-empty h = go index h
+  with-empty h = with-none (go index h)
     where
-      go : (l : List ℕ) → length l ≡ 0 → Nothing ≡ entryWith l k
-      go [] h = rw (le-ltb k 0 (omega arith))
+      go : (l : List ℕ) → length l ≡ 0 → min 64 (getD l 0 0) ≤ k
+      go [] h = omega arith
       go (x ∷ l) h = let z : ⊥ = omega arith in absurd z
 
-  pub with-out : k < getD index 0 0 → length index < 1 + 12 * k + 12 → Nothing ≡ entryWith index k
-  unfolding entryWith
-  with-out h o = rw (lt-ltb k (getD index 0 0) h, lt-ltb (length index) (1 + 12 * k + 12) o)
+  module _ (h : k < min 64 (getD index 0 0)) where
+    pub with-out : length index < 1 + 12 * k + 12 → Nothing ≡ entryWith index k
+    unfolding entryWith
+    with-out o = rw (lt-ltb k (min 64 (getD index 0 0)) h, lt-ltb (length index) (1 + 12 * k + 12) o)
 
-  pub with-entry :
-      k < getD index 0 0 → 1 + 12 * k + 12 ≤ length index → At (entryAt index (1 + 12 * k)) ≡ entryWith index k
-  unfolding entryWith
-  with-entry h f = rw (lt-ltb k (getD index 0 0) h, le-ltb (length index) (1 + 12 * k + 12) f)
+    pub with-entry : 1 + 12 * k + 12 ≤ length index → At (entryAt index (1 + 12 * k)) ≡ entryWith index k
+    unfolding entryWith
+    with-entry f = rw (lt-ltb k (min 64 (getD index 0 0)) h, le-ltb (length index) (1 + 12 * k + 12) f)
 
 -- ---- a parameter
 
@@ -187,3 +189,28 @@ module _ (s : Str) (index : List ℕ) (e : Entry) (k : ℕ) (n : Node) (x : Entr
           let p = name-past (64 * suc (k / 64 - 1)) (k % 64) (n .params)
           (rows (drop (getD index (e .marks + (k / 64 - 1)) 0) s)) (marked .1) (omega (arith, x .count)) in
           rw f (rw z at p)
+
+-- the rows of a parameter, as the code finds them
+module _ (s : Str) (index : List ℕ) (e : Entry) (k : ℕ) where
+  pub rows-none : e .count ≤ k → none ≡ parameterRows s index e k
+  unfolding parameterRows
+  rows-none h = rw (le-ltb k (e .count) h)
+
+  module _ (h : k < e .count) where
+    pub rows-first :
+        k < 64 → (q : ℕ) → rows (drop q s) ≡ rowsAfter k (rows (drop (e .params) s))
+        → some (rows (drop q s)) ≡ parameterRows s index e k
+    unfolding parameterRows
+    rows-first l q f = rw (lt-ltb k (e .count) h, lt-ltb k 64 l, f)
+
+    module _ (l : 64 ≤ k) where
+      pub rows-unmarked : length index ≤ e .marks + (k / 64 - 1) → none ≡ parameterRows s index e k
+      unfolding parameterRows
+      rows-unmarked o = rw (lt-ltb k (e .count) h, le-ltb k 64 l, le-ltb (e .marks + (k / 64 - 1)) (length index) o)
+
+      pub rows-marked :
+          e .marks + (k / 64 - 1) < length index → (q : ℕ)
+          → rows (drop q s) ≡ rowsAfter (k % 64) (rows (drop (getD index (e .marks + (k / 64 - 1)) 0) s))
+          → some (rows (drop q s)) ≡ parameterRows s index e k
+      unfolding parameterRows
+      rows-marked i q f = rw (lt-ltb k (e .count) h, le-ltb k 64 l, lt-ltb (e .marks + (k / 64 - 1)) (length index) i, f)

@@ -11,9 +11,8 @@ use native.Mathlib.Omega.{arith}
 use lib.ListN.{length, drop, length-drop}
 use Rattle.text.specs.Bytes.{Str}
 use Rattle.row.specs.Rows.{restOf}
-use Rattle.row.specs.Line.{lineOf, lineAt, textOf, textAt, asParameter}
-use Rattle.row.specs.declared.Line.{Line}
-use Rattle.row.specs.declared.Line.the-variants.{Root, Node, Parameter, Field, Group, Typ, Scope, Unbound, Value, Word, Bad}
+use Rattle.row.specs.Line.{Content, lineOf, lineAt, textOf, textAt, asParameter}
+use Rattle.row.specs.Line.{Root, Node, Parameter, Field, Group, Typ, Scope, Unbound, Value, Word, Bad}
 use Rattle.tree.specs.Reader.{Rows, Reading, got, no, Reader, _then_, On}
 use Rattle.tree.specs.Read.{readParams}
 use Rattle.tree.proofs.OtherLines.{never}
@@ -29,7 +28,7 @@ names-by : (P : List Str → Type 0) (r : Str) (rs : Rows) → (lineOf r ≡ Par
 unfolding namesOf
 names-by P r rs f g = go (lineOf r) refl
   where
-    go : (l : Line) → lineOf r ≡ l → P (asParameter l (textOf r ∷ namesOf rs) [])
+    go : (l : Content) → lineOf r ≡ l → P (asParameter l (textOf r ∷ namesOf rs) [])
     go Parameter e = f e
     go Root e = g
     go (Node i q k x y c o) e = g
@@ -59,7 +58,7 @@ unfolding readParams namesOf lineAt textAt restOf
 params-names [] = refl
 params-names (r ∷ rs) = go (lineOf r) (readParams rs) (params-names rs)
   where
-    go : (l : Line) (g : Reading (List Str)) → On g (λ ps. ps ≡ namesOf rs)
+    go : (l : Content) (g : Reading (List Str)) → On g (λ ps. ps ≡ namesOf rs)
         → On (asParameter {A = Reader (List Str)} l (λ q. g then λ ps. got (textAt q ∷ ps)) (got []) (r ∷ rs))
         (λ ps. ps ≡ asParameter l (textOf r ∷ namesOf rs) [])
     go Parameter (got ps us) ih = ap (λ (l : List Str). textOf r ∷ l) ih

@@ -3,7 +3,7 @@
 use mathlib.Core.Path.{_≡_}
 use mathlib.Core.List.{List, [], _∷_, _++_}
 use mathlib.Core.Option.{Option, none, some}
-use Prim.Native.Nat.{ℕ, zero, suc, _+_, _*_, _/_, _<_, _≤_, min}
+use Prim.Native.Nat.{ℕ, zero, suc, _+_, _-_, _*_, _/_, _%_, _<_, _≤_, min}
 use lib.Dec.{eqb, ltb}
 use lib.ListN.{length, take, drop, getD}
 use Rattle.text.specs.Bytes.{Str, cond}
@@ -91,10 +91,10 @@ lookupFrom index id (suc left) p =
 abbrev pub lookup : List ℕ → ℕ → Found
 lookup index id = lookupFrom index id (getD index 0 0) 1
 
--- the entry with a number, from 0
+-- the entry with a number, from 0, as far as the index reaches; there are at most 64
 unfoldable pub entryWith : List ℕ → ℕ → Found
 entryWith index k =
-    cond (ltb k (getD index 0 0))
+    cond (ltb k (min 64 (getD index 0 0)))
     (cond (ltb (length index) (1 + entrySize * k + entrySize)) Nothing (At (entryAt index (1 + entrySize * k))))
     Nothing
 
@@ -143,6 +143,21 @@ Finds s index Nothing none = Unit {0}
 abbrev pub NameAt : Str → Position → ℕ → List Str → Type 0
 NameAt s (position.At q) k names = nth k names ≡ some (textAt (rows (drop q s)))
 NameAt s position.Nothing k names = nth k names ≡ none
+
+-- the rows that a position stands for, if there is one
+abbrev pub rowsThere : Str → Position → Option Rows
+rowsThere s (position.At q) = some (rows (drop q s))
+rowsThere s position.Nothing = none
+
+-- the rows from the P row of an entry's parameter with a number, from 0, on: one of the first 64 is counted from the first P row,
+-- any other from the last mark before it, if the index has that mark
+unfoldable pub parameterRows : Str → List ℕ → Entry → ℕ → Option Rows
+parameterRows s index e k =
+    cond (ltb k (e .count))
+    (cond (ltb k 64) (some (rowsAfter k (rows (drop (e .params) s))))
+    (cond (ltb (e .marks + (k / 64 - 1)) (length index))
+    (some (rowsAfter (k % 64) (rows (drop (getD index (e .marks + (k / 64 - 1)) 0) s)))) none))
+    none
 
 -- a sheet by its root and its nodes
 abbrev pub sheetOf : Str → List Node → Sheet

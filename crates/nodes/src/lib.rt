@@ -2,13 +2,14 @@
 // its nodes there: what their N rows say, and where their P rows and fields begin.
 ghost use mathlib.Core.Path.{_≡_};
 ghost use mathlib.Core.List.{List};
-ghost use Prim.Native.Nat.{ℕ, _+_, _≤_, _<_};
+ghost use Prim.Native.Nat.{ℕ, _+_, _≤_};
 ghost use lib.ListN.{length, drop, set};
 ghost use Rattle.row.specs.Rows.{rows};
+ghost use Rattle.row.specs.Span.{textBetween};
 ghost use Rattle.tree.specs.Read.{among};
 ghost use Rattle.tree.specs.Tree.{Node};
 ghost use Rattle.nodes.specs.Index.{firstMark, indexSize, entryAt, withEntry, lookup, entryWith, rowsAfter};
-ghost use Rattle.nodes.specs.Index.{EntryIs, NameAt};
+ghost use Rattle.nodes.specs.Index.{EntryIs, NameAt, rowsThere, parameterRows};
 
 // How many numbers are room enough for the index of any sheet: its count, 64 entries of 12, and 256 marks.
 pub const INDEX_SIZE: usize = 1025;
@@ -157,7 +158,7 @@ pub fn find(index: &[u64], id: u64) -> Found
 
 // The node with a number, from 0, in the sheet's order. There are at most 64.
 pub fn nth(index: &[u64], k: usize) -> Found
-    ensures { λ r. ⌜ (k < 64 → r ≡ entryWith (now (index .entry)) k) ⌝ }
+    ensures { λ r. ⌜ r ≡ entryWith (now (index .entry)) k ⌝ }
 {
     if 64 <= k {
         return Found::Nothing;
@@ -177,7 +178,8 @@ pub fn nth(index: &[u64], k: usize) -> Found
 
 // The module of a node: the sheet's own bytes.
 pub fn module(s: &[u8], node: Entry) -> &[u8]
-    ensures { λ r. ⌜ ((index : List ℕ) (n : Node) → EntryIs (now (s .entry)) index node n → now r ≡ n .theMod) ⌝ }
+    ensures text { λ r. ⌜ ((index : List ℕ) (n : Node) → EntryIs (now (s .entry)) index node n → now r ≡ n .theMod) ⌝ }
+    ensures is { λ r. ⌜ now r ≡ textBetween (now (s .entry)) (node .at) (node .params) ⌝ }
 {
     row::text_before(s, node.at, node.params)
 }
@@ -198,8 +200,9 @@ fn skip(s: &[u8], from: usize, count: u64) -> usize
 
 // The position of the P row of a node's parameter with this number, from 0. It is sought from the last mark before it.
 pub fn parameter(s: &[u8], index: &[u64], node: Entry, k: u64) -> Position
-    ensures { λ r. ⌜ ((n : Node) → EntryIs (now (s .entry)) (now (index .entry)) node n
+    ensures name { λ r. ⌜ ((n : Node) → EntryIs (now (s .entry)) (now (index .entry)) node n
         → NameAt (now (s .entry)) r k (n .params)) ⌝ }
+    ensures is { λ r. ⌜ rowsThere (now (s .entry)) r ≡ parameterRows (now (s .entry)) (now (index .entry)) node k ⌝ }
 {
     if node.count <= k {
         return Position::Nothing;

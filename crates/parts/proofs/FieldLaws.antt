@@ -14,9 +14,8 @@ use Rattle.text.proofs.BytesLaws.{both-true}
 use Rattle.column.specs.Texts.{isDigit, isWord, all, sized, isName}
 use Rattle.row.proofs.ReadLaws.{printed-line}
 use Rattle.row.specs.Rows.{restOf}
-use Rattle.row.specs.Line.{lineOf, lineAt, textOf, textAt}
-use Rattle.row.specs.declared.Line.{Line}
-use Rattle.row.specs.declared.Line.the-variants as line
+use Rattle.row.specs.Line as line
+use Rattle.row.specs.Line.{Content, lineOf, lineAt, textOf, textAt}
 use Rattle.tree.specs.Tree as tree
 use Rattle.tree.specs.Tree.{Arm, slot, group}
 use Rattle.tree.specs.Reader.{Rows, Reading, got, no, _then_, On}
@@ -53,7 +52,7 @@ read-few (r ∷ rs) = go (lineOf r) refl
     slots o d e p i (got sl us) = name-few (textOf r) (printed-line r (line.Field o d e p) tt i .fits .4)
     slots o d e p i (no k us) = tt
 
-    go : (l : Line) → lineOf r ≡ l → On (readField (r ∷ rs)) (λ f. length (f .name) ≤ 64)
+    go : (l : Content) → lineOf r ≡ l → On (readField (r ∷ rs)) (λ f. length (f .name) ≤ 64)
     go line.Root i = rw (i, i) tt
     go (line.Node a b c d e f g) i = rw (i, i) tt
     go line.Parameter i = rw (i, i) tt

@@ -71,9 +71,9 @@ enter-out index k h = record {
 }
 
 -- what is found for the number
-module _ (index : List ℕ) (k : ℕ) (h : k < 64) (f : Found) (found-is : k < 64 → f ≡ entryWith index k) where
+module _ (index : List ℕ) (k : ℕ) (h : k < 64) (f : Found) (found-is : f ≡ entryWith index k) where
   finds : (s : Str) (nodes : List Node) → Indexed s nodes index → Finds s index f (nth k nodes)
-  finds s nodes x = rw (found-is h) (nth-is s nodes index k x)
+  finds s nodes x = rw found-is (nth-is s nodes index k x)
 
   pub enter-none : f ≡ found.Nothing → Enters index k End
   unfolding eachText
@@ -110,7 +110,7 @@ module _ (index : List ℕ) (k : ℕ) (h : k < 64) (f : Found) (found-is : k < 6
 
 -- what is found for the number of a node is its entry
 pub node-found :
-    (s : Str) (nodes : List Node) (index : List ℕ) (k : ℕ) (n : Node) (f : Found) → (k < 64 → f ≡ entryWith index k)
+    (s : Str) (nodes : List Node) (index : List ℕ) (k : ℕ) (n : Node) (f : Found) → f ≡ entryWith index k
     → Indexed s nodes index → nth k nodes ≡ some n → Finds s index f (some n)
 node-found s nodes index k n f found-is x i =
     let below = nth-below k nodes n i in

@@ -1,6 +1,7 @@
 -- Laws of the parts of a field: what stands under a header, a part, and the parts from one on. Assumes nothing.
 use mathlib.Core.Path.{_≡_, refl, sym, ap, _∙_}
 use mathlib.Core.List.{List, [], _∷_, _++_, append-assoc, append-nil}
+use mathlib.Core.Option.{none, some}
 use Prim.Native.Nat.{ℕ, zero, suc, _+_, _*_, _^_, _≤_, _<_}
 use native.Mathlib.Omega.{arith}
 use native.Mathlib.Nat.{suc-mul}
@@ -12,7 +13,7 @@ use Rattle.text.specs.declared.Text.{Text}
 use Rattle.tree.specs.Tree as tree
 use Rattle.tree.specs.Tree.{Node, Sheet}
 use Rattle.tree.proofs.OtherLines.{never}
-use Rattle.codegen_types.specs.Out.{Out, ok, refused, refusalOf}
+use Rattle.codegen_types.specs.Out.{Out, ok, refused}
 use Rattle.codegen_types.specs.Written.{Writes}
 use Rattle.codegen_types.specs.declared.Written.{Written}
 use Rattle.codegen_types.specs.declared.Refusal.the-variants.{None, Number}
@@ -33,15 +34,15 @@ module _ {l l′ : Str} {t₀ : Text} {r : Written} (z : t₀ ≡ stateAt 0) whe
   -- it is refused with a number
   pub refused-part : (o : Out Str) (k : ℕ) → Writes o l t₀ l′ r → r .refusal ≡ Number k → refusedText k ≡ partText o
   unfolding partText
-  refused-part (ok w) k h e = let f = h .refusal in never cc
-  refused-part (refused j) k h e = let f = h .refusal in let i : k ≡ j = cc in rw i
+  refused-part (ok w) k h e = let f : some k ≡ none = rw e at (h .refusal) in never cc
+  refused-part (refused j) k h e = let f : some k ≡ some j = rw e at (h .refusal) in let i : k ≡ j = cc in rw i
 
   -- it is longer than a text may be
   pub long-part : (o : Out Str) → Writes o l t₀ l′ r → r .refusal ≡ None → 65536 < r .text .at → refusedText 22 ≡ partText o
   unfolding partText
   long-part (ok w) h e g =
       let f : 65536 < length w = omega (arith, text-end z (h .text w refl)) in rw (lt-ltb 65536 (length w) f)
-  long-part (refused j) h e g = let f = h .refusal in never cc
+  long-part (refused j) h e g = let f : none ≡ some j = rw e at (h .refusal) in never cc
 
   -- it is whole
   pub whole-part :
@@ -51,7 +52,7 @@ module _ {l l′ : Str} {t₀ : Text} {r : Written} (z : t₀ ≡ stateAt 0) whe
   whole-part (ok w) fit h e b g i =
       let f : length w ≤ 65536 = omega (arith, text-end z (h .text w refl)) in
       rw (le-ltb 65536 (length w) f) (taken-puts z (h .text w refl) b fit i)
-  whole-part (refused j) fit h e b g i = let f = h .refusal in never cc
+  whole-part (refused j) fit h e b g i = let f : none ≡ some j = rw e at (h .refusal) in never cc
 
 -- ---- a part: a header of n bytes, and under it a text of m bytes of what was lent from n on
 

@@ -5,7 +5,7 @@ use mathlib.Core.List.{List}
 use Prim.Native.Nat.{ℕ}
 use Rattle.text.specs.Bytes.{Str}
 use Rattle.tree.specs.Read.{Admitted, admitted}
-use Rattle.sheet.specs.Admission.{verdict, IndexOf}
+use Rattle.sheet.specs.Admission.{answerNumbers, refusalIn, IndexOf}
 use Rattle.sheet.specs.declared.Answer.{Answer}
 use Rattle.sheet.specs.declared.Answer.the-variants as answer
 use Rattle.requests.proofs.SheetLaws.{of-sheet, of-refusal}
@@ -15,7 +15,7 @@ use Rattle.parts.specs.declared.Place.{Place}
 use Rattle.parts.specs.declared.Place.the-variants.{Refused}
 
 -- the answer r for the sheet s
-module _ (s : Str) (r : Answer) (told : r ≡ verdict (admitted s)) (index : List ℕ) where
+module _ (s : Str) (r : Answer) (told : answerNumbers r ≡ refusalIn (admitted s)) (index : List ℕ) where
   -- it is admitted, and has this index
   pub start-sheet :
       (place : Place) → IndexOf s (admitted s) index → r ≡ answer.Sheet → Enters index 0 place

@@ -11,10 +11,13 @@ use lib.ListN.{length}
 use Rattle.row.proofs.Line.{the-type}
 use Rattle.text.specs.Bytes.{Str, ascii, unit}
 use Rattle.text.specs.Decimal.{decimal}
+use Rattle.text.specs.Text.{Wrote}
+use Rattle.text.specs.declared.Text.{Text}
 use Rattle.text.specs.Lines.{toLines, flatMap, stringify, ended}
 use Rattle.text.proofs.LinesLaws.{ended-append, stringify-lines}
 use Rattle.row.specs.Rows.{restOf}
-use Rattle.row.specs.Line.{lineAt, asWord}
+use Rattle.row.specs.Line as content
+use Rattle.row.specs.Line.{Content, lineSaid, lineAt, asWord}
 use Rattle.row.specs.declared.Line.{Line as RowLine}
 use Rattle.row.specs.declared.Line.the-variants as line
 use Rattle.tree.specs.Reader.{Rows, Reading, Reader, got, no, _then_, On, Has}
@@ -22,25 +25,25 @@ use Rattle.tree.specs.Read.{readWordsUpTo, readWords}
 use Rattle.tree.proofs.OtherLines.{not-word}
 use Rattle.types.proofs.Laws.{on-map, on-one}
 use Rattle.codegen.specs.WordArray.{bytesFrom, wordBytes, wordsLines, wordArrayDeclaration}
-use Rattle.pointer_constants.specs.Words.{wordsAt, wordCode, wordsText}
+use Rattle.pointer_constants.specs.Words.{wordsAt, wordCode, wordsText, declarationText}
 
 -- ---- rows
 
 -- two choices by whether a line is a W row
-two : {A B : Type 0} (R : A → B → Type 0) (l : RowLine) (y : ℕ → A) (z : A) (y′ : ℕ → B) (z′ : B) → ((w : ℕ) → R (y w) (y′ w))
+two : {A B : Type 0} (R : A → B → Type 0) (l : Content) (y : ℕ → A) (z : A) (y′ : ℕ → B) (z′ : B) → ((w : ℕ) → R (y w) (y′ w))
     → R z z′
     → R (asWord l y z) (asWord l y′ z′)
-two R line.Root y z y′ z′ f g = g
-two R (line.Node i p k x v c o) y z y′ z′ f g = g
-two R line.Parameter y z y′ z′ f g = g
-two R (line.Field o d e p) y z y′ z′ f g = g
-two R (line.Group i d) y z y′ z′ f g = g
-two R (line.Typ k a b c) y z y′ z′ f g = g
-two R (line.Scope i b c) y z y′ z′ f g = g
-two R line.Unbound y z y′ z′ f g = g
-two R (line.Value k b) y z y′ z′ f g = g
-two R (line.Word w) y z y′ z′ f g = f w
-two R line.Bad y z y′ z′ f g = g
+two R content.Root y z y′ z′ f g = g
+two R (content.Node i p k x v c o) y z y′ z′ f g = g
+two R content.Parameter y z y′ z′ f g = g
+two R (content.Field o d e p) y z y′ z′ f g = g
+two R (content.Group i d) y z y′ z′ f g = g
+two R (content.Typ k a b c) y z y′ z′ f g = g
+two R (content.Scope i b c) y z y′ z′ f g = g
+two R content.Unbound y z y′ z′ f g = g
+two R (content.Value k b) y z y′ z′ f g = g
+two R (content.Word w) y z y′ z′ f g = f w
+two R content.Bad y z y′ z′ f g = g
 
 words-are : (n : ℕ) (rs : Rows) → On (readWordsUpTo n rs) (λ ws. ws ≡ wordsAt n rs)
 unfolding readWordsUpTo wordsAt
@@ -71,21 +74,21 @@ unfolding wordsAt
 words-short zero rs = refl
 words-short (suc n) rs = go (lineAt rs) refl (words-short n (restOf rs))
   where
-    go : (l : RowLine) → lineAt rs ≡ l → wordsAt (length (wordsAt n (restOf rs))) (restOf rs) ≡ wordsAt n (restOf rs)
+    go : (l : Content) → lineAt rs ≡ l → wordsAt (length (wordsAt n (restOf rs))) (restOf rs) ≡ wordsAt n (restOf rs)
         → wordsAt (length (asWord l (λ w. w ∷ wordsAt n (restOf rs)) [])) rs ≡ asWord l (λ w. w ∷ wordsAt n (restOf rs)) []
-    go (line.Word w) e h = rw e (ap (λ (x : List ℕ). w ∷ x) h)
-    go line.Root e h = refl
-    go (line.Node i p k x v c o) e h = refl
-    go line.Parameter e h = refl
-    go (line.Field o d x p) e h = refl
-    go (line.Group i d) e h = refl
-    go (line.Typ k a b c) e h = refl
-    go (line.Scope i b c) e h = refl
-    go line.Unbound e h = refl
-    go (line.Value k b) e h = refl
-    go line.Bad e h = refl
+    go (content.Word w) e h = rw e (ap (λ (x : List ℕ). w ∷ x) h)
+    go content.Root e h = refl
+    go (content.Node i p k x v c o) e h = refl
+    go content.Parameter e h = refl
+    go (content.Field o d x p) e h = refl
+    go (content.Group i d) e h = refl
+    go (content.Typ k a b c) e h = refl
+    go (content.Scope i b c) e h = refl
+    go content.Unbound e h = refl
+    go (content.Value k b) e h = refl
+    go content.Bad e h = refl
 
-pub words-of : (rs : Rows) (ws : List ℕ) (k : ℕ) → Has (readWords true rs) (λ x. x ≡ ws) → k ≡ length ws → wordsAt k rs ≡ ws
+words-of : (rs : Rows) (ws : List ℕ) (k : ℕ) → Has (readWords true rs) (λ x. x ≡ ws) → k ≡ length ws → wordsAt k rs ≡ ws
 words-of rs ws k h e =
     let z = words-whole rs ws h in rw (e, z) (words-short 255 rs)
 
@@ -94,10 +97,10 @@ unfolding wordsAt
 words-none zero rs h = refl
 words-none (suc n) rs h = let z : ⊥ = omega arith in absurd z
 
--- the first row's line l, and the rows after it
-module _ (rs rest : Rows) (l : RowLine) (here : l ≡ lineAt rs) (after : rest ≡ restOf rs) where
+-- what the code says of the first row, and the rows after it
+module _ (rs rest : Rows) (l : RowLine) (here : lineSaid l ≡ lineAt rs) (after : rest ≡ restOf rs) where
   pub words-more : (n w : ℕ) → 0 < n → l ≡ line.Word w → wordsAt n rs ≡ w ∷ wordsAt (n - 1) rest
-  unfolding wordsAt
+  unfolding lineSaid wordsAt
   words-more zero w h is = let z : ⊥ = omega arith in absurd z
   words-more (suc n) w h is = rw (← here, is, ← after, sub-one (suc n)) refl
 
@@ -142,10 +145,8 @@ words-lines root (w ∷ ws) =
         ≡ sp ++ root ++ a ++ b ++ (c ++ n) ++ more
     joined sp root a b c n more = simp append-assoc
 
-pub declaration : (root name : Str) (ws : List ℕ)
-    → ascii "pub(crate) static " ++ name ++ ascii ": [" ++ root ++ ascii "::Word; " ++ decimal (length ws) ++ ascii "] = [\n"
-    ++ wordsText root ws
-    ++ ascii "];\n" ≡ stringify (wordArrayDeclaration root name ws true)
+declaration : (root name : Str) (ws : List ℕ)
+    → declarationText root name (length ws) ws ≡ stringify (wordArrayDeclaration root name ws true)
 unfolding toLines flatMap ended wordArrayDeclaration
 declaration root name ws =
     sym (stringify-lines (wordArrayDeclaration root name ws true) (λ e. let z : _≡_ {A = ℕ} 0 1 = cc in omega arith)
@@ -163,3 +164,9 @@ declaration root name ws =
         → (a ++ b ++ name ++ c ++ root ++ d ++ m ++ e) ++ (n ++ (text ++ z))
         ≡ (a ++ b) ++ name ++ c ++ root ++ d ++ m ++ (e ++ n) ++ text ++ z
     joined a b name c root d m e n text z = simp append-assoc
+
+-- of a slot's words it is `word_array_declaration`'s
+pub declaration-of : {l : List ℕ} {t : Text} {l′ : List ℕ} {t′ : Text} (root name : Str) (rs : Rows) (n : ℕ)
+    → Wrote l t (declarationText root name n (wordsAt n rs)) l′ t′ → (ws : List ℕ) → Has (readWords true rs) (λ x. x ≡ ws)
+    → n ≡ length ws → Wrote l t (stringify (wordArrayDeclaration root name ws true)) l′ t′
+declaration-of root name rs n w ws h e = rw (← declaration root name ws, ← e, ← words-of rs ws n h e) w

@@ -3,19 +3,12 @@
 use field::Slot;
 use row::Line;
 use text::Text;
-ghost use mathlib.Core.Path.{_≡_};
-ghost use mathlib.Core.Bool.{true};
-ghost use Prim.Native.Nat.{ℕ};
-ghost use mathlib.Core.List.{List};
-ghost use lib.ListN.{length, drop};
-ghost use Rattle.text.specs.Lines.{stringify};
+ghost use lib.ListN.{drop};
 ghost use Rattle.text.specs.Text.{Wrote};
 ghost use Rattle.row.specs.Rows.{rows};
-ghost use Rattle.tree.specs.Read.{readWords};
 ghost use Rattle.names.specs.Names.{defaultName};
-ghost use Rattle.tree.specs.Reader.{Has};
-ghost use Rattle.codegen.specs.WordArray.{wordBytes, wordArrayDeclaration};
-ghost use Rattle.pointer_constants.specs.Words.{wordsAt, wordCode, wordsText};
+ghost use Rattle.codegen.specs.WordArray.{wordBytes};
+ghost use Rattle.pointer_constants.specs.Words.{wordsAt, wordCode, wordsText, declarationText};
 
 // A word's line: its eight bytes, from the lowest on.
 fn word(root: &[u8], w: u64, t: Text, buf: &mut [u8]) -> Text
@@ -65,7 +58,8 @@ fn words(root: &[u8], s: &[u8], from: usize, most: u64, t: Text, buf: &mut [u8])
     t
 }
 
-// The declaration of the constant of the field with this name, whose slot this is.
+// The declaration of the constant of the field with this name, whose slot this is: of as many words as the slot counts, and with
+// those of them that stand there.
 pub fn word_array_declaration(
     root: &[u8],
     s: &[u8],
@@ -74,9 +68,9 @@ pub fn word_array_declaration(
     t: Text,
     buf: &mut [u8],
 ) -> Text
-    ensures { λ r. ⌜ ((ws : List ℕ) → Has (readWords true (rows (drop (slot .words) (now (s .entry))))) (λ x. x ≡ ws)
-        → slot .count ≡ length ws → Wrote (now (buf .entry)) t
-        (stringify (wordArrayDeclaration (now (root .entry)) (defaultName (now (name .entry))) ws true)) (now (buf .exit)) r) ⌝ }
+    ensures { λ r. ⌜ Wrote (now (buf .entry)) t
+        (declarationText (now (root .entry)) (defaultName (now (name .entry))) (slot .count)
+        (wordsAt (slot .count) (rows (drop (slot .words) (now (s .entry)))))) (now (buf .exit)) r ⌝ }
 {
     let t = t.bytes(buf, b"pub(crate) static ");
     let t = names::default_name(t, buf, name);

@@ -12,9 +12,8 @@ use lib.ListN.{length}
 use Rattle.text.specs.Bytes.{Str, both}
 use Rattle.column.specs.Texts.{isName}
 use Rattle.row.specs.Rows.{restOf}
-use Rattle.row.specs.Line.{lineAt, textAt, asWord, mostBits}
+use Rattle.row.specs.Line.{Content, lineAt, textAt, asWord, mostBits}
 use Rattle.row.specs.Print.{printField, printValue, printWord, Fits}
-use Rattle.row.specs.declared.Line.{Line}
 use Rattle.tree.specs.Tree.{Value, Slot, Arm, slot, group, Field}
 use Rattle.tree.specs.Reader.{Rows, got, no, Reader, mapR, onWord, onGroup}
 use Rattle.tree.specs.Read.{valueOf, readWordsUpTo, readWords, hasWords, readSlot, field, isField, readField}
@@ -29,12 +28,12 @@ use Rattle.text.proofs.BytesLaws.{both-true}
 use Rattle.printed.proofs.Tests.{holds, _and_, fits-most, most-fits, not-true, true-not, id-most, most-id}
 use Rattle.printed.proofs.Types.{Room, room-rest, room-type, read-type, tell-type}
 use Rattle.printed.proofs.Fresh.{fresh, fresh-append, fresh-arm}
-use Rattle.row.specs.declared.Line.the-variants as line
+use Rattle.row.specs.Line as line
 
 -- ---- what is printed is read
 
 -- the line after a field: another field, a node, or none
-pub data AfterField : Line → Type 0 where
+pub data AfterField : Content → Type 0 where
   a-field : {o d e p : ℕ} → AfterField (line.Field o d e p)
   a-group : {i d : ℕ} → AfterField (line.Group i d)
   a-node : {i p s x g c o : ℕ} → AfterField (line.Node i p s x g c o)
@@ -54,7 +53,7 @@ read-value v rs e =
 words-end : {A : Type 0} (f : ℕ → Reader A) (other : Reader A) (rs : Rows) → AfterField (lineAt rs) → onWord f other rs ≡ other rs
 words-end {A} f other rs h = go (lineAt rs) h
   where
-    go : (l : Line) → AfterField l → asWord {A = Reader A} l (λ w rs. f w (restOf rs)) other rs ≡ other rs
+    go : (l : Content) → AfterField l → asWord {A = Reader A} l (λ w rs. f w (restOf rs)) other rs ≡ other rs
     go l a-field = refl
     go l a-group = refl
     go l a-node = refl
@@ -115,7 +114,7 @@ read-slot s rs e h room =
     (reads-map _ (read-words (hasWords (s .explicit) (s .default .kind)) (s .words) rs (tests 5) h)))
 
 -- the line of a field
-abbrev armLine : ℕ → Arm → Line
+abbrev armLine : ℕ → Arm → Content
 armLine d (slot s) = line.Field (s .offset) d (s .explicit) (s .option)
 armLine d (group i) = line.Group i d
 
@@ -171,7 +170,7 @@ module _ (name : Str) (d : ℕ) where
       let h = line-here (armLine d (group i)) name rs (arm-fits name d (group i) n f e) in (rw h, rw h a-group)
 
 -- the line after a node's fields: another node, or none
-pub data AfterFields : Line → Type 0 where
+pub data AfterFields : Content → Type 0 where
   a-node : {i p s x g c o : ℕ} → AfterFields (line.Node i p s x g c o)
   the-end : AfterFields line.Bad
 
@@ -186,12 +185,12 @@ fields-turn seen rs mid rest f fs a b c d = fields-here seen rs ∙ rw (a, b, c,
 fields-end : (seen : List ℕ) (rs : Rows) → AfterFields (lineAt rs) → readFields seen rs ≡ got [] rs
 fields-end seen rs h = fields-here seen rs ∙ rw (go (lineAt rs) h)
   where
-    go : (l : Line) → AfterFields l → isField l ≡ false
+    go : (l : Content) → AfterFields l → isField l ≡ false
     go l a-node = refl
     go l the-end = refl
 
 -- what follows the fields may follow a field
-after-field : (l : Line) → AfterFields l → AfterField l
+after-field : (l : Content) → AfterFields l → AfterField l
 after-field l a-node = a-node
 after-field l the-end = the-end
 

@@ -5,22 +5,21 @@ use mathlib.Core.List.{[], _∷_}
 use Prim.Native.Nat.{ℕ}
 use Rattle.text.specs.Bytes.{Str}
 use Rattle.row.specs.Rows.{restOf}
-use Rattle.row.specs.Line.{lineAt, textAt, cases}
+use Rattle.row.specs.Line.{Content, lineAt, textAt, cases}
 use Rattle.row.specs.Print.{printLine, Fits}
-use Rattle.row.specs.declared.Line.{Line}
-use Rattle.row.specs.declared.Line.the-variants.{Root, Node, Parameter, Field, Group, Typ, Scope, Unbound, Value, Word, Bad}
+use Rattle.row.specs.Line.{Root, Node, Parameter, Field, Group, Typ, Scope, Unbound, Value, Word, Bad}
 use Rattle.row.proofs.ReadLaws.{Good, printed-line}
 use Rattle.tree.specs.Reader.{Rows, Reader, onRoot, onNode, onParameter, onField, onGroup}
 use Rattle.tree.specs.Reader.{onType, onScope, onUnbound, onValue, onWord}
 use Rattle.printed.proofs.Reading.{Tells}
 
 -- the first row is the line l printed, in its bounds
-pub record Says (rs : Rows) (l : Line) : Type 0 where
+pub record Says (rs : Rows) (l : Content) : Type 0 where
   pub row : rs ≡ printLine l (textAt rs) ∷ restOf rs
   pub fits : Fits l (textAt rs)
 
 -- a row that says a line
-says : (rs : Rows) (l : Line) → Good l → lineAt rs ≡ l → Says rs l
+says : (rs : Rows) (l : Content) → Good l → lineAt rs ≡ l → Says rs l
 unfolding lineAt textAt restOf
 says [] l g e = absurd (subst Good (sym e) g)
 says (r ∷ rs) l g e =
@@ -40,7 +39,7 @@ module _ {A : Type 0} {P : A → Rows → Type 0} (rs : Rows) where
       → ((k a b c : ℕ) → Says rs (Typ k a b c) → Tells P (t k a b c rs))
       → ((i b c : ℕ) → Says rs (Scope i b c) → Tells P (s i b c rs)) → (Says rs Unbound → Tells P (u rs))
       → ((k b : ℕ) → Says rs (Value k b) → Tells P (v k b rs)) → ((x : ℕ) → Says rs (Word x) → Tells P (w x rs)) → Tells P (z rs)
-      → (l : Line) → lineAt rs ≡ l → Tells P (cases r n p f g t s u v w z l rs)
+      → (l : Content) → lineAt rs ≡ l → Tells P (cases r n p f g t s u v w z l rs)
   by-line _ _ _ _ _ _ _ _ _ _ _ h _ _ _ _ _ _ _ _ _ _ Root e = h (says rs _ tt e)
   by-line _ _ _ _ _ _ _ _ _ _ _ _ h _ _ _ _ _ _ _ _ _ (Node i q k x y c o) j = h i q k x y c o (says rs _ tt j)
   by-line _ _ _ _ _ _ _ _ _ _ _ _ _ h _ _ _ _ _ _ _ _ Parameter e = h (says rs _ tt e)

@@ -9,9 +9,8 @@ use lib.ListN.{length}
 use Rattle.text.specs.Bytes.{Str, cond, unit}
 use Rattle.column.specs.Texts.{isName, isGraphicText}
 use Rattle.row.specs.Rows.{restOf}
-use Rattle.row.specs.Line.{lineOf, lineAt, textAt, asParameter}
+use Rattle.row.specs.Line.{Content, lineOf, lineAt, textAt, asParameter}
 use Rattle.row.specs.Print.{printNode, printParameter, printLine, Fits}
-use Rattle.row.specs.declared.Line.{Line}
 use Rattle.tree.specs.Tree.{Field, Node}
 use Rattle.tree.specs.Reader.{Rows, got, no, Reader, _then_, mapR, atEnd}
 use Rattle.tree.specs.Read.{among, groupIds, readParams, readMembers, readNode, readNodes}
@@ -26,7 +25,7 @@ use Rattle.printed.proofs.Types.{Room, room-rest}
 use Rattle.printed.proofs.Fresh.{fresh, fresh-append}
 use Rattle.printed.proofs.Fields.{AfterField, AfterFields, room-fields, fields-follow, read-fields}
 use Rattle.printed.proofs.Fields.{tell-fields}
-use Rattle.row.specs.declared.Line.the-variants as line
+use Rattle.row.specs.Line as line
 
 -- ---- what is printed is read
 
@@ -37,7 +36,7 @@ params-end [] h = refl
 params-end (r ∷ rs) h = go (lineOf r) h
   where
     go :
-        (l : Line) → AfterField l
+        (l : Content) → AfterField l
         → asParameter {A = Reader (List Str)} l (λ us. readParams rs then λ ps. got (textAt us ∷ ps)) (got []) (r ∷ rs)
         ≡ got [] (r ∷ rs)
     go l AfterField.a-field = refl
@@ -58,7 +57,7 @@ read-params (p ∷ ps) rs e h =
     (reads-map (p ∷_) (read-params ps rs more h))
 
 -- the N line of a node, the rows of its members, and its tests
-abbrev nodeLine : Node → Line
+abbrev nodeLine : Node → Content
 nodeLine n = line.Node (n .id) (n .parent) (n .scope) (n .isStruct) (n .generic) (n .tagCount) (n .tagOffset)
 
 abbrev memberRows : Node → Rows → Rows

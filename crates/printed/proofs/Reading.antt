@@ -2,18 +2,17 @@
 -- `Tells`: whatever part a reading gives, this holds of it and of the rows that are left. Assumes nothing.
 use mathlib.Core.Path.{_≡_, refl, ap, _∙_}
 use mathlib.Core.Bool.{Bool, true, false}
-use mathlib.Core.List.{[], _∷_}
+use mathlib.Core.List.{_∷_}
 use Prim.Native.Nat.{ℕ, zero, suc}
 use Rattle.text.specs.Bytes.{Str, cond}
 use Rattle.row.specs.Rows.{rows, joined}
-use Rattle.row.specs.Line.{lineAt, textAt}
+use Rattle.row.specs.Line.{Content, lineAt, textAt}
 use Rattle.row.specs.Print.{printLine, Fits}
-use Rattle.row.specs.declared.Line.{Line}
 use Rattle.row.proofs.PrintLaws.{read-printed, text-printed, rows-printed}
 use Rattle.tree.specs.Reader.{Rows, Reading, got, no, Reader, _then_, times}
 
 -- a line printed within its bounds is read as that line with its text
-module _ (l : Line) (text : Str) (rs : Rows) (fits : Fits l text) where
+module _ (l : Content) (text : Str) (rs : Rows) (fits : Fits l text) where
   pub line-here : lineAt (printLine l text ∷ rs) ≡ l
   unfolding lineAt
   line-here = read-printed l text fits
@@ -22,49 +21,52 @@ module _ (l : Line) (text : Str) (rs : Rows) (fits : Fits l text) where
   unfolding textAt
   text-here = text-printed l text fits
 
--- rows that come back when their bytes are cut into rows
-Cut : Rows → Type 0
-Cut rs = rows (joined rs) ≡ rs
+-- the rows rs are lines printed within their bounds, in front of the rows rest
+pub data Lined : Rows → Rows → Type 0 where
+  no-line : {rs : Rows} → Lined rs rs
+  a-line : (l : Content) (text : Str) {rs rest : Rows} → Fits l text → Lined rs rest → Lined (printLine l text ∷ rs) rest
 
--- the reading g of the rows rs gives a and leaves the rows rest; and if those come back, so do the rows rs
+lined-on : {rs mid rest : Rows} → Lined rs mid → Lined mid rest → Lined rs rest
+lined-on no-line q = q
+lined-on (a-line l text f r) q = a-line l text f (lined-on r q)
+
+-- lines printed come back when their bytes are cut into rows, if the rows after them do
+pub lined-back : {rs rest : Rows} → Lined rs rest → rows (joined rest) ≡ rest → rows (joined rs) ≡ rs
+unfolding joined
+lined-back no-line h = h
+lined-back (a-line l text {rs = rs} f r) h =
+    rows-printed l text (joined rs) f ∙ ap (λ (rs : Rows). printLine l text ∷ rs) (lined-back r h)
+
+-- the reading g of the rows rs gives a and leaves the rows rest, and what is read are lines printed
 pub record Reads {A : Type 0} (rs : Rows) (g : Reading A) (a : A) (rest : Rows) : Type 0 where
   pub gives : g ≡ got a rest
-  back : Cut rest → Cut rs
-
--- rows that are read to the end come back
-pub reads-back : {A : Type 0} {rs : Rows} {g : Reading A} {a : A} → Reads rs g a [] → rows (joined rs) ≡ rs
-unfolding Cut joined rows
-reads-back r = r .back refl
+  pub lined : Lined rs rest
 
 -- nothing is read
 pub reads-none : {A : Type 0} {rs : Rows} {a : A} → Reads rs (got a rs) a rs
-reads-none = record { gives = refl; back = λ h. h }
+reads-none = record { gives = refl; lined = no-line }
 
 -- a line in front
 pub reads-line :
-    {A : Type 0} (l : Line) (text : Str) {rs rest : Rows} {g whole : Reading A} {a : A} → Fits l text → whole ≡ g
+    {A : Type 0} (l : Content) (text : Str) {rs rest : Rows} {g whole : Reading A} {a : A} → Fits l text → whole ≡ g
     → Reads rs g a rest → Reads (printLine l text ∷ rs) whole a rest
-unfolding Cut joined
-reads-line l text {rs = rs} f e r = record {
-  gives = e ∙ r .gives;
-  back = λ h. rows-printed l text (joined rs) f ∙ ap (λ (rs : Rows). printLine l text ∷ rs) (r .back h);
-}
+reads-line l text f e r = record { gives = e ∙ r .gives; lined = a-line l text f (r .lined) }
 
 -- two readings after each other, as the whole that they are read for
 pub reads-both :
     {A B C : Type 0} {rs mid rest : Rows} {g : Reading A} {h : Reading B} {whole : Reading C} {a : A} {b : B} {c : C}
     → whole ≡ got c rest → Reads rs g a mid → Reads mid h b rest → Reads rs whole c rest
-reads-both e r q = record { gives = e; back = λ h. r .back (q .back h) }
+reads-both e r q = record { gives = e; lined = lined-on (r .lined) (q .lined) }
 
 pub reads-then :
     {A B : Type 0} {rs mid rest : Rows} {g : Reading A} {a : A} {b : B} (k : A → Reader B) → Reads rs g a mid
     → Reads mid (k a mid) b rest → Reads rs (g then k) b rest
-reads-then k r q = record { gives = rw (r .gives) (q .gives); back = λ h. r .back (q .back h) }
+reads-then k r q = record { gives = rw (r .gives) (q .gives); lined = lined-on (r .lined) (q .lined) }
 
 pub reads-map :
     {A B : Type 0} (f : A → B) {rs rest : Rows} {g : Reading A} {a : A} → Reads rs g a rest
     → Reads rs (g then λ a. got (f a)) (f a) rest
-reads-map f r = record { gives = rw (r .gives); back = r .back }
+reads-map f r = record { gives = rw (r .gives); lined = r .lined }
 
 pub reads-times :
     {A : Type 0} (one : Reader (A → A)) (none : A) (n : ℕ) {rs mid rest : Rows} {f : A → A} {a : A}

@@ -20,14 +20,14 @@ use Rattle.tree.specs.Read.{readNodes, readSheet, Admitted, sheet, refused, num
 use Rattle.tree.specs.Print.{nodeRows, sheetRows, printed}
 use Rattle.tree.specs.WellFormed.{every, distinct, nodeFits, nodeIds, allGroupIds, wellFormed}
 use Rattle.printed.specs.Claims.{ReadsPrinted, PrintsRead}
-use Rattle.printed.proofs.Reading.{line-here, text-here, Reads, reads-back, reads-line, reads-map}
+use Rattle.printed.proofs.Reading.{line-here, text-here, Lined, lined-back, Reads, reads-line, reads-map}
 use Rattle.printed.proofs.Reading.{Tells, told, nothing, tells-map}
 use Rattle.printed.proofs.Lines.{tells-root}
 use Rattle.printed.proofs.Tests.{holds, _and_}
 use Rattle.printed.proofs.Types.{Room, room-rest}
 use Rattle.printed.proofs.Fresh.{fresh-distinct}
 use Rattle.printed.proofs.Nodes.{NodesFit, read-nodes, NodesAt, tell-nodes}
-use Rattle.row.specs.declared.Line.the-variants as line
+use Rattle.row.specs.Line as line
 
 -- the bytes of rows, counted and joined
 joined-size : (rs : Rows) → length (joined rs) ≡ size rs
@@ -86,14 +86,27 @@ read-sheet root (n ∷ ns) r some few f room =
     reads-line line.Root root r (rw (line-here line.Root root us r, text-here line.Root root us r))
     (reads-map (λ ns. record { root = root; nodes = ns }) (read-nodes ns n 64 [] [] (omega arith) f room))
 
--- reading what is printed of a well-formed tree gives that tree
-pub reads-printed : ReadsPrinted
-unfolding admitted printed sheetRows
-reads-printed sh e =
+-- the rows of a well-formed tree
+read-tree : (sh : Sheet) → wellFormed sh ≡ true → Reads (sheetRows sh) (readSheet (sheetRows sh)) sh []
+unfolding printed sheetRows
+read-tree sh e =
     let f = formed sh e in
     let room : Room (sheetRows sh) = record { few = omega (arith, joined-size (sheetRows sh), f .short) } in
-    let r = read-sheet (sh .root) (sh .nodes) (f .root) (f .some) (f .few) (f .nodes) (room-rest room) in
-    rw (admitted, le-ltb 65536 (length (printed sh)) (f .short), reads-back r, r .gives)
+    read-sheet (sh .root) (sh .nodes) (f .root) (f .some) (f .few) (f .nodes) (room-rest room)
+
+-- they are lines printed within their bounds, and come back when their bytes are cut into rows
+pub tree-lined : (sh : Sheet) → wellFormed sh ≡ true → Lined (sheetRows sh) []
+tree-lined sh e = read-tree sh e .lined
+
+pub tree-back : (sh : Sheet) → wellFormed sh ≡ true → rows (printed sh) ≡ sheetRows sh
+unfolding printed joined rows
+tree-back sh e = lined-back (tree-lined sh e) refl
+
+-- reading what is printed of a well-formed tree gives that tree
+pub reads-printed : ReadsPrinted
+unfolding admitted
+reads-printed sh e =
+    rw (admitted, le-ltb 65536 (length (printed sh)) (formed sh e .short), tree-back sh e, read-tree sh e .gives)
 
 -- ---- what is read is printed
 

@@ -12,10 +12,9 @@ use lib.Dec.{eqb, ltb}
 use Rattle.text.specs.Bytes.{Str, cond, both}
 use Rattle.column.specs.Number.{most}
 use Rattle.row.specs.Rows.{restOf, size}
-use Rattle.row.specs.Line.{lineAt, asUnbound, mostA, mostB, mostC, mostCount}
+use Rattle.row.specs.Line.{Content, lineAt, asUnbound, mostA, mostB, mostC, mostCount}
 use Rattle.row.specs.Print.{rowText, printType, printScope, printUnbound, Fits}
-use Rattle.row.specs.declared.Line.{Line}
-use Rattle.row.specs.declared.Line.the-variants.{Root, Node, Parameter, Field, Group, Typ, Scope, Unbound, Value, Word, Bad}
+use Rattle.row.specs.Line.{Root, Node, Parameter, Field, Group, Typ, Scope, Unbound, Value, Word, Bad}
 use Rattle.tree.specs.Tree.{Ty, plain, list, enum, struct, interface, anyPointer, parameter}
 use Rattle.tree.specs.Tree.{Scopes, end, inherit, bind, Binds, stop, unbound, bound}
 use Rattle.tree.specs.Reader.{Rows, got, no, Reader, _then_, mapR, times, onType}
@@ -135,7 +134,7 @@ type-binding left rs rest t e = by-line (lineAt rs) refl
     refused (suc l) h = rw h
 
     by-line :
-        (l : Line) → lineAt rs ≡ l
+        (l : Content) → lineAt rs ≡ l
         → asUnbound {A = Reader (Binds → Binds)} l (λ rs. got (λ bs. unbound bs) (restOf rs))
         (mapR (λ t bs. bound t bs) (readType left)) rs
         ≡ (readType left rs then λ t. got (λ bs. bound t bs))

@@ -10,16 +10,10 @@ use lib.Dec.{eqb}
 use lib.ListN.{length, take, drop, getD, List·getD-append}
 use lib.Seq.{drop-append-add, take-append-add, drop-nil, take-nil, getD-drop, drop-cons, sets, sets-eq}
 use Rattle.record.specs.Bits.{toBits, ofBits, sectionBits, little, littleBytes, flags}
-use Rattle.record.specs.Offsets.{bytesOf, boolAt, dataAt, from, bitCount}
+use Rattle.record.specs.Bytes.{Bytes, BoolAtHolds, NumberAtHolds, SameBytesHolds}
+use Rattle.record.specs.Offsets.{bytesOf}
 use Rattle.record.specs.Record.{read, write}
-use Rattle.record.specs.declared.BitOffset.{BitOffset}
-use Rattle.record.specs.declared.ElementOffset.{ElementOffset}
-use Rattle.record.specs.declared.Width.{Width}
 use Rattle.record.proofs.BitLaws.{of-to, toBits-at, toBits-append, toBits-mod}
-
--- each is a byte
-abbrev pub Bytes : List ℕ → Type 0
-Bytes l = (i : ℕ) → getD l i 0 < 256
 
 pub bytes-rest : (b : ℕ) (l : List ℕ) → Bytes (b ∷ l) → Bytes l
 bytes-rest b l h i = h (suc i)
@@ -79,8 +73,7 @@ write-section k new bs h =
     (sym (section-append (take k bs) (new ++ drop (k + length new) bs)
     ∙ ap (λ (l : List Bool). sectionBits (take k bs) ++ l) (section-append new (drop (k + length new) bs))))
 
--- a section's bits determine its bytes, so that a contract that says the bits of lent bytes says the bytes
-pub section-injective : (a b : List ℕ) → Bytes a → Bytes b → sectionBits a ≡ sectionBits b → a ≡ b
+pub section-injective : SameBytesHolds
 section-injective [] [] ha hb e = refl
 section-injective [] (y ∷ b) ha hb e = let z : _≡_ {A = ℕ} 0 1 = cc in absurd (omega arith)
 section-injective (x ∷ a) [] ha hb e = let z : _≡_ {A = ℕ} 0 1 = cc in absurd (omega arith)
@@ -99,9 +92,7 @@ bit-of-byte bs k j h l =
     ∙ rw (drop-section k bs, drop-cons bs k 0 h)
     (List·getD-append (toBits 8 (getD bs k 0)) (sectionBits (drop (suc k) bs)) false j l ∙ toBits-at 8 (getD bs k 0) j l)
 
--- Bool at o: bit o modulo 8, lowest first, of the byte whose number is o divided by 8, rounded down
-pub bool-at : (bs : List ℕ) (o : BitOffset) → o .0 / 8 < length bs
-    → getD (sectionBits bs) (from (boolAt o)) false ≡ eqb (getD bs (o .0 / 8) 0 / 2 ^ (o .0 % 8) % 2) 1
+pub bool-at : BoolAtHolds
 bool-at bs o h = bit-of-byte bs (o .0 / 8) (o .0 % 8) h (mod-lt (o .0) (zero-lt-suc 7))
 
 -- ---- which bytes a number is
@@ -114,10 +105,7 @@ pub of-section : (bs : List ℕ) → Bytes bs → ofBits (sectionBits bs) ≡ li
 of-section [] h = refl
 of-section (b ∷ bs) h = of-append (toBits 8 b) (sectionBits bs) ∙ rw (of-to 8 b (h 0), of-section bs (bytes-rest b bs h))
 
--- a type of w bytes at o: w bytes, little-endian, the first of them at o times w
-pub number-at : (bs : List ℕ) (w : Width) (o : ElementOffset) → Bytes bs
-    → ofBits (read (from (dataAt w o)) (bitCount (dataAt w o)) (sectionBits bs))
-    ≡ little (take (bytesOf w) (drop (o .0 * bytesOf w) bs))
+pub number-at : NumberAtHolds
 number-at bs w o h =
     let n : ℕ = bytesOf w in
     rw (read-section (o .0 * n) n bs)

@@ -2,7 +2,7 @@
 -- one for each turn of a loop. Assumes nothing.
 use mathlib.Core.Path.{_≡_, refl, sym, ap, _∙_, subst}
 use mathlib.Core.Bool.{Bool, true, false, not}
-use mathlib.Core.Option.{Option, none, some}
+use mathlib.Core.Option.{none, some}
 use mathlib.Core.List.{List, [], _∷_, _++_, append-assoc, append-nil}
 use Prim.Native.Nat.{ℕ, zero, suc, _+_, _-_, _*_, _/_, _%_, _^_, _≤_, _<_}
 use native.Mathlib.Nat.{mod-lt, zero-lt-suc, pow-succ', one-le-pow, one-mul}
@@ -15,11 +15,13 @@ use lib.Pow.{high, low, pow-pos, pow-add, pow-mono, shr-lt, shl-exact}
 use lib.Seq.{drop-cons, take-at, drop-at, sets, set-split}
 use borrow.Author.Tests.{le-leb, lt-leb, leb-true, leb-false}
 use Rattle.record.specs.Bits.{toBits, bit, withBit, sectionBits, little, littleBytes, flags}
+use Rattle.record.specs.Bytes.{Bytes, SetBytesHolds}
 use Rattle.record.specs.Offsets.{Place, bytesOf, boolAt, dataAt, from, bitCount}
 use Rattle.record.specs.Record.{read, write, mapO, coded, getBits, putBits, tagIs, nullFlag, clearFlag}
-use Rattle.record.specs.Answers.{getAnswer, Put}
+use Rattle.record.specs.Answers.{getValue, Put}
 use Rattle.record.specs.declared.BitOffset.{BitOffset}
 use Rattle.record.specs.declared.ElementOffset.{ElementOffset}
+use Rattle.record.specs.declared.Get.{Get}
 use Rattle.record.specs.declared.Get.the-variants.{Value, None}
 use Rattle.record.specs.declared.PointerOffset.{PointerOffset}
 use Rattle.record.specs.declared.Set.the-variants.{Done, NoMeaning}
@@ -28,7 +30,7 @@ use Rattle.record.specs.declared.Width.the-variants.{One, Two, Four, Eig
 use Rattle.record.proofs.BitLaws.{length-toBits, length-xors, bit-two, half-below, toBits-append, toBits-mod, mask-bits}
 use Rattle.record.proofs.BitLaws.{xors-xor}
 use Rattle.record.proofs.SectionLaws.{write-part, length-read, found-inside, found-past, stored-inside, stored-past}
-use Rattle.record.proofs.ByteLaws.{Bytes, bytes-rest, length-section, read-section, write-section, bool-at, number-at}
+use Rattle.record.proofs.ByteLaws.{bytes-rest, length-section, read-section, write-section, bool-at, number-at}
 use Rattle.record.proofs.ByteLaws.{toBits-bytes, length-littleBytes, length-flags, flag-at}
 
 -- ---- one bit of a byte
@@ -174,21 +176,18 @@ module _ (l : List ℕ) (w : Width) (o : ElementOffset) (h : o .0 * bytesOf w + 
         write-section (o .0 * n) new l (omega (arith, e)),
       )
 
--- what a get of a tag answers decides its test
-pub tag-value : (l : List Bool) (o : ElementOffset) (n v : ℕ) → Value v ≡ getAnswer (getBits (dataAt Two o) 0 l)
-    → tagIs o n l ≡ some (eqb v n)
-tag-value l o n v e = go (getBits (dataAt Two o) 0 l) e
-  where
-    go : (g : Option ℕ) → Value v ≡ getAnswer g → mapO (λ x. eqb x n) g ≡ some (eqb v n)
-    go none d = cc
-    go (some x) d = let f : v ≡ x = cc in rw f
+-- which bytes a set changes
+pub set-bytes : SetBytesHolds
+set-bytes = (put-bool, put-data)
 
-pub tag-none : (l : List Bool) (o : ElementOffset) (n : ℕ) → None ≡ getAnswer (getBits (dataAt Two o) 0 l) → tagIs o n l ≡ none
-tag-none l o n e = go (getBits (dataAt Two o) 0 l) e
-  where
-    go : (g : Option ℕ) → None ≡ getAnswer g → mapO (λ x. eqb x n) g ≡ none
-    go none d = refl
-    go (some x) d = cc
+-- what a get of a tag answers decides its test
+pub tag-value : (l : List Bool) (o : ElementOffset) (n v : ℕ) {g : Get} → g ≡ Value v
+    → getValue g ≡ getBits (dataAt Two o) 0 l → tagIs o n l ≡ some (eqb v n)
+tag-value l o n v e f = ap (mapO (λ (x : ℕ). eqb x n)) (sym f ∙ ap getValue e)
+
+pub tag-none : (l : List Bool) (o : ElementOffset) (n : ℕ) {g : Get} → g ≡ None
+    → getValue g ≡ getBits (dataAt Two o) 0 l → tagIs o n l ≡ none
+tag-none l o n e f = ap (mapO (λ (x : ℕ). eqb x n)) (sym f ∙ ap getValue e)
 
 -- ---- past the section
 

@@ -1,12 +1,13 @@
 -- Records: a set and then a get, what a set leaves alone, sets in either order, clears. Every law is over a place, whatever its
 -- width. A bit of the section lies in a place or not, and the laws of writes settle both. Assumes nothing.
-use mathlib.Core.Path.{_≡_, refl, ap, _∙_, subst}
+use mathlib.Core.Path.{_≡_, refl, sym, ap, _∙_, subst}
 use mathlib.Core.Bool.{Bool, true, false, not}
-use mathlib.Core.Option.{some}
+use mathlib.Core.Option.{Option, none, some}
 use mathlib.Core.Logic.{_≢_}
 use mathlib.Core.List.{List, [], _∷_}
 use Prim.Native.Nat.{ℕ, _+_, _-_, _*_, _^_, _≤_, _<_}
 use native.Mathlib.Omega.{arith}
+use native.Mathlib.Decide.{decLt}
 use lib.Bits.{bitXor, xor-lt}
 use lib.Dec.{eqb}
 use lib.ListN.{length, getD}
@@ -18,7 +19,7 @@ use Rattle.record.specs.Record.{null, clear, Covers, Clear, Holds, Holds
 use Rattle.record.specs.declared.PointerOffset.{PointerOffset}
 use Rattle.record.proofs.BitLaws.{length-xors, of-to, xors-twice, xors-xor}
 use Rattle.record.proofs.SectionLaws.{length-write, read-write, write-at, write-out, found-ext, found-inside}
-use Rattle.record.proofs.SectionLaws.{stored-inside}
+use Rattle.record.proofs.SectionLaws.{stored-inside, stored-past}
 
 -- the record with the value v, under mask m, put at p
 unfoldable pub after : Place → ℕ → ℕ → Record → Record
@@ -82,6 +83,30 @@ module _ (p : Place) (v m : ℕ) (r : Record) (h : Holds p r) where
   -- the masks agree: the value
   pub get-set : v < 2 ^ bitCount p → get p m (after p v m r) ≡ some v
   get-set l = get-coded m ∙ ap some (rw (xors-twice (bitCount p) v m) (of-to (bitCount p) v l))
+
+-- past the section a set has no meaning
+pub put-past : (p : Place) (v m : ℕ) (r : Record) → length (r .bits) < from p + bitCount p → putValue p v m r ≡ none
+unfolding putBits
+put-past p v m r h = rw (stored-past (from p) (coded p v m) (r .bits) (rw (coded-size p v m) h))
+
+-- where a set has a meaning, the section holds its place whole
+pub put-held : (p : Place) (v m : ℕ) (r s : Record) → putValue p v m r ≡ some s → Holds p r
+put-held p v m r s e = go (decLt (length (r .bits)) (from p + bitCount p))
+  where
+    go : Dec (length (r .bits) < from p + bitCount p) → Holds p r
+    go (yes h) =
+        let d : _≡_ {A = Option Record} none (some s) = sym (put-past p v m r h) ∙ e in
+        let z : _≡_ {A = ℕ} 0 1 = cc in
+        absurd (omega arith)
+    go (no h) = omega arith
+
+-- and it leaves as many bits as there were
+pub put-length : (p : Place) (v m : ℕ) (r s : Record) → putValue p v m r ≡ some s → length (s .bits) ≡ length (r .bits)
+put-length p v m r s e =
+    let h = put-held p v m r s e in
+    let d : some (after p v m r) ≡ some s = sym (put-inside p v m r h) ∙ e in
+    let f : s ≡ after p v m r = cc in
+    ap (λ (x : Record). length (x .bits)) f ∙ after-length p v m r h
 
 -- two sections that agree on a place's bits give it the same value, if any
 pub get-ext : (p : Place) (k : ℕ) (r s : Record) → length (s .bits) ≡ length (r .bits)

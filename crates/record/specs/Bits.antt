@@ -32,8 +32,8 @@ xors (a ∷ r) (b ∷ bs) = flip a b ∷ xors r bs
 abbrev pub withBit : ℕ → ℕ → ℕ → ℕ
 withBit b i x = (b / 2 ^ i / 2 * 2 + x) * 2 ^ i + b % 2 ^ i
 
--- The bits of a section of bytes: bit p of the section is bit p modulo 8, lowest first, of byte p / 8 (law `bool-at`), and bytes
--- from an address on are one little-endian number (law `number-at`). Both laws stand in proofs/ByteLaws.
+-- The bits of a section of bytes: bit p of the section is bit p modulo 8, lowest first, of byte p / 8 (`BoolAtHolds`), and bytes
+-- from an address on are one little-endian number (`NumberAtHolds`, both in Bytes).
 abbrev pub sectionBits : List ℕ → List Bool
 sectionBits [] = []
 sectionBits (b ∷ bs) = toBits 8 b ++ sectionBits bs

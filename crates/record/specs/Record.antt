@@ -18,6 +18,11 @@ abbrev pub only {ℓ} : {A : Type ℓ} → Bool → A → Option A
 only true a = some a
 only false a = none
 
+-- whether there is one
+abbrev pub isSome {ℓ} : {A : Type ℓ} → Option A → Bool
+isSome none = false
+isSome (some a) = true
+
 abbrev pub mapO {ℓ} : {A B : Type ℓ} → (A → B) → Option A → Option B
 mapO f none = none
 mapO f (some a) = some (f a)

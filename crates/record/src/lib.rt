@@ -8,7 +8,8 @@ ghost use lib.Seq.{sets};
 ghost use Rattle.record.specs.Bits.{bit, withBit, little, littleBytes, sectionBits, flags};
 ghost use Rattle.record.specs.Offsets.{bytesOf, bitAddress, elementAddress, pointerAddress, boolAt, dataAt};
 ghost use Rattle.record.specs.Record.{getBits, tagIs, nullFlag};
-ghost use Rattle.record.specs.Answers.{getAnswer, testAnswer, Put, Cleared};
+ghost use Rattle.record.specs.Answers.{getValue, testValue, Put, Cleared};
+ghost use Rattle.record.specs.Bytes.{BoolAtHolds, NumberAtHolds, SetBytesHolds, SameBytesHolds};
 
 // An offset of a Bool, in bits.
 pub struct BitOffset(pub u32);
@@ -178,7 +179,7 @@ fn flag(b: bool) -> u64
 
 // The bit there, exclusive or with the mask.
 pub fn get_bool_field_mask(section: &[u8], o: BitOffset, mask: bool) -> Get
-    ensures { λ r. ⌜ r ≡ getAnswer (getBits (boolAt o) (bit mask) (sectionBits (now (section .entry)))) ⌝ }
+    ensures { λ r. ⌜ getValue r ≡ getBits (boolAt o) (bit mask) (sectionBits (now (section .entry))) ⌝ }
 {
     let a = bit_address(o);
     let byte = a.byte;
@@ -191,7 +192,7 @@ pub fn get_bool_field_mask(section: &[u8], o: BitOffset, mask: bool) -> Get
 
 // The bit there.
 pub fn get_bool_field(section: &[u8], o: BitOffset) -> Get
-    ensures { λ r. ⌜ r ≡ getAnswer (getBits (boolAt o) 0 (sectionBits (now (section .entry)))) ⌝ }
+    ensures { λ r. ⌜ getValue r ≡ getBits (boolAt o) 0 (sectionBits (now (section .entry))) ⌝ }
 {
     get_bool_field_mask(section, o, false)
 }
@@ -221,7 +222,7 @@ pub fn set_bool_field(section: &mut [u8], o: BitOffset, value: bool) -> Set
 
 // The bits there as a number, exclusive or with the mask's low bits, as many as the width has.
 pub fn get_data_field_mask(section: &[u8], width: Width, o: ElementOffset, mask: u64) -> Get
-    ensures { λ r. ⌜ r ≡ getAnswer (getBits (dataAt width o) mask (sectionBits (now (section .entry)))) ⌝ }
+    ensures { λ r. ⌜ getValue r ≡ getBits (dataAt width o) mask (sectionBits (now (section .entry))) ⌝ }
 {
     let at = element_address(width, o);
     let n = width.bytes();
@@ -234,7 +235,7 @@ pub fn get_data_field_mask(section: &[u8], width: Width, o: ElementOffset, mask:
 
 // The bits there as a number.
 pub fn get_data_field(section: &[u8], width: Width, o: ElementOffset) -> Get
-    ensures { λ r. ⌜ r ≡ getAnswer (getBits (dataAt width o) 0 (sectionBits (now (section .entry)))) ⌝ }
+    ensures { λ r. ⌜ getValue r ≡ getBits (dataAt width o) 0 (sectionBits (now (section .entry))) ⌝ }
 {
     get_data_field_mask(section, width, o, 0)
 }
@@ -268,7 +269,7 @@ pub fn set_data_field(section: &mut [u8], width: Width, o: ElementOffset, value:
 
 // whether the 16 bits at o are the number of a union's member
 pub fn tag_is(section: &[u8], o: ElementOffset, member: u16) -> Test
-    ensures { λ r. ⌜ r ≡ testAnswer (tagIs o member (sectionBits (now (section .entry)))) ⌝ }
+    ensures { λ r. ⌜ testValue r ≡ tagIs o member (sectionBits (now (section .entry))) ⌝ }
 {
     match get_data_field(section, Width::Two, o) {
         Get::Value(tag) => {
@@ -286,7 +287,7 @@ pub fn tag_is(section: &[u8], o: ElementOffset, member: u16) -> Test
 
 // Whether a pointer is null: its byte is 0.
 pub fn is_pointer_field_null(pointers: &[u8], o: PointerOffset) -> Test
-    ensures { λ r. ⌜ r ≡ testAnswer (nullFlag o (flags (now (pointers .entry)))) ⌝ }
+    ensures { λ r. ⌜ testValue r ≡ nullFlag o (flags (now (pointers .entry))) ⌝ }
 {
     let at = pointer_address(o);
     if at < pointers.len() {
@@ -312,3 +313,8 @@ pub fn clear(pointers: &mut [u8], o: PointerOffset) -> Set
         Set::NoMeaning
     }
 }
+
+// Makes it a promise of this crate which bytes the bits of a record are: a Bool's, a number's, and those that a set changes.
+pub fn claims()
+    ensures { λ r. ⌜ BoolAtHolds × NumberAtHolds × SetBytesHolds × SameBytesHolds ⌝ }
+{}

@@ -11,32 +11,32 @@ ghost use mathlib.Core.Path.{_≡_};
 ghost use lib.ListN.{set};
 ghost use Rattle.record.specs.Bits.{bit, sectionBits, flags};
 ghost use Rattle.record.specs.Record.{tagIs, nullFlag, clearFlag};
-ghost use Rattle.record_exports.specs.Boundary.{getsBool, putBool, elements, pointerAt, asWidth, getOf};
-ghost use Rattle.record_exports.specs.Boundary.{isDone, testSaid, Gave, SetLeft};
-ghost use Rattle.record_exports.specs.Boundary.{putOf, testNumber};
+ghost use Rattle.record.specs.Answers.{setMeans, testValue};
+ghost use Rattle.record_exports.specs.Boundary.{getsBool, putBool, elements, pointerAt, asWidth, measured, getOf, putOf};
+ghost use Rattle.record_exports.specs.Boundary.{Gave, SetLeft, testNumber};
 
-// What a number of bytes is as a width.
-enum Bytes {
-    Are(Width),
+// The width that a number of bytes is, if it is one.
+enum Measure {
+    Is(Width),
     No,
 }
 
-// The width of so many bytes, if there is one.
-fn width_of(width: u32) -> Bytes
-    ensures { λ r. ⌜ r ≡ asWidth width ⌝ }
+// The width of so many bytes.
+fn width_of(width: u32) -> Measure
+    ensures { λ r. ⌜ measured r ≡ asWidth width ⌝ }
 {
     match width {
-        1 => Bytes::Are(Width::One),
-        2 => Bytes::Are(Width::Two),
-        4 => Bytes::Are(Width::Four),
-        8 => Bytes::Are(Width::Eight),
-        _ => Bytes::No,
+        1 => Measure::Is(Width::One),
+        2 => Measure::Is(Width::Two),
+        4 => Measure::Is(Width::Four),
+        8 => Measure::Is(Width::Eight),
+        _ => Measure::No,
     }
 }
 
 // whether a set or a clear has a meaning
 fn done(s: Set) -> bool
-    ensures { λ r. ⌜ r ≡ isDone s ⌝ }
+    ensures { λ r. ⌜ r ≡ setMeans s ⌝ }
 {
     match s {
         Set::Done => true,
@@ -46,7 +46,7 @@ fn done(s: Set) -> bool
 
 // What a test found, as a number.
 fn number(t: Test) -> u8
-    ensures { λ r. ⌜ r ≡ testSaid t ⌝ }
+    ensures { λ r. ⌜ r ≡ testNumber (testValue t) ⌝ }
 {
     match t {
         Test::True => 1,
@@ -120,7 +120,7 @@ pub extern "C" fn kitlubas_get_data_mask(
     ensures { λ r. ⌜ Gave (getOf (asWidth width) (elements offset) mask (sectionBits (now (section .entry))))
         (now (value .entry)) (now (value .exit)) r ⌝ }
 {
-    let Bytes::Are(w) = width_of(width) else {
+    let Measure::Is(w) = width_of(width) else {
         return false;
     };
     match record::get_data_field_mask(section, w, ElementOffset(offset), mask) {
@@ -142,7 +142,7 @@ pub extern "C" fn kitlubas_get_data(
     ensures { λ r. ⌜ Gave (getOf (asWidth width) (elements offset) 0 (sectionBits (now (section .entry))))
         (now (value .entry)) (now (value .exit)) r ⌝ }
 {
-    let Bytes::Are(w) = width_of(width) else {
+    let Measure::Is(w) = width_of(width) else {
         return false;
     };
     match record::get_data_field(section, w, ElementOffset(offset)) {
@@ -165,7 +165,7 @@ pub extern "C" fn kitlubas_set_data_mask(
     ensures { λ r. ⌜ SetLeft (putOf (asWidth width) (elements offset) value mask (sectionBits (now (section .entry))))
         (sectionBits (now (section .entry))) (sectionBits (now (section .exit))) r ⌝ }
 {
-    let Bytes::Are(w) = width_of(width) else {
+    let Measure::Is(w) = width_of(width) else {
         return false;
     };
     done(record::set_data_field_mask(section, w, ElementOffset(offset), value, mask))
@@ -176,7 +176,7 @@ pub extern "C" fn kitlubas_set_data(section: &mut [u8], width: u32, offset: u32,
     ensures { λ r. ⌜ SetLeft (putOf (asWidth width) (elements offset) value 0 (sectionBits (now (section .entry))))
         (sectionBits (now (section .entry))) (sectionBits (now (section .exit))) r ⌝ }
 {
-    let Bytes::Are(w) = width_of(width) else {
+    let Measure::Is(w) = width_of(width) else {
         return false;
     };
     done(record::set_data_field(section, w, ElementOffset(offset), value))

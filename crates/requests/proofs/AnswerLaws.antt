@@ -1,5 +1,6 @@
 -- Laws of the answer: each way in which a request ends. The fill count is within the buffer, but for 21. Assumes nothing.
 use mathlib.Core.Path.{_≡_, refl, ap, _∙_}
+use mathlib.Core.Option.{none, some}
 use Prim.Native.Nat.{ℕ, _+_, _-_, _^_, _≤_, _<_, min}
 use native.Mathlib.Omega.{arith}
 use borrow.Author.Tests.{lt-ltb, le-ltb}
@@ -65,25 +66,26 @@ module _
     pub own-refusal : (k : ℕ) → r .refusal ≡ Number k → Answered l t (outcome o) l (Refused k 0)
     own-refusal k e = go o (rw e at (measured .refusal))
       where
-        go : (o : Out Str) → Number k ≡ refusalOf o → Answered l t (outcome o) l (Refused k 0)
+        go : (o : Out Str) → some k ≡ refusalOf o → Answered l t (outcome o) l (Refused k 0)
         go (ok w) e = never cc
         go (refused j) e = let z : j ≡ k = cc in rw z (refuses-so l t within k 0)
 
     -- n is the text's length, and fill the state's count
-    module _ (n fill : ℕ) (b : length l < 2 ^ 64 - 1) (none : r .refusal ≡ None) (long : n ≡ r .text .at) (f : fill ≡ t .at) where
+    module _ (n fill : ℕ) (b : length l < 2 ^ 64 - 1) (whole : r .refusal ≡ None) (long : n ≡ r .text .at)
+        (f : fill ≡ t .at) where
       pub own-long : length l - fill < n → Answered l t (outcome o) l (Refused 22 0)
-      own-long h = go o (rw none at (measured .refusal)) measured
+      own-long h = go o (rw whole at (measured .refusal)) measured
         where
-          go : (o : Out Str) → None ≡ refusalOf o → Writes o l₀ t₀ l₁ r → Answered l t (outcome o) l (Refused 22 0)
+          go : (o : Out Str) → none ≡ refusalOf o → Writes o l₀ t₀ l₁ r → Answered l t (outcome o) l (Refused 22 0)
           go (ok w) e m = too-long l t within w b (omega (arith, text-end z (text-of m), long, f))
           go (refused j) e m = never cc
 
       -- the text is written from the start of the free part on
       pub own-text : (l₂ : Str) (q : Written) (u : Text) → n ≤ length l - fill → Writes o (lent l fill) t₀ l₂ q
           → u ≡ stateAt (fill + n) → Answered l t (outcome o) (back l fill l₂) (Done u)
-      own-text l₂ q u h written d = go o (rw none at (measured .refusal)) measured (rw f at written)
+      own-text l₂ q u h written d = go o (rw whole at (measured .refusal)) measured (rw f at written)
         where
-          go : (o : Out Str) → None ≡ refusalOf o → Writes o l₀ t₀ l₁ r → Writes o (lent l (t .at)) t₀ l₂ q
+          go : (o : Out Str) → none ≡ refusalOf o → Writes o l₀ t₀ l₁ r → Writes o (lent l (t .at)) t₀ l₂ q
               → Answered l t (outcome o) (back l fill l₂) (Done u)
           go (ok w) e m v =
               let k : n ≡ length w = omega (arith, text-end z (text-of m), long, f) in

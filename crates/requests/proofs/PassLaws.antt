@@ -40,15 +40,15 @@ module _ (o : Out Str) (l l′ : Str) {t₀ : Text} (z : t₀ ≡ stateAt 0) (r 
   pub pass-refused : (k : ℕ) → r .refusal ≡ Number k → Passed o l l′ (pass.Refused k)
   pass-refused k e = go o (rw e at (written .refusal))
     where
-      go : (o : Out Str) → Number k ≡ refusalOf o → Passed o l l′ (pass.Refused k)
+      go : (o : Out Str) → some k ≡ refusalOf o → Passed o l l′ (pass.Refused k)
       go (ok w) e = never cc
       go (refused j) e = let x : j ≡ k = cc in rw x (refused-so l l′ k)
 
-  module _ (n : ℕ) (end : n ≡ r .text .at) (b : length l < 2 ^ 64 - 1) (none : r .refusal ≡ None) where
+  module _ (n : ℕ) (end : n ≡ r .text .at) (b : length l < 2 ^ 64 - 1) (whole : r .refusal ≡ None) where
     pub pass-longer : length l < n → Passed o l l′ (pass.Longer n)
-    pass-longer h = go o (rw none at (written .refusal)) written
+    pass-longer h = go o (rw whole at (written .refusal)) written
       where
-        go : (o : Out Str) → None ≡ refusalOf o → Writes o l t₀ l′ r → Passed o l l′ (pass.Longer n)
+        go : (o : Out Str) → none ≡ refusalOf o → Writes o l t₀ l′ r → Passed o l l′ (pass.Longer n)
         go (ok w) e v =
             let c = text-end z (text-of v) in
             let m : length l < length w = omega (arith, c, end) in
@@ -59,9 +59,9 @@ module _ (o : Out Str) (l l′ : Str) {t₀ : Text} (z : t₀ ≡ stateAt 0) (r 
         go (refused j) e v = never cc
 
     pub pass-whole : n ≤ length l → Passed o l l′ (pass.Whole n)
-    pass-whole h = go o (rw none at (written .refusal)) written
+    pass-whole h = go o (rw whole at (written .refusal)) written
       where
-        go : (o : Out Str) → None ≡ refusalOf o → Writes o l t₀ l′ r → Passed o l l′ (pass.Whole n)
+        go : (o : Out Str) → none ≡ refusalOf o → Writes o l t₀ l′ r → Passed o l l′ (pass.Whole n)
         go (ok w) e v =
             let m : n ≡ length w = omega (arith, text-end z (text-of v), end) in
             record {

@@ -8,16 +8,16 @@ use lib.ListN.{length}
 use Rattle.text.specs.Bytes.{Str}
 use Rattle.text.specs.declared.Text.{Text}
 use Rattle.row.specs.Rows.{rows, restOf}
-use Rattle.row.specs.Line.{lineAt, textAt}
-use Rattle.row.specs.declared.Line.{Line}
-use Rattle.row.specs.declared.Line.the-variants as line
+use Rattle.row.specs.Line as line
+use Rattle.row.specs.Line.{Content, lineAt, textAt}
 use Rattle.tree.specs.Tree.{Node, Sheet}
 use Rattle.tree.specs.Reader.{Rows, Reading, got, no, _then_, On}
 use Rattle.tree.specs.Read.{readNodes, Admitted, sheet, refused, numbered, admitted}
 use Rattle.tree.specs.Read as read
 use Rattle.tree.proofs.OtherLines.{never}
 use Rattle.nodes.specs.Index.{Indexed, sheetOf}
-use Rattle.sheet.specs.Admission.{verdict, IndexOf}
+use Rattle.sheet.specs.Admission.{answerNumbers, refusalIn, IndexOf}
+use Rattle.sheet.proofs.VerdictLaws.{verdict, verdict-is}
 use Rattle.sheet.specs.declared.Answer as verdicts
 use Rattle.sheet.specs.declared.Answer.the-variants as answer
 use Rattle.requests.specs.Requests.{outcomeOf}
@@ -35,7 +35,7 @@ root-read rs = go (lineAt rs) refl
     nodes (got ns us) = refl
     nodes (no k us) = tt
 
-    go : (l : Line) → lineAt rs ≡ l → On (read.readSheet rs) (λ sh. sh .root ≡ textAt rs)
+    go : (l : Content) → lineAt rs ≡ l → On (read.readSheet rs) (λ sh. sh .root ≡ textAt rs)
     go line.Root e = rw e (nodes (readNodes 64 [] [] (restOf rs)))
     go (line.Node i p sc st g tc to) e = rw e tt
     go line.Parameter e = rw e tt
@@ -67,12 +67,12 @@ admitted-root s = by-length (ltb 65536 (length s))
     by-length false = by-reading (read.readSheet (rows s)) (root-read (rows s))
 
 -- the answer r and the index x of the sheet s
-module _ (s : Str) (r : verdicts.Answer) (x : List ℕ) (told : r ≡ verdict (admitted s)) where
+module _ (s : Str) (r : verdicts.Answer) (x : List ℕ) (told : answerNumbers r ≡ refusalIn (admitted s)) where
   -- what holds of every sheet with its index, and of its refusal, holds of what is admitted
   pub of-sheet :
       (P : Admitted → Type 0) → r ≡ answer.Sheet → IndexOf s (admitted s) x
       → ((nodes : List Node) → Indexed s nodes x → P (sheet (sheetOf (textAt (rows s)) nodes))) → P (admitted s)
-  of-sheet P e index h = go (admitted s) (admitted-root s) (rw e at told) index
+  of-sheet P e index h = go (admitted s) (admitted-root s) (rw e at (verdict-is (admitted s) r told)) index
     where
       go : (a : Admitted) → HasRoot (textAt (rows s)) a → answer.Sheet ≡ verdict a → IndexOf s a x → P a
       go (sheet sh) root e d =
@@ -81,7 +81,7 @@ module _ (s : Str) (r : verdicts.Answer) (x : List ℕ) (told : r ≡ verdict (a
       go (refused k line) root e d = never cc
 
   pub of-refusal : (P : Admitted → Type 0) (k line : ℕ) → r ≡ answer.Refused k line → P (refused k line) → P (admitted s)
-  of-refusal P k line e h = go (admitted s) (rw e at told)
+  of-refusal P k line e h = go (admitted s) (rw e at (verdict-is (admitted s) r told))
     where
       go : (a : Admitted) → answer.Refused k line ≡ verdict a → P a
       go (sheet sh) e = never cc

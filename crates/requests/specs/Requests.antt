@@ -25,8 +25,6 @@ use Rattle.nodes.specs.Index.{byId, nth}
 use Rattle.requests.specs.declared.Accessor.{Accessor}
 use Rattle.requests.specs.declared.Accessor.the-variants.{TypeText, Getter, Setter, Haser, Zeroing}
 use Rattle.requests.specs.declared.Request.{Request}
-use Rattle.requests.specs.declared.LeafNumber.{LeafNumber}
-use Rattle.requests.specs.declared.LeafNumber.the-variants as number
 
 -- what may be missing is there, or is 15
 abbrev pub there : {A : Type 0} → Option A → Out A
@@ -41,11 +39,6 @@ leafNumbers =
 -- no other number is a leaf's
 unfoldable pub leafOf : ℕ → Out Leaf
 leafOf k = there (nth k leafNumbers)
-
--- the code's answer for it
-abbrev pub leafSaid : Out Leaf → LeafNumber
-leafSaid (ok leaf) = number.Is leaf
-leafSaid (refused k) = number.Nothing
 
 -- the node with an id and its field at a place, from 0, among its F and G lines
 unfoldable pub fieldAt : List Node → ℕ → ℕ → Out (Node × Field)

@@ -1,10 +1,10 @@
 -- What the entry answers, and what its parts tell of every sheet that has these bytes and this index. Assumes nothing.
 use mathlib.Core.Path.{_≡_}
 use mathlib.Core.List.{List}
-use mathlib.Core.Option.{Option}
-use Prim.Native.Nat.{ℕ, _-_, _^_, _≤_, min}
+use mathlib.Core.Option.{Option, none, some}
+use Prim.Native.Nat.{ℕ, _-_, _^_, _≤_, _<_, min}
 use lib.Dec.{ltb}
-use lib.ListN.{length}
+use lib.ListN.{length, take}
 use Rattle.text.specs.Bytes.{Str, cond}
 use Rattle.row.specs.Rows.{rows}
 use Rattle.row.specs.Line.{textAt}
@@ -38,15 +38,33 @@ pub record Answered (l : Str) (t : Text) (o : Outcome) (l′ : Str) (r : Answer)
   pub answer : inNumbers r ≡ entryAnswer l (t .at) o
   pub buffer : l′ ≡ entryBuffer l (t .at) o
 
+-- over any index: a refusal changes no byte; after a text no byte before the fill count has changed, and the new count is
+-- neither below the old one nor past the end
+abbrev pub AnswerWithin : Str → Text → Str → Answer → Type 0
+AnswerWithin l t l′ (Done u) = (take (t .at) l′ ≡ take (t .at) l) × (t .at ≤ u .at) × (u .at ≤ length l)
+AnswerWithin l t l′ (Refused k line) = l′ ≡ l
+
+-- a pass as document 01's number, 0 where the whole text is there, and the length of the text, if there is one
+abbrev pub passNumbers : Pass → ℕ × Option ℕ
+passNumbers (pass.Whole n) = (0, some n)
+passNumbers (pass.Longer n) = (22, some n)
+passNumbers (pass.Refused k) = (k, none)
+
 -- what one pass over a text says, where there is room for so many bytes. A count stops at the largest usize
-abbrev pub passOf : ℕ → Out Str → Pass
-passOf room (ok w) = cond (ltb room (length w)) (pass.Longer (min (length w) (2 ^ 64 - 1))) (pass.Whole (length w))
-passOf room (refused k) = pass.Refused k
+abbrev pub passOf : ℕ → Out Str → ℕ × Option ℕ
+passOf room (ok w) = cond (ltb room (length w)) (22, some (min (length w) (2 ^ 64 - 1))) (0, some (length w))
+passOf room (refused k) = (k, none)
 
 -- a text that comes to o, written in one pass from the start of l on, leaves l′ and answers r: after a refusal l′ may be any
 pub record Passed (o : Out Str) (l l′ : Str) (r : Pass) : Type 0 where
-  pub says : r ≡ passOf (length l) o
+  pub says : passNumbers r ≡ passOf (length l) o
   pub text : (w : Str) → o ≡ ok w → length w ≤ length l → l′ ≡ text.placed l 0 w
+
+-- over any index: a text that is whole is within the buffer l, and one that is longer is not
+abbrev pub PassWithin : Str → Pass → Type 0
+PassWithin l (pass.Whole n) = n ≤ length l
+PassWithin l (pass.Longer n) = length l < n
+PassWithin l (pass.Refused k) = Unit {0}
 
 -- the node with a number, from 0, and a field, if there is one; 15 where there is no such node or no field
 abbrev pub inNode : List Node → ℕ → Option tree.Field → Out (Node × tree.Field)

@@ -15,14 +15,16 @@ use text::Text;
 ghost use mathlib.Core.Path.{_≡_};
 ghost use mathlib.Core.List.{List};
 ghost use Prim.Native.Nat.{ℕ, _≤_};
-ghost use lib.ListN.{length, take};
+ghost use lib.ListN.{length};
 ghost use Rattle.text.specs.Bytes.{Str};
+ghost use Rattle.text.specs.Text.{WroteSome};
 ghost use Rattle.tree.specs.Read.{admitted};
-ghost use Rattle.nodes.specs.Index.{indexSize};
+ghost use Rattle.nodes.specs.Index.{nth, indexSize};
 ghost use Rattle.field.specs.declared.Field.the-variants as field-is;
-ghost use Rattle.requests.specs.Requests.{leafOf, leafSaid, outcomeOf};
+ghost use Rattle.requests.specs.Requests.{leafNumbers, outcomeOf};
+ghost use Rattle.requests.specs.Enums.{leafSaid};
 ghost use Rattle.requests.specs.Told.{LocatedIn, AccessorWritten, FieldAnswered, PlaceAnswered, RequestAnswered, Answered};
-ghost use Rattle.requests.specs.Told.{FieldPassed, TextPassed};
+ghost use Rattle.requests.specs.Told.{AnswerWithin, FieldPassed, TextPassed, PassWithin};
 ghost use Rattle.requests.specs.declared.Accessor.the-variants.{TypeText, Haser};
 
 // How many numbers are room enough for the index of a sheet of at most 3,072 bytes.
@@ -72,7 +74,7 @@ enum LeafNumber {
 
 // The leaf with a number: 0 to 3 are Reader and Builder, first with 'a, then with '_.
 fn leaf_of(number: u64) -> LeafNumber
-    ensures { λ r. ⌜ r ≡ leafSaid (leafOf number) ⌝ }
+    ensures { λ r. ⌜ leafSaid r ≡ nth number leafNumbers ⌝ }
 {
     match number {
         0 => LeafNumber::Is(Leaf::Reader(Lifetime::A)),
@@ -115,8 +117,9 @@ fn type_text(
     t: Text,
     buf: &mut [u8],
 ) -> Written
-    ensures { λ r. ⌜ ((tag : ℕ) → AccessorWritten (now (s .entry)) (now (index .entry)) (now (root .entry)) tag
+    ensures text { λ r. ⌜ ((tag : ℕ) → AccessorWritten (now (s .entry)) (now (index .entry)) (now (root .entry)) tag
         (field-is.Slot slot) (TypeText leaf) (now (buf .entry)) t (now (buf .exit)) r) ⌝ }
+    ensures some { λ r. ⌜ WroteSome (now (buf .entry)) t (now (buf .exit)) (r .text) ⌝ }
 {
     match leaf_of(leaf) {
         LeafNumber::Is(leaf) => type_string::type_string(root, s, index, slot.typ, leaf, t, buf),
@@ -126,8 +129,9 @@ fn type_text(
 
 // A haser's text: it refuses nothing.
 fn haser(s: &[u8], tag: u64, slot: Slot, is_reader: bool, t: Text, buf: &mut [u8]) -> Written
-    ensures { λ r. ⌜ ((root : Str) (index : List ℕ) → AccessorWritten (now (s .entry)) index root tag (field-is.Slot slot)
+    ensures text { λ r. ⌜ ((root : Str) (index : List ℕ) → AccessorWritten (now (s .entry)) index root tag (field-is.Slot slot)
         (Haser «is_reader») (now (buf .entry)) t (now (buf .exit)) r) ⌝ }
+    ensures some { λ r. ⌜ WroteSome (now (buf .entry)) t (now (buf .exit)) (r .text) ⌝ }
 {
     let name = slot.name(s);
     codegen_types::whole(codegen::haser(name, slot, tag, is_reader, t, buf))
@@ -144,8 +148,9 @@ fn slot_accessor(
     t: Text,
     buf: &mut [u8],
 ) -> Written
-    ensures { λ r. ⌜ AccessorWritten (now (s .entry)) (now (index .entry)) (now (root .entry)) tag (field-is.Slot slot) accessor
-        (now (buf .entry)) t (now (buf .exit)) r ⌝ }
+    ensures text { λ r. ⌜ AccessorWritten (now (s .entry)) (now (index .entry)) (now (root .entry)) tag (field-is.Slot slot)
+        accessor (now (buf .entry)) t (now (buf .exit)) r ⌝ }
+    ensures some { λ r. ⌜ WroteSome (now (buf .entry)) t (now (buf .exit)) (r .text) ⌝ }
 {
     match accessor {
         Accessor::TypeText { leaf } => type_text(root, s, index, slot, leaf, t, buf),
@@ -167,8 +172,9 @@ fn group_accessor(
     t: Text,
     buf: &mut [u8],
 ) -> Written
-    ensures { λ r. ⌜ ((root : Str) (tag : ℕ) → AccessorWritten (now (s .entry)) (now (index .entry)) root tag
+    ensures text { λ r. ⌜ ((root : Str) (tag : ℕ) → AccessorWritten (now (s .entry)) (now (index .entry)) root tag
         (field-is.Group group) accessor (now (buf .entry)) t (now (buf .exit)) r) ⌝ }
+    ensures some { λ r. ⌜ WroteSome (now (buf .entry)) t (now (buf .exit)) (r .text) ⌝ }
 {
     match accessor {
         Accessor::TypeText { leaf: _ } => codegen_types::refused(t, refusals::NOT_THERE),
@@ -198,8 +204,9 @@ pub fn write_accessor(
     t: Text,
     buf: &mut [u8],
 ) -> Written
-    ensures { λ r. ⌜ AccessorWritten (now (s .entry)) (now (index .entry)) (now (root .entry)) tag field accessor
+    ensures text { λ r. ⌜ AccessorWritten (now (s .entry)) (now (index .entry)) (now (root .entry)) tag field accessor
         (now (buf .entry)) t (now (buf .exit)) r ⌝ }
+    ensures some { λ r. ⌜ WroteSome (now (buf .entry)) t (now (buf .exit)) (r .text) ⌝ }
 {
     match field {
         Field::Slot(slot) => slot_accessor(root, s, index, tag, slot, accessor, t, buf),
@@ -222,7 +229,7 @@ fn answer_found(
     requires { ⌜ t .at ≤ length (now buf) ⌝ }
     ensures indexed { λ r. ⌜ FieldAnswered (now (s .entry)) (now (index .entry)) tag field accessor
         (now (buf .entry)) t (now (buf .exit)) r ⌝ }
-    ensures before { λ r. ⌜ take (t .at) (now (buf .exit)) ≡ take (t .at) (now (buf .entry)) ⌝ }
+    ensures within { λ r. ⌜ AnswerWithin (now (buf .entry)) t (now (buf .exit)) r ⌝ }
 {
     let root = row::text(s, 0);
     let start = Text::at(0);
@@ -267,7 +274,7 @@ fn answer_field(
     requires { ⌜ t .at ≤ length (now buf) ⌝ }
     ensures indexed { λ r. ⌜ PlaceAnswered (now (s .entry)) (now (index .entry)) id place accessor
         (now (buf .entry)) t (now (buf .exit)) r ⌝ }
-    ensures before { λ r. ⌜ take (t .at) (now (buf .exit)) ≡ take (t .at) (now (buf .entry)) ⌝ }
+    ensures within { λ r. ⌜ AnswerWithin (now (buf .entry)) t (now (buf .exit)) r ⌝ }
 {
     let located = locate(s, index, id, place);
     let field = located.field;
@@ -281,7 +288,7 @@ fn answer_field(
 }
 
 // The answer to a request of the node with an id, in the sheet with this index: 21 before anything is looked at. Over any bytes
-// and any index no byte before the fill count changes.
+// and any index a refusal changes no byte, and a text none before the fill count, which does not fall.
 pub fn answer_in(
     s: &[u8],
     index: &[u64],
@@ -292,7 +299,7 @@ pub fn answer_in(
 ) -> Answer
     ensures indexed { λ r. ⌜ RequestAnswered (now (s .entry)) (now (index .entry)) id request
         (now (buf .entry)) t (now (buf .exit)) r ⌝ }
-    ensures before { λ r. ⌜ take (t .at) (now (buf .exit)) ≡ take (t .at) (now (buf .entry)) ⌝ }
+    ensures within { λ r. ⌜ AnswerWithin (now (buf .entry)) t (now (buf .exit)) r ⌝ }
 {
     if buf.len() < t.fill() {
         return Answer::Refused {
@@ -372,8 +379,9 @@ fn pass_field(
     accessor: Accessor,
     buf: &mut [u8],
 ) -> Pass
-    ensures { λ r. ⌜ FieldPassed (now (s .entry)) (now (index .entry)) tag field accessor
+    ensures passed { λ r. ⌜ FieldPassed (now (s .entry)) (now (index .entry)) tag field accessor
         (now (buf .entry)) (now (buf .exit)) r ⌝ }
+    ensures within { λ r. ⌜ PassWithin (now (buf .entry)) r ⌝ }
 {
     let root = row::text(s, 0);
     let written = write_accessor(root, s, index, tag, field, accessor, Text::at(0), buf);
@@ -399,8 +407,9 @@ pub fn text(
     accessor: Accessor,
     buf: &mut [u8],
 ) -> Pass
-    ensures { λ r. ⌜ TextPassed (now (s .entry)) (now (index .entry)) node field accessor
+    ensures passed { λ r. ⌜ TextPassed (now (s .entry)) (now (index .entry)) node field accessor
         (now (buf .entry)) (now (buf .exit)) r ⌝ }
+    ensures within { λ r. ⌜ PassWithin (now (buf .entry)) r ⌝ }
 {
     if 64 <= node {
         return Pass::Refused(refusals::NOT_THERE);

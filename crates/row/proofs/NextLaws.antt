@@ -17,9 +17,9 @@ use Rattle.column.specs.Texts.{endsIn, isName, isGraphicText}
 use Rattle.row.specs.Rows.{rowLen, rows, restOf}
 use Rattle.row.specs.Line.{rootLine, nodeLine, parameterLine, fieldLine, groupLine}
 use Rattle.row.specs.Line.{typeLine, scopeLine, unboundLine, valueLine, wordLine}
-use Rattle.row.specs.Line.{reader, badLine, lineOf, lineAt, textOf}
+use Rattle.row.specs.Line.{Content, Bad, lineSaid, reader, badLine, lineOf, lineAt, textOf}
 use Rattle.row.specs.declared.Line.{Line}
-use Rattle.row.specs.declared.Line.the-variants.{Root, Node, Parameter, Field, Group, Typ, Scope, Unbound, Value, Word, Bad}
+use Rattle.row.specs.declared.Line.the-variants as line
 use Rattle.row.proofs.Line.{the-type}
 use Rattle.row.proofs.Laws.{row-bounds, rows-at, line-row}
 use Rattle.row.proofs.ColumnLaws.{given-bad}
@@ -89,20 +89,21 @@ module _ (t : Str) where
 -- ---- where a line that says something ends, its row ends
 
 -- a line that is not bad, by its tag
-pub good-line : (l : Line) → OneOf (0 ∷ 1 ∷ 2 ∷ 3 ∷ 4 ∷ 5 ∷ 6 ∷ 7 ∷ 8 ∷ 9 ∷ []) (tagOf the-type l) → Good l
-good-line Root h = tt
-good-line (Node i p s x g c o) h = tt
-good-line Parameter h = tt
-good-line (Field o d e p) h = tt
-good-line (Group i d) h = tt
-good-line (Typ k a b c) h = tt
-good-line (Scope i b n) h = tt
-good-line Unbound h = tt
-good-line (Value k b) h = tt
-good-line (Word v) h = tt
-good-line Bad h = miss (0 ∷ 1 ∷ 2 ∷ 3 ∷ 4 ∷ 5 ∷ 6 ∷ 7 ∷ 8 ∷ 9 ∷ []) 10 tt h
+pub good-line : (l : Line) → OneOf (0 ∷ 1 ∷ 2 ∷ 3 ∷ 4 ∷ 5 ∷ 6 ∷ 7 ∷ 8 ∷ 9 ∷ []) (tagOf the-type l) → Good (lineSaid l)
+unfolding lineSaid
+good-line line.Root h = tt
+good-line (line.Node i p s x g c o) h = tt
+good-line line.Parameter h = tt
+good-line (line.Field o d e p) h = tt
+good-line (line.Group i d) h = tt
+good-line (line.Typ k a b c) h = tt
+good-line (line.Scope i b n) h = tt
+good-line line.Unbound h = tt
+good-line (line.Value k b) h = tt
+good-line (line.Word v) h = tt
+good-line line.Bad h = miss (0 ∷ 1 ∷ 2 ∷ 3 ∷ 4 ∷ 5 ∷ 6 ∷ 7 ∷ 8 ∷ 9 ∷ []) 10 tt h
 
-module _ (s : Str) (at e : ℕ) (lo : at < e) (l : Line) (is : l ≡ lineOf (take (e - at) (drop at s))) (good : Good l) where
+module _ (s : Str) (at e : ℕ) (lo : at < e) (l : Content) (is : l ≡ lineOf (take (e - at) (drop at s))) (good : Good l) where
   r : Str
   r = take (e - at) (drop at s)
 

@@ -3,6 +3,7 @@
 use mathlib.Core.Path.{_≡_, refl, sym, ap, _∙_}
 use mathlib.Core.Bool.{Bool, true, false}
 use mathlib.Core.List.{List, [], _∷_, _++_, append-assoc, map}
+use mathlib.Core.Option.{some}
 use Prim.Native.Nat.{ℕ, zero, suc, _+_, _-_, _*_, _/_, _%_, _^_, _≤_, _<_}
 use native.Mathlib.Numerals.{add-one}
 use native.Mathlib.Omega.{arith}
@@ -15,7 +16,6 @@ use Rattle.text.specs.Decimal.{decimal}
 use Rattle.text.proofs.DecimalLaws.{decimal-low, decimal-high}
 use Rattle.column.specs.Number.{most, padded, columnOf}
 use Rattle.column.specs.Texts.{endsIn, isWord, isGraphic, all, isName, isGraphicText}
-use Rattle.column.specs.declared.Number.the-variants.{Is}
 use Rattle.column.proofs.Laws.{name-all, graphic-all}
 use Rattle.column.proofs.PaddedLaws.{padded-length, column-printed, ends-printed}
 use Rattle.row.specs.Rows.{newlines, rows}
@@ -23,8 +23,7 @@ use Rattle.row.specs.Line.{rootLine, nodeLine, parameterLine, fieldLine,
 use Rattle.row.specs.Line.{typeLine, scopeLine, unboundLine, valueLine, wordLine}
 use Rattle.row.specs.Line.{mostA, mostB, mostC, mostCount, mostBits, widths, reader, lineOf, textStart, textOf}
 use Rattle.row.specs.Print.{columns, rowText, spaced, printLine, Fits}
-use Rattle.row.specs.declared.Line.{Line}
-use Rattle.row.specs.declared.Line.the-variants.{Root, Node, Parameter, Field, Group, Typ, Scope, Unbound, Value, Word, Bad}
+use Rattle.row.specs.Line.{Content, Root, Node, Parameter, Field, Group, Typ, Scope, Unbound, Value, Word, Bad}
 use Rattle.row.proofs.Laws.{newlines-append, rows-line}
 
 -- numbers that fit their columns
@@ -80,7 +79,7 @@ drop-columns (suc k) (n ∷ ns) end f l =
 module _ (letter : ℕ) (ns : List ℕ) (end : Str) (fits : Narrow ns) where
   column-read :
       (k least most : ℕ) → k < length ns → least ≤ getD ns k 0 → getD ns k 0 ≤ most
-      → columnOf (letter ∷ columns ns end) (suc (k * 21)) least most ≡ Is (getD ns k 0)
+      → columnOf (letter ∷ columns ns end) (suc (k * 21)) least most ≡ some (getD ns k 0)
   unfolding columns
   column-read k least most l lo hi =
       column-printed _ (columns (drop (suc k) ns) end) (suc (k * 21)) least most (getD ns k 0)
@@ -114,19 +113,19 @@ cond-le : (p : Bool) (x y m : ℕ) → x ≤ m → y ≤ m → cond p x y ≤ m
 cond-le true x y m h g = h
 cond-le false x y m h g = g
 
-mostA-fits : (k : ℕ) → mostA k ≤ most 64
+pub mostA-fits : (k : ℕ) → mostA k ≤ most 64
 unfolding mostA
 mostA-fits k = cond-le (ltb k 15) _ _ _ (omega arith) (cond-le (ltb k 18) _ _ _ (omega arith) (omega arith))
 
-mostCount-fits : (b : ℕ) → mostCount b ≤ most 64
+pub mostCount-fits : (b : ℕ) → mostCount b ≤ most 64
 unfolding mostCount
 mostCount-fits b = cond-le (eqb b 0) _ _ _ (omega arith) (omega arith)
 
-mostB-fits : (k a : ℕ) → mostB k a ≤ most 64
+pub mostB-fits : (k a : ℕ) → mostB k a ≤ most 64
 unfolding mostB mostCount
 mostB-fits k a = cond-le (ltb k 15) _ _ _ (omega arith) (cond-le (ltb k 18) _ _ _ (omega arith) (mostCount-fits a))
 
-mostC-fits : (k a : ℕ) → mostC k a ≤ most 64
+pub mostC-fits : (k a : ℕ) → mostC k a ≤ most 64
 unfolding mostC
 mostC-fits k a = cond-le (ltb k 18) _ _ _ (omega arith) (cond-le (eqb a 0) _ _ _ (omega arith) (omega arith))
 
@@ -146,7 +145,7 @@ below-all m (x ∷ xs) e k = go (below-all m xs) (leb x m) refl e k
     go f true h e (suc k) = f e k
     go f false h e k = let z : _≡_ {A = ℕ} 0 1 = cc in let y : ⊥ = omega arith in absurd y
 
-mostBits-fits : (k : ℕ) → mostBits k ≤ most 64
+pub mostBits-fits : (k : ℕ) → mostBits k ≤ most 64
 unfolding mostBits every
 mostBits-fits k = rw (← List·getD-map most widths k 0) (below-all (most 64) (map most widths) refl k)
 
@@ -293,7 +292,7 @@ word-read v text f =
     )
 
 -- a line printed within its bounds is read as that line
-pub read-printed : (l : Line) (text : Str) → Fits l text → lineOf (printLine l text) ≡ l
+pub read-printed : (l : Content) (text : Str) → Fits l text → lineOf (printLine l text) ≡ l
 read-printed Root text f = root-read text f
 read-printed (Node i p s x g c o) text f = node-read i p s x g c o text f
 read-printed Parameter text f = parameter-read text f
@@ -322,7 +321,7 @@ text-after letter ns text w e =
 text-no : (letter : ℕ) (ns : List ℕ) → textStart letter ≡ 0 → textOf (rowText letter ns []) ≡ []
 text-no letter ns e = rw (row-is letter ns []) (text-read (letter ∷ columns ns []) ∙ rw e)
 
-pub text-printed : (l : Line) (text : Str) → Fits l text → textOf (printLine l text) ≡ text
+pub text-printed : (l : Content) (text : Str) → Fits l text → textOf (printLine l text) ≡ text
 unfolding textStart
 text-printed Root text f = text-after 82 [] text tt refl
 text-printed (Node i p s x g c o) text f =
@@ -401,7 +400,7 @@ first-row letter ns end rest l h =
     (rows-line (letter ∷ columns ns end) rest (newline-no letter (columns ns end) l ∙ columns-newlines ns end h))
 
 -- a line printed in front of others is their first row
-pub rows-printed : (l : Line) (text rest : Str) → Fits l text → rows (printLine l text ++ rest) ≡ printLine l text ∷ rows rest
+pub rows-printed : (l : Content) (text rest : Str) → Fits l text → rows (printLine l text ++ rest) ≡ printLine l text ∷ rows rest
 unfolding newlines
 rows-printed Root text rest f = first-row 82 [] _ rest (omega arith) (graphic-newlines 64 text f)
 rows-printed (Node i p s x g c o) text rest f = first-row 78 _ _ rest (omega arith) (graphic-newlines 128 text (f .7))

@@ -17,13 +17,12 @@ use Rattle.row.specs.Line.{rootLine, nodeLine, parameterLine, fieldLine,
 use Rattle.row.specs.Line.{typeLine, scopeLine, unboundLine, valueLine, wordLine}
 use Rattle.row.specs.Line.{given, reader, badLine, lineOf, textStart, textOf}
 use Rattle.row.specs.Print.{columns, rowText, printLine, Fits}
-use Rattle.row.specs.declared.Line.{Line}
-use Rattle.row.specs.declared.Line.the-variants.{Root, Node, Parameter, Field, Group, Typ, Scope, Unbound, Value, Word, Bad}
+use Rattle.row.specs.Line.{Content, Root, Node, Parameter, Field, Group, Typ, Scope, Unbound, Value, Word, Bad}
 use Rattle.row.proofs.ColumnLaws.{by-number}
 use Rattle.row.proofs.PrintLaws.{row-is, line-read, text-read}
 
 -- any line but the bad one
-abbrev pub Good : Line → Type 0
+abbrev pub Good : Content → Type 0
 Good Root = Unit
 Good (Node i p s x g c o) = Unit
 Good Parameter = Unit
@@ -37,11 +36,11 @@ Good (Word v) = Unit
 Good Bad = ⊥
 
 -- row r is line l printed with its text, in the line's bounds
-pub record Printed (r : Str) (l : Line) : Type 0 where
+pub record Printed (r : Str) (l : Content) : Type 0 where
   pub fits : Fits l (textOf r)
   pub whole : r ≡ printLine l (textOf r)
 
-abbrev Told : Str → Line → Type 0
+abbrev Told : Str → Content → Type 0
 Told r l = Good l → Printed r l
 
 told-bad : (r : Str) → Told r Bad
@@ -50,11 +49,11 @@ told-bad r h = absurd h
 -- a line that goes on with a number, and one that goes on where a test holds
 module _ (r : Str) where
   on-column :
-      (t : Str) (a least most : ℕ) (f : ℕ → Line) → ((v : ℕ) → Stands t a least most v → Told r (f v))
+      (t : Str) (a least most : ℕ) (f : ℕ → Content) → ((v : ℕ) → Stands t a least most v → Told r (f v))
       → Told r (given (columnOf t a least most) f)
   on-column t a least most f g = by-number (Told r) _ f (told-bad r) λ v e. g v (column-stands t a least most v e)
 
-  on-test : (b : Bool) (l : Line) → (b ≡ true → Told r l) → Told r (cond b l Bad)
+  on-test : (b : Bool) (l : Content) → (b ≡ true → Told r l) → Told r (cond b l Bad)
   on-test true l g = g refl
   on-test false l g = told-bad r
 
@@ -79,7 +78,7 @@ no-end {t} {a} e = let l : length t ≤ a = omega arith in record { is = drop-of
 
 -- a row of a letter, its numbers and its end, with its text
 printed-as :
-    (letter : ℕ) (u : Str) (ns : List ℕ) (end text : Str) (l : Line) → Rest (letter ∷ u) 1 ns end
+    (letter : ℕ) (u : Str) (ns : List ℕ) (end text : Str) (l : Content) → Rest (letter ∷ u) 1 ns end
     → textOf ((letter ∷ u) ++ unit 10) ≡ text
     → Fits l text → rowText letter ns end ≡ printLine l text → Printed ((letter ∷ u) ++ unit 10) l
 printed-as letter u ns end text l c e f g = record {
@@ -217,7 +216,7 @@ word-told u =
 
 -- the reader of a letter: that letter's, or another's
 by-letter :
-    (b x : ℕ) (u : Str) (f g : Str → Line) → ((v : Str) → Told ((x ∷ v) ++ unit 10) (f (x ∷ v)))
+    (b x : ℕ) (u : Str) (f g : Str → Content) → ((v : Str) → Told ((x ∷ v) ++ unit 10) (f (x ∷ v)))
     → Told ((b ∷ u) ++ unit 10) (g (b ∷ u))
     → Told ((b ∷ u) ++ unit 10) (cond (eqb b x) f g (b ∷ u))
 by-letter b x u f g h k = go (eqb b x) refl
@@ -273,5 +272,5 @@ row-told r = go (eqb (getD r (length r - 1) 0) 10) refl
     go false e = rw (line-open r e) (told-bad r)
 
 -- a row that says a line is that line printed: `printed-line r (Field o d e p) tt e` for e : lineOf r ≡ Field o d e p
-pub printed-line : (r : Str) (l : Line) → Good l → lineOf r ≡ l → Printed r l
+pub printed-line : (r : Str) (l : Content) → Good l → lineOf r ≡ l → Printed r l
 printed-line r l g e = let t : Told r l = rw (← e) (row-told r) in t g

@@ -11,7 +11,7 @@ use Rattle.text.specs.Bytes.{Str, unit}
 use Rattle.column.proofs.Laws.{Four}
 use Rattle.row.specs.Rows.{onto, rows, joined, restOf, unboundRows}
 use Rattle.row.specs.Line.{unboundLine, reader, lineOf, lineAt}
-use Rattle.row.specs.declared.Line.the-variants.{Unbound}
+use Rattle.row.specs.Line.{Unbound}
 
 -- a U row says so
 pub line-unbound : lineOf (85 ∷ 10 ∷ []) ≡ Unbound

@@ -13,8 +13,7 @@ use Rattle.row.specs.Line.{rootLine, nodeLine, parameterLine, fieldLine,
 use Rattle.row.specs.Line.{typeLine, scopeLine, unboundLine, valueLine, wordLine}
 use Rattle.row.specs.Line.{mostA, mostB, mostC, mostCount, mostBits, reader, lineOf, textStart, textOf}
 use Rattle.row.specs.Print.{columns, rowText, printLine}
-use Rattle.row.specs.declared.Line.{Line}
-use Rattle.row.specs.declared.Line.the-variants.{Root, Node, Parameter, Field, Group, Typ, Scope, Unbound, Value, Word, Bad}
+use Rattle.row.specs.Line.{Content, Root, Node, Parameter, Field, Group, Typ, Scope, Unbound, Value, Word, Bad}
 
 -- texts, each right-justified in 21 columns
 justified : List S.String → Str
@@ -28,9 +27,9 @@ row letter numbers end = ascii letter ++ justified numbers ++ ascii end ++ unit 
 -- a row, and what it says
 record Case : Type 0 where
   bytes : Str
-  says : Line
+  says : Content
 
-_says_ : Str → Line → Case
+_says_ : Str → Content → Case
 r says l = record { bytes = r; says = l }
 
 infix 70 _says_
@@ -122,10 +121,10 @@ texts =
     ∷ row "u" [] "" says Bad
     ∷ []
 
-readAll : List Case → List Line
+readAll : List Case → List Content
 readAll cs = map (λ c. lineOf (c .bytes)) cs
 
-expected : List Case → List Line
+expected : List Case → List Content
 expected cs = map (λ c. c .says) cs
 
 all-cases : readAll (numbers ++ kinds ++ texts) ≡ expected (numbers ++ kinds ++ texts)
@@ -135,7 +134,7 @@ unfolding justified row _says_ sixty node numbers kinds texts readAll expected t
 all-cases = refl
 
 -- document 01's example: the rows of the sheet, what each says, its text; and the same printed
-lines : List Line
+lines : List Content
 lines = Root ∷ Node 7 0 0 1 0 0 0 ∷ Field 3 65535 1 0 ∷ Typ 1 0 0 0 ∷ Value 1 1 ∷ []
 
 names : List Str
@@ -149,7 +148,7 @@ sheet =
     ++ row "T" ("1" ∷ "0" ∷ "0" ∷ "0" ∷ []) ""
     ++ row "V" ("1" ∷ "1" ∷ []) ""
 
-printedAll : List Line → List Str → Str
+printedAll : List Content → List Str → Str
 printedAll [] ts = []
 printedAll (l ∷ ls) [] = []
 printedAll (l ∷ ls) (t ∷ ts) = printLine l t ++ printedAll ls ts

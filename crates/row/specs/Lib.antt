@@ -1,4 +1,5 @@
 pub mod Rows
 pub mod Line
+pub mod Span
 pub mod Print
 pub mod Examples

@@ -1,7 +1,8 @@
 -- What a row says: a letter, its numbers in 21 columns each, one space and a text where one belongs, then byte 10.
 -- Assumes nothing.
 use mathlib.Core.List.{List, [], _∷_}
-use Prim.Native.Nat.{ℕ, _-_, _≤_}
+use mathlib.Core.Option.{Option, none, some}
+use Prim.Native.Nat.{ℕ, _-_}
 use Prim.Native.Char.{code}
 use Prim.Native.String as S
 use lib.Dec.{eqb, ltb}
@@ -9,11 +10,37 @@ use lib.ListN.{length, getD, take, drop}
 use Rattle.text.specs.Bytes.{Str, cond}
 use Rattle.column.specs.Number.{columnOf, most}
 use Rattle.column.specs.Texts.{endsIn, isName, isGraphicText}
-use Rattle.column.specs.declared.Number.{Number}
-use Rattle.column.specs.declared.Number.the-variants.{Is, Not}
 use Rattle.row.specs.declared.Line.{Line}
-use Rattle.row.specs.declared.Span.{Span}
-use Rattle.row.specs.declared.Line.the-variants.{Root, Node, Parameter, Field, Group, Typ, Scope, Unbound, Value, Word, Bad}
+use Rattle.row.specs.declared.Line.the-variants as line
+
+-- what a row says: the numbers of each letter's line; where no such line stands, or nothing, it is bad
+pub data Content : Type 0 where
+  Root : Content
+  Node : ℕ → ℕ → ℕ → ℕ → ℕ → ℕ → ℕ → Content
+  Parameter : Content
+  Field : ℕ → ℕ → ℕ → ℕ → Content
+  Group : ℕ → ℕ → Content
+  Typ : ℕ → ℕ → ℕ → ℕ → Content
+  Scope : ℕ → ℕ → ℕ → Content
+  Unbound : Content
+  Value : ℕ → ℕ → Content
+  Word : ℕ → Content
+  Bad : Content
+
+-- what an answer of the code gives
+unfoldable pub lineSaid : Line → Content
+lineSaid line.Root = Root
+lineSaid (line.Node id parent scope isStruct generic tagCount tagOffset) =
+    Node id parent scope isStruct generic tagCount tagOffset
+lineSaid line.Parameter = Parameter
+lineSaid (line.Field offset discriminant explicit option) = Field offset discriminant explicit option
+lineSaid (line.Group id discriminant) = Group id discriminant
+lineSaid (line.Typ kind a b c) = Typ kind a b c
+lineSaid (line.Scope id bind count) = Scope id bind count
+lineSaid line.Unbound = Unbound
+lineSaid (line.Value kind bits) = Value kind bits
+lineSaid (line.Word value) = Word value
+lineSaid line.Bad = Bad
 
 -- the byte of a letter
 abbrev pub byte : S.String → ℕ
@@ -21,16 +48,16 @@ byte S.[] = 0
 byte (S._∷_ c s) = code c
 
 -- the line goes on with the number, or is bad
-abbrev pub given : Number → (ℕ → Line) → Line
-given (Is v) f = f v
-given Not f = Bad
+abbrev pub given : Option ℕ → (ℕ → Content) → Content
+given (some v) f = f v
+given none f = Bad
 
 -- R: the root, 1 to 64 bytes 33 to 126
-unfoldable pub rootLine : Str → Line
+unfoldable pub rootLine : Str → Content
 rootLine t = cond (endsIn (isGraphicText 64) t 1) Root Bad
 
 -- N: id (1 or more), parent, scope id, struct, generic, tag count, tag offset; the module, 1 to 128 bytes 33 to 126
-unfoldable pub nodeLine : Str → Line
+unfoldable pub nodeLine : Str → Content
 nodeLine t =
     given (columnOf t 1 1 (most 64)) λ id.
     given (columnOf t 22 0 (most 64)) λ parent.
@@ -42,11 +69,11 @@ nodeLine t =
     cond (endsIn (isGraphicText 128) t 148) (Node id parent scope isStruct generic tagCount tagOffset) Bad
 
 -- P: the parameter's name
-unfoldable pub parameterLine : Str → Line
+unfoldable pub parameterLine : Str → Content
 parameterLine t = cond (endsIn isName t 1) Parameter Bad
 
 -- F: offset, discriminant value, explicit, option; the field's name
-unfoldable pub fieldLine : Str → Line
+unfoldable pub fieldLine : Str → Content
 fieldLine t =
     given (columnOf t 1 0 (most 32)) λ offset.
     given (columnOf t 22 0 (most 16)) λ discriminant.
@@ -55,7 +82,7 @@ fieldLine t =
     cond (endsIn isName t 85) (Field offset discriminant explicit option) Bad
 
 -- G: group id (1 or more), discriminant value; the field's name
-unfoldable pub groupLine : Str → Line
+unfoldable pub groupLine : Str → Content
 groupLine t =
     given (columnOf t 1 1 (most 64)) λ id.
     given (columnOf t 22 0 (most 16)) λ discriminant.
@@ -74,7 +101,7 @@ unfoldable pub mostC : ℕ → ℕ → ℕ
 mostC kind a = cond (ltb kind 18) 0 (cond (eqb a 0) 0 (most 16))
 
 -- T: kind, a, b, c
-unfoldable pub typeLine : Str → Line
+unfoldable pub typeLine : Str → Content
 typeLine t =
     given (columnOf t 1 0 18) λ kind.
     given (columnOf t 22 0 (mostA kind)) λ a.
@@ -87,7 +114,7 @@ unfoldable pub mostCount : ℕ → ℕ
 mostCount bind = cond (eqb bind 0) 0 (most 64)
 
 -- S: scope id, 0 inherit or 1 bind, bindings
-unfoldable pub scopeLine : Str → Line
+unfoldable pub scopeLine : Str → Content
 scopeLine t =
     given (columnOf t 1 0 (most 64)) λ id.
     given (columnOf t 22 0 1) λ bind.
@@ -95,7 +122,7 @@ scopeLine t =
     cond (eqb (length t) 64) (Scope id bind count) Bad
 
 -- U
-unfoldable pub unboundLine : Str → Line
+unfoldable pub unboundLine : Str → Content
 unboundLine t = cond (eqb (length t) 1) Unbound Bad
 
 -- the widths, in bits, of the values of kinds 0 to 18: Void, Bool, Int8 to Int64, Uint8 to Uint64, Float32, Float64,
@@ -108,21 +135,21 @@ unfoldable pub mostBits : ℕ → ℕ
 mostBits kind = most (getD widths kind 0)
 
 -- V: kind, bits
-unfoldable pub valueLine : Str → Line
+unfoldable pub valueLine : Str → Content
 valueLine t =
     given (columnOf t 1 0 18) λ kind.
     given (columnOf t 22 0 (mostBits kind)) λ bits.
     cond (eqb (length t) 43) (Value kind bits) Bad
 
 -- W: eight bytes as a little-endian value
-unfoldable pub wordLine : Str → Line
+unfoldable pub wordLine : Str → Content
 wordLine t = given (columnOf t 1 0 (most 64)) λ value. cond (eqb (length t) 22) (Word value) Bad
 
-abbrev pub badLine : Str → Line
+abbrev pub badLine : Str → Content
 badLine t = Bad
 
 -- the reader of the lines with a letter
-unfoldable pub reader : ℕ → Str → Line
+unfoldable pub reader : ℕ → Str → Content
 reader letter =
     cond (eqb letter (byte "R")) rootLine
     (cond (eqb letter (byte "N")) nodeLine
@@ -140,11 +167,11 @@ abbrev pub front : Str → Str
 front r = take (length r - 1) r
 
 -- what a row says: the line in front of its byte 10, read by its letter
-unfoldable pub lineOf : Str → Line
+unfoldable pub lineOf : Str → Content
 lineOf r = cond (eqb (getD r (length r - 1) 0) 10) (reader (getD r 0 0)) badLine (front r)
 
 -- what the first row says; where there is none, the line is bad
-unfoldable pub lineAt : List Str → Line
+unfoldable pub lineAt : List Str → Content
 lineAt [] = Bad
 lineAt (r ∷ rs) = lineOf r
 
@@ -166,18 +193,11 @@ unfoldable pub textAt : List Str → Str
 textAt [] = []
 textAt (r ∷ rs) = textOf r
 
--- a span lies within s, and the bytes that it spans
-abbrev pub SpanWithin : Str → Span → Type 0
-SpanWithin s p = (p .start ≤ p .end) × (p .end ≤ length s)
-
-abbrev pub spanned : Str → Span → Str
-spanned s p = take (p .end - p .start) (drop (p .start) s)
-
 -- by what a line says
 abbrev pub cases :
     {A : Type 0}
     → A → (ℕ → ℕ → ℕ → ℕ → ℕ → ℕ → ℕ → A) → A → (ℕ → ℕ → ℕ → ℕ → A) → (ℕ → ℕ → A)
-    → (ℕ → ℕ → ℕ → ℕ → A) → (ℕ → ℕ → ℕ → A) → A → (ℕ → ℕ → A) → (ℕ → A) → A → Line → A
+    → (ℕ → ℕ → ℕ → ℕ → A) → (ℕ → ℕ → ℕ → A) → A → (ℕ → ℕ → A) → (ℕ → A) → A → Content → A
 cases r n p f g t s u v w z Root = r
 cases r n p f g t s u v w z (Node i q k x y c o) = n i q k x y c o
 cases r n p f g t s u v w z Parameter = p
@@ -191,32 +211,32 @@ cases r n p f g t s u v w z (Word x) = w x
 cases r n p f g t s u v w z Bad = z
 
 -- each letter alone: y for its lines, z for all others
-abbrev pub asRoot : {A : Type 0} → Line → A → A → A
+abbrev pub asRoot : {A : Type 0} → Content → A → A → A
 asRoot l y z = cases y (λ _ _ _ _ _ _ _. z) z (λ _ _ _ _. z) (λ _ _. z) (λ _ _ _ _. z) (λ _ _ _. z) z (λ _ _. z) (λ _. z) z l
 
-abbrev pub asNode : {A : Type 0} → Line → (ℕ → ℕ → ℕ → ℕ → ℕ → ℕ → ℕ → A) → A → A
+abbrev pub asNode : {A : Type 0} → Content → (ℕ → ℕ → ℕ → ℕ → ℕ → ℕ → ℕ → A) → A → A
 asNode l y z = cases z y z (λ _ _ _ _. z) (λ _ _. z) (λ _ _ _ _. z) (λ _ _ _. z) z (λ _ _. z) (λ _. z) z l
 
-abbrev pub asParameter : {A : Type 0} → Line → A → A → A
+abbrev pub asParameter : {A : Type 0} → Content → A → A → A
 asParameter l y z = cases z (λ _ _ _ _ _ _ _. z) y (λ _ _ _ _. z) (λ _ _. z) (λ _ _ _ _. z) (λ _ _ _. z) z (λ _ _. z) (λ _. z) z l
 
-abbrev pub asField : {A : Type 0} → Line → (ℕ → ℕ → ℕ → ℕ → A) → A → A
+abbrev pub asField : {A : Type 0} → Content → (ℕ → ℕ → ℕ → ℕ → A) → A → A
 asField l y z = cases z (λ _ _ _ _ _ _ _. z) z y (λ _ _. z) (λ _ _ _ _. z) (λ _ _ _. z) z (λ _ _. z) (λ _. z) z l
 
-abbrev pub asGroup : {A : Type 0} → Line → (ℕ → ℕ → A) → A → A
+abbrev pub asGroup : {A : Type 0} → Content → (ℕ → ℕ → A) → A → A
 asGroup l y z = cases z (λ _ _ _ _ _ _ _. z) z (λ _ _ _ _. z) y (λ _ _ _ _. z) (λ _ _ _. z) z (λ _ _. z) (λ _. z) z l
 
-abbrev pub asType : {A : Type 0} → Line → (ℕ → ℕ → ℕ → ℕ → A) → A → A
+abbrev pub asType : {A : Type 0} → Content → (ℕ → ℕ → ℕ → ℕ → A) → A → A
 asType l y z = cases z (λ _ _ _ _ _ _ _. z) z (λ _ _ _ _. z) (λ _ _. z) y (λ _ _ _. z) z (λ _ _. z) (λ _. z) z l
 
-abbrev pub asScope : {A : Type 0} → Line → (ℕ → ℕ → ℕ → A) → A → A
+abbrev pub asScope : {A : Type 0} → Content → (ℕ → ℕ → ℕ → A) → A → A
 asScope l y z = cases z (λ _ _ _ _ _ _ _. z) z (λ _ _ _ _. z) (λ _ _. z) (λ _ _ _ _. z) y z (λ _ _. z) (λ _. z) z l
 
-abbrev pub asUnbound : {A : Type 0} → Line → A → A → A
+abbrev pub asUnbound : {A : Type 0} → Content → A → A → A
 asUnbound l y z = cases z (λ _ _ _ _ _ _ _. z) z (λ _ _ _ _. z) (λ _ _. z) (λ _ _ _ _. z) (λ _ _ _. z) y (λ _ _. z) (λ _. z) z l
 
-abbrev pub asValue : {A : Type 0} → Line → (ℕ → ℕ → A) → A → A
+abbrev pub asValue : {A : Type 0} → Content → (ℕ → ℕ → A) → A → A
 asValue l y z = cases z (λ _ _ _ _ _ _ _. z) z (λ _ _ _ _. z) (λ _ _. z) (λ _ _ _ _. z) (λ _ _ _. z) z y (λ _. z) z l
 
-abbrev pub asWord : {A : Type 0} → Line → (ℕ → A) → A → A
+abbrev pub asWord : {A : Type 0} → Content → (ℕ → A) → A → A
 asWord l y z = cases z (λ _ _ _ _ _ _ _. z) z (λ _ _ _ _. z) (λ _ _. z) (λ _ _ _ _. z) (λ _ _ _. z) z (λ _ _. z) y z l

@@ -7,8 +7,7 @@ use Rattle.text.specs.Bytes.{Str, unit}
 use Rattle.column.specs.Number.{most, padded}
 use Rattle.column.specs.Texts.{isName, isGraphicText}
 use Rattle.row.specs.Line.{byte, mostA, mostB, mostC, mostCount, mostBits}
-use Rattle.row.specs.declared.Line.{Line}
-use Rattle.row.specs.declared.Line.the-variants.{Root, Node, Parameter, Field, Group, Typ, Scope, Unbound, Value, Word, Bad}
+use Rattle.row.specs.Line.{Content, Root, Node, Parameter, Field, Group, Typ, Scope, Unbound, Value, Word, Bad}
 
 -- numbers, each in its columns, and what stands after them
 unfoldable pub columns : List ℕ → Str → Str
@@ -56,7 +55,7 @@ abbrev pub printWord : ℕ → Str
 printWord value = rowText (byte "W") (value ∷ []) []
 
 -- a line with its text, printed
-abbrev pub printLine : Line → Str → Str
+abbrev pub printLine : Content → Str → Str
 printLine Root text = printRoot text
 printLine (Node i p s x g c o) text = printNode i p s x g c o text
 printLine Parameter text = printParameter text
@@ -70,7 +69,7 @@ printLine (Word v) text = printWord v
 printLine Bad text = []
 
 -- document 01's bounds for a line and its text; a line without a text has an empty one
-abbrev pub Fits : Line → Str → Type 0
+abbrev pub Fits : Content → Str → Type 0
 Fits Root text = isGraphicText 64 text ≡ true
 Fits (Node i p s x g c o) text =
     ((1 ≤ i) × (i ≤ most 64)) × (p ≤ most 64) × (s ≤ most 64) × (x ≤ 1) × (g ≤ 1) × (c ≤ most 16) × (o ≤ most 32)

@@ -1,8 +1,8 @@
 // Rows of a sheet: where a row ends, what it says, and the text that it has.
 mod ends;
 
-use crate::ends::row_end;
 use column::Number;
+pub use ends::row_end;
 use terms::kinds;
 ghost use mathlib.Core.Path.{_≡_};
 ghost use mathlib.Core.List.{_++_};
@@ -11,9 +11,9 @@ ghost use lib.ListN.{take, drop, length};
 ghost use Rattle.row.specs.Rows.{rowLen, rows, joined, restOf, lineNo, unboundRows};
 ghost use Rattle.row.specs.Line.{rootLine, nodeLine, parameterLine, fieldLine, groupLine};
 ghost use Rattle.row.specs.Line.{typeLine, scopeLine, unboundLine, valueLine, wordLine};
-ghost use Rattle.row.specs.Line.{mostA, mostB, mostC, mostCount, mostBits, reader, lineOf, lineAt, textStart, textAt};
-ghost use Rattle.row.specs.Line.{SpanWithin, spanned};
-ghost use Rattle.row.specs.declared.Line.the-variants.{Bad};
+ghost use Rattle.row.specs.Line.{Bad, lineSaid, mostA, mostB, mostC, mostCount, mostBits, reader, lineOf, lineAt};
+ghost use Rattle.row.specs.Line.{textStart, textAt};
+ghost use Rattle.row.specs.Span.{SpanWithin, spanned, spanTo, spanBetween, textBetween};
 ghost use Rattle.text.specs.Bytes.{Str};
 
 // The greatest numbers of 64, 32 and 16 bits.
@@ -120,7 +120,7 @@ pub struct Span {
 
 // R: the root, 1 to 64 graphic bytes.
 fn root_line(t: &[u8]) -> Line
-    ensures { λ r. ⌜ r ≡ rootLine (now (t .entry)) ⌝ }
+    ensures { λ r. ⌜ lineSaid r ≡ rootLine (now (t .entry)) ⌝ }
 {
     if !column::ends_in_graphic(t, 1, 64) {
         return Line::Bad;
@@ -130,7 +130,7 @@ fn root_line(t: &[u8]) -> Line
 
 // N: seven numbers and the module, 1 to 128 graphic bytes.
 fn node_line(t: &[u8]) -> Line
-    ensures { λ r. ⌜ r ≡ nodeLine (now (t .entry)) ⌝ }
+    ensures { λ r. ⌜ lineSaid r ≡ nodeLine (now (t .entry)) ⌝ }
 {
     let Number::Is(id) = column::column(t, 1, 1, MOST_64) else {
         return Line::Bad;
@@ -169,7 +169,7 @@ fn node_line(t: &[u8]) -> Line
 
 // P: the parameter's name.
 fn parameter_line(t: &[u8]) -> Line
-    ensures { λ r. ⌜ r ≡ parameterLine (now (t .entry)) ⌝ }
+    ensures { λ r. ⌜ lineSaid r ≡ parameterLine (now (t .entry)) ⌝ }
 {
     if !column::ends_in_name(t, 1) {
         return Line::Bad;
@@ -179,7 +179,7 @@ fn parameter_line(t: &[u8]) -> Line
 
 // F: four numbers and the field's name.
 fn field_line(t: &[u8]) -> Line
-    ensures { λ r. ⌜ r ≡ fieldLine (now (t .entry)) ⌝ }
+    ensures { λ r. ⌜ lineSaid r ≡ fieldLine (now (t .entry)) ⌝ }
 {
     let Number::Is(offset) = column::column(t, 1, 0, MOST_32) else {
         return Line::Bad;
@@ -206,7 +206,7 @@ fn field_line(t: &[u8]) -> Line
 
 // G: the group's id, the discriminant and the field's name.
 fn group_line(t: &[u8]) -> Line
-    ensures { λ r. ⌜ r ≡ groupLine (now (t .entry)) ⌝ }
+    ensures { λ r. ⌜ lineSaid r ≡ groupLine (now (t .entry)) ⌝ }
 {
     let Number::Is(id) = column::column(t, 1, 1, MOST_64) else {
         return Line::Bad;
@@ -260,7 +260,7 @@ fn most_c(kind: u64, a: u64) -> u64
 
 // T: the kind, and what it allows for a, b and c.
 fn type_line(t: &[u8]) -> Line
-    ensures { λ r. ⌜ r ≡ typeLine (now (t .entry)) ⌝ }
+    ensures { λ r. ⌜ lineSaid r ≡ typeLine (now (t .entry)) ⌝ }
 {
     let Number::Is(kind) = column::column(t, 1, 0, 18) else {
         return Line::Bad;
@@ -292,7 +292,7 @@ fn most_count(bind: u64) -> u64
 
 // S: the scope id, whether it binds, and how many bindings follow.
 fn scope_line(t: &[u8]) -> Line
-    ensures { λ r. ⌜ r ≡ scopeLine (now (t .entry)) ⌝ }
+    ensures { λ r. ⌜ lineSaid r ≡ scopeLine (now (t .entry)) ⌝ }
 {
     let Number::Is(id) = column::column(t, 1, 0, MOST_64) else {
         return Line::Bad;
@@ -311,7 +311,7 @@ fn scope_line(t: &[u8]) -> Line
 
 // U: the letter alone.
 fn unbound_line(t: &[u8]) -> Line
-    ensures { λ r. ⌜ r ≡ unboundLine (now (t .entry)) ⌝ }
+    ensures { λ r. ⌜ lineSaid r ≡ unboundLine (now (t .entry)) ⌝ }
 {
     if t.len() != 1 {
         return Line::Bad;
@@ -332,7 +332,7 @@ fn most_bits(kind: u64) -> u64
 
 // V: the kind, and bits that fit its width.
 fn value_line(t: &[u8]) -> Line
-    ensures { λ r. ⌜ r ≡ valueLine (now (t .entry)) ⌝ }
+    ensures { λ r. ⌜ lineSaid r ≡ valueLine (now (t .entry)) ⌝ }
 {
     let Number::Is(kind) = column::column(t, 1, 0, 18) else {
         return Line::Bad;
@@ -348,7 +348,7 @@ fn value_line(t: &[u8]) -> Line
 
 // W: one number.
 fn word_line(t: &[u8]) -> Line
-    ensures { λ r. ⌜ r ≡ wordLine (now (t .entry)) ⌝ }
+    ensures { λ r. ⌜ lineSaid r ≡ wordLine (now (t .entry)) ⌝ }
 {
     let Number::Is(value) = column::column(t, 1, 0, MOST_64) else {
         return Line::Bad;
@@ -361,7 +361,7 @@ fn word_line(t: &[u8]) -> Line
 
 // What a line says, by its letter.
 fn read(letter: u8, t: &[u8]) -> Line
-    ensures { λ r. ⌜ r ≡ reader letter (now (t .entry)) ⌝ }
+    ensures { λ r. ⌜ lineSaid r ≡ reader letter (now (t .entry)) ⌝ }
 {
     match letter {
         b'R' => root_line(t),
@@ -400,7 +400,7 @@ fn least_length(letter: u8) -> usize
 // What the part from `at` to `e` says, taken as a row.
 fn line_to(s: &[u8], at: usize, e: usize) -> Line
     requires { ⌜ (at < e) × (e ≤ length (now s)) ⌝ }
-    ensures { λ r. ⌜ r ≡ lineOf (take (e - at) (drop at (now (s .entry)))) ⌝ }
+    ensures { λ r. ⌜ lineSaid r ≡ lineOf (take (e - at) (drop at (now (s .entry)))) ⌝ }
 {
     let z = e - 1;
     if s[z] != b'\n' {
@@ -412,7 +412,7 @@ fn line_to(s: &[u8], at: usize, e: usize) -> Line
 // The row at a position; past the end stands a bad line, and no row follows. A line has no byte 10 before its end, so that the
 // end is first sought where a line with this letter can end; where what stands there is no line, the row is bad.
 pub fn next(s: &[u8], at: usize) -> Got
-    ensures { λ r. ⌜ r .line ≡ lineAt (rows (drop at (now (s .entry)))) ⌝ }
+    ensures { λ r. ⌜ lineSaid (r .line) ≡ lineAt (rows (drop at (now (s .entry)))) ⌝ }
     ensures { λ r. ⌜ rows (drop (r .next) (now (s .entry))) ≡ restOf (rows (drop at (now (s .entry)))) ⌝ }
 {
     if s.len() <= at {
@@ -457,8 +457,7 @@ fn text_start(letter: u8) -> usize
 fn span_to(s: &[u8], at: usize, e: usize) -> Span
     requires { ⌜ (at < e) × (e ≤ length (now s)) ⌝ }
     ensures within { λ r. ⌜ SpanWithin (now (s .entry)) r ⌝ }
-    ensures text { λ r. ⌜ (e ≡ at + rowLen (drop at (now (s .entry)))
-        → spanned (now (s .entry)) r ≡ textAt (rows (drop at (now (s .entry))))) ⌝ }
+    ensures is { λ r. ⌜ r ≡ spanTo (now (s .entry)) at e ⌝ }
 {
     let k = text_start(s[at]);
     if k == 0 {
@@ -485,11 +484,12 @@ pub fn text(s: &[u8], at: usize) -> &[u8]
     &s[start..end]
 }
 
-// Where the text of the row at a position stands, for whoever knows where the next row begins: no end is sought.
+// Where the text of the row at a position stands if the next row begins at `next`: no end is sought.
 pub fn text_span(s: &[u8], at: usize, next: usize) -> Span
     ensures within { λ r. ⌜ SpanWithin (now (s .entry)) r ⌝ }
     ensures text { λ r. ⌜ (rows (drop next (now (s .entry))) ≡ restOf (rows (drop at (now (s .entry))))
         → spanned (now (s .entry)) r ≡ textAt (rows (drop at (now (s .entry))))) ⌝ }
+    ensures is { λ r. ⌜ r ≡ spanBetween (now (s .entry)) at next ⌝ }
 {
     if s.len() <= at {
         return Span { start: 0, end: 0 };
@@ -505,8 +505,9 @@ pub fn text_span(s: &[u8], at: usize, next: usize) -> Span
 
 // That text: the caller's own bytes.
 pub fn text_before(s: &[u8], at: usize, next: usize) -> &[u8]
-    ensures { λ r. ⌜ (rows (drop next (now (s .entry))) ≡ restOf (rows (drop at (now (s .entry))))
+    ensures text { λ r. ⌜ (rows (drop next (now (s .entry))) ≡ restOf (rows (drop at (now (s .entry))))
         → now r ≡ textAt (rows (drop at (now (s .entry))))) ⌝ }
+    ensures is { λ r. ⌜ now r ≡ textBetween (now (s .entry)) at next ⌝ }
 {
     let Span { start, end } = text_span(s, at, next);
     &s[start..end]

@@ -5,12 +5,12 @@ use mathlib.Core.Bool.{Bool, true, false}
 use mathlib.Core.List.{List, _++_, append-assoc}
 use mathlib.Core.Option as option
 use mathlib.Core.Option.{Option}
-use Prim.Native.Nat.{ℕ, _<_, _≤_}
+use Prim.Native.Nat.{ℕ, _≤_}
 use native.Mathlib.Omega.{arith}
-use borrow.Author.Tests.{eq-eqb, ne-eqb}
+use borrow.Author.Tests.{ne-eqb}
 use lib.Dec.{eqb, leb}
 use lib.ListN.{drop}
-use Rattle.text.specs.Bytes.{Str, ascii, cond, either}
+use Rattle.text.specs.Bytes.{Str, ascii, either}
 use Rattle.text.specs.Decimal.{decimal}
 use Rattle.text.specs.Lines as lines
 use Rattle.text.specs.Lines.{stringify}
@@ -21,43 +21,46 @@ use Rattle.names.specs.Names.{held, camelToSnakeCase, nameOf}
 use Rattle.names.specs.declared.Snake.{Snake}
 use Rattle.names.proofs.Laws.{name-of}
 use Rattle.tree.specs.Tree as tree
-use Rattle.tree.specs.Tree.{Ty, plain, list, kind, Sheet, Value}
+use Rattle.tree.specs.Tree.{Ty, plain, list, kind, Sheet}
 use Rattle.tree.specs.Reader.{Rows, Reading, On}
 use Rattle.tree.specs.Read.{readType}
 use Rattle.types.specs.Find.{kindAt}
 use Rattle.types.proofs.Laws.{on-one, on-two, on-has}
-use Rattle.codegen_types.specs.Out.{Out, ok, refused, _then_, refusalOf}
+use Rattle.codegen_types.specs.Out.{Out, ok, _then_, refusalOf}
 use Rattle.codegen_types.specs.TypeString.{typeString, getQualifiedModule}
 use Rattle.codegen_types.specs.Primitive.{primitiveText}
 use Rattle.codegen_types.specs.Written.{Writes, firstOf}
 use Rattle.codegen_types.specs.declared.Written.{Written}
 use Rattle.codegen_types.specs.declared.Leaf.the-variants.{Reader, Builder, Owned, Client}
 use Rattle.codegen_types.specs.declared.Lifetime.the-variants.{A, Anonymous}
-use Rattle.codegen_types.specs.declared.Refusal.the-variants.{None, Number}
 use Rattle.codegen_types.proofs.WrittenLaws.{around}
 use Rattle.field.specs.Slot.{SlotIs, SlotField, SlotHere}
 use Rattle.field.specs.declared.Slot.{Slot}
 use Rattle.calls.specs.Calls.{setBoolField, setDataField}
-use Rattle.codegen.specs.Given.{Given}
 use Rattle.codegen.specs.Default.{value, primDefault}
+use Rattle.codegen.specs.Mask.{maskOr}
 use Rattle.codegen.specs.Setter.{Parts, setterFunctions, setterOnly, oneLine, initPointer, newPointer, reborrowed}
-use Rattle.codegen.specs.Setter.{setterParts, primParts, textParts, dataParts, pointerParts, listReaderType, enumMask}
-use Rattle.codegen.specs.Setter.{generateSetter, setterRequest}
+use Rattle.codegen.specs.Setter.{setterParts, primParts, textParts, dataParts, pointerParts, listReaderType}
+use Rattle.codegen.specs.Setter.{explicitMask, enumMask, generateSetter, setterRequest}
 use Rattle.setter_code.specs.Parts.{setOpen, initOpen, initnOpen}
 use Rattle.setter.specs.Typed.{inputType, setEnd, initEnd, setterTextOf}
 use Rattle.setter.proofs.TypeLaws.{ElementIs, of-list, element-at}
 use Rattle.setter.proofs.TypeLaws.{at-list, at-enum, at-struct, at-interface, at-any, at-parameter, plain-is}
-use Rattle.setter.proofs.Laws.{made, onlyEnd, only-writes, both-writes, three-writes, masked-writes}
-use Rattle.setter.proofs.Laws.{whole-writes, given-writes}
+use Rattle.setter.proofs.Laws.{numberOf, made, onlyEnd, only-writes, both-writes, three-writes, masked-writes}
+use Rattle.setter.proofs.Laws.{whole-writes, default-writes}
+
+-- the default of a slot of the tree, by its numbers
+default-here : (s : tree.Slot) (r : Slot) → SlotIs r s → s .default ≡ value (r .default) (r .bits)
+default-here s r is = rw (← is .default, ← is .bits) refl
 
 -- ---- the arms whose type is read in the sheet
 
 -- what a setter takes, around the text of whatever type is read
-pub on-input : {l l₁ l₂ l₃ : List ℕ} {t t₁ t₃ : Text} {q : Written} (g : Reading Ty) (sheet : Sheet) (w : Written)
+pub on-input : {l l₁ l₂ l₃ : List ℕ} {t t₁ t₃ : Text} (g : Reading Ty) (sheet : Sheet) (w q : Written)
     → Wrote l t (ascii "impl " ++ sheet .root ++ ascii "::traits::SetterInput<") l₁ t₁
     → On g (λ ty. Writes (typeString ty sheet Owned) l₁ t₁ l₂ w) → Wrote l₂ (w .text) (ascii ">") l₃ t₃
-    → q .text ≡ t₃ → q .refusal ≡ w .refusal → On g (λ ty. Writes (inputType sheet ty) l t l₃ q)
-on-input {l} {l₁} {l₂} {l₃} {t} {t₁} {t₃} {q} g sheet w a x b i n =
+    → q .text ≡ t₃ → numberOf q ≡ numberOf w → On g (λ ty. Writes (inputType sheet ty) l t l₃ q)
+on-input {l} {l₁} {l₂} {l₃} {t} {t₁} {t₃} g sheet w q a x b i n =
     on-one (λ ty. Writes (typeString ty sheet Owned) l₁ t₁ l₂ w) (λ ty. Writes (inputType sheet ty) l t l₃ q) g
     (λ ty y. around (typeString ty sheet Owned) a y b i n) x
 
@@ -92,7 +95,7 @@ module _ (bytes : Str) (r : Slot) (f : SlotField) (here : SlotHere bytes r f) (s
         → Wrote l₂ (v .text) (setEnd root tag d (r .offset)) l₃ t₃
         → Wrote l₃ t₃ (initOpen name false) l₄ t₄ → Typed (λ ty. Writes (typeString ty sheet (Builder A)) l₄ t₄ l₅ w)
         → Wrote l₅ (w .text) (initEnd tag d (initPointer root (r .offset) (ascii "0"))) l₆ t₆
-        → q .text ≡ t₆ → q .refusal ≡ firstOf (v .refusal) (w .refusal) → Writes (setterTextOf sheet tag name d s) l t l₆ q
+        → q .text ≡ t₆ → numberOf q ≡ firstOf (numberOf v) (numberOf w) → Writes (setterTextOf sheet tag name d s) l t l₆ q
     unfolding generateSetter
     struct-here k a x b c y e i n =
         at-struct (λ ty. Writes (from ty) l t l₆ q) (s .ty) (r .id) (is .id) (is .kind ∙ k)
@@ -107,7 +110,7 @@ module _ (bytes : Str) (r : Slot) (f : SlotField) (here : SlotHere bytes r f) (s
         → Wrote l₂ (v .text) (setEnd root tag d (r .offset)) l₃ t₃
         → Wrote l₃ t₃ (initOpen name true) l₄ t₄ → Typed (λ ty. Writes (typeString ty sheet (Builder A)) l₄ t₄ l₅ w)
         → Wrote l₅ (w .text) (initEnd tag d (initPointer root (r .offset) (ascii "size"))) l₆ t₆
-        → q .text ≡ t₆ → q .refusal ≡ firstOf (v .refusal) (w .refusal) → Writes (setterTextOf sheet tag name d s) l t l₆ q
+        → q .text ≡ t₆ → numberOf q ≡ firstOf (numberOf v) (numberOf w) → Writes (setterTextOf sheet tag name d s) l t l₆ q
     unfolding generateSetter
     list-here k a x b c y e i n =
         at-list (λ ty. s .ty ≡ ty → Writes (from ty) l t l₆ q) (s .ty) (r .id) (is .id) (is .kind ∙ k)
@@ -124,7 +127,7 @@ module _ (bytes : Str) (r : Slot) (f : SlotField) (here : SlotHere bytes r f) (s
       → Wrote l₅ (v .text) (setEnd root tag d (r .offset)) l₆ t₆
       → Wrote l₆ t₆ (initOpen name false) l₇ t₇ → Typed (λ ty. Writes (typeString ty sheet (Builder A)) l₇ t₇ l₈ w)
       → Wrote l₈ (w .text) (initEnd tag d (newPointer root (r .offset) ++ ascii ".init_as()")) l₉ t₉
-      → q .text ≡ t₉ → q .refusal ≡ firstOf (u .refusal) (v .refusal) → Writes (setterTextOf sheet tag name d s) l t l₉ q
+      → q .text ≡ t₉ → numberOf q ≡ firstOf (numberOf u) (numberOf v) → Writes (setterTextOf sheet tag name d s) l t l₉ q
   unfolding generateSetter
   parameter-here {l} {l₁} {l₂} {l₃} {l₄} {l₅} {l₆} {l₇} {l₈} {l₉} {t} {t₁} {t₃} {t₄} {t₆} {t₇} {t₉} u v w {q}
       k j a x b c y e g z h i n =
@@ -140,7 +143,7 @@ module _ (bytes : Str) (r : Slot) (f : SlotField) (here : SlotHere bytes r f) (s
     pub interface-here : r .kind ≡ 17
         → Wrote l t (setOpen name) l₁ t₁ → Typed (λ ty. Writes (typeString ty sheet Client) l₁ t₁ l₂ w)
         → Wrote l₂ (w .text) (onlyEnd tag d (reborrowed (r .offset) ++ ascii ".set_capability(value.client.hook);")) l₃ t₃
-        → q .text ≡ t₃ → q .refusal ≡ w .refusal → Writes (setterTextOf sheet tag name d s) l t l₃ q
+        → q .text ≡ t₃ → numberOf q ≡ numberOf w → Writes (setterTextOf sheet tag name d s) l t l₃ q
     unfolding generateSetter
     interface-here k a x b i n =
         at-interface (λ ty. Writes (from ty) l t l₃ q) (s .ty) (r .id) (is .id) (is .kind ∙ k)
@@ -151,14 +154,15 @@ module _ (bytes : Str) (r : Slot) (f : SlotField) (here : SlotHere bytes r f) (s
     pub enum-here : (mask : Option Str) → r .kind ≡ 15
         → Wrote l t (setOpen name) l₁ t₁ → Writes (getQualifiedModule sheet (r .id)) l₁ t₁ l₂ w
         → Wrote l₂ (w .text) (onlyEnd tag d (setDataField (ascii "u16") (r .offset) (ascii "value as u16") mask)) l₃ t₃
-        → Given (enumMask s) (λ x. mask ≡ x)
-        → q .text ≡ t₃ → q .refusal ≡ firstOf (w .refusal) (refusalOf (enumMask s))
+        → mask ≡ maskOr (explicitMask (r .explicit) (value (r .default) (r .bits)))
+        → q .text ≡ t₃ → numberOf q ≡ firstOf (numberOf w) (refusalOf (explicitMask (r .explicit) (value (r .default) (r .bits))))
         → Writes (setterTextOf sheet tag name d s) l t l₃ q
     unfolding generateSetter
     enum-here mask k a x b m i n =
         at-enum (λ ty. Writes (from ty) l t l₃ q) (s .ty) (r .id) (is .id) (is .kind ∙ k)
         (λ ss. masked-writes root tag name d (λ y. setDataField (ascii "u16") (s .offset) (ascii "value as u16") y)
-        (getQualifiedModule sheet (r .id)) (enumMask s) mask a x (rw (is .offset) b) m i n)
+        (getQualifiedModule sheet (r .id)) (enumMask s) a x (rw (is .offset, is .explicit, default-here s r is) (rw m at b)) i
+        (rw (is .explicit, default-here s r is) n))
 
 -- the line of an interface's setter, its constants merged
 pub capability-line : (x : Str) (offset : ℕ)
@@ -196,40 +200,12 @@ module _ (rs : Rows) (sheet : Sheet) (j : ℕ) (several : Bool) (e : j ≡ kindA
         on-two (λ ty. ElementIs ty (kindAt (restOf rs))) (λ ty. Writes (typeString ty sheet (Reader Anonymous)) l t l′ q) Takes
         (readType 16 rs) (λ ty i w el z. rw (chosen ty el false h i z) w) (element-at 16 rs) x
 
--- ---- an enum's mask
-
-module _ (s : tree.Slot) (r : Slot) (is : SlotIs r s) where
-  pub mask-none : (mask : Option Str) → mask ≡ option.none → r .explicit ≤ 0 → Given (enumMask s) (λ x. mask ≡ x)
-  mask-none mask e z = rw (is .explicit, eq-eqb (r .explicit) 0 (omega arith)) e
-
-  pub mask-some : (mask : Option Str) → mask ≡ option.some (decimal (r .bits)) → 0 < r .explicit
-      → Given (enumMask s) (λ x. mask ≡ x)
-  mask-some mask e n =
-      rw (is .explicit, ne-eqb (r .explicit) 0 (λ z. let w : ⊥ = omega arith in absurd w), is .bits)
-      (go (eqb (s .default .kind) 15))
-    where
-      go : (b : Bool) → Given (cond b (ok (option.some (decimal (r .bits)))) (refused 12)) (λ x. mask ≡ x)
-      go true = e
-      go false = tt
-
-  pub not-explicit : r .explicit ≡ 0 → refusalOf (enumMask s) ≡ None
-  not-explicit z = rw (is .explicit, eq-eqb (r .explicit) 0 z) refl
-
-  pub an-enum : (r .explicit ≡ 0 → ⊥) → r .default ≡ 15 → refusalOf (enumMask s) ≡ None
-  an-enum n e = rw (is .explicit, ne-eqb (r .explicit) 0 n, is .default, eq-eqb (r .default) 15 e) refl
-
-  pub no-enum : (r .explicit ≡ 0 → ⊥) → (r .default ≡ 15 → ⊥) → refusalOf (enumMask s) ≡ Number 12
-  no-enum n e = rw (is .explicit, ne-eqb (r .explicit) 0 n, is .default, ne-eqb (r .default) 15 e) refl
-
 -- ---- the arms whose type has one row
 
 prim-text : (sheet : Sheet) (k : ℕ) → k ≤ 11 → typeString (plain k) sheet (Reader A) ≡ ok (primitiveText k)
 unfolding typeString
 prim-text sheet k le =
     rw (ne-eqb k 12 (λ e. let z : ⊥ = omega arith in absurd z), ne-eqb k 13 (λ e. let z : ⊥ = omega arith in absurd z)) refl
-
-default-is : (v : Value) (k b : ℕ) → v .kind ≡ k → v .bits ≡ b → v ≡ value k b
-default-is v k b e f = rw (← e, ← f) refl
 
 module _ (sheet : Sheet) (s : tree.Slot) (r : Slot) (is : SlotIs r s) (tag : ℕ) (name : Str) (d : ℕ) where
   parts-at : (k : ℕ) → r .kind ≡ k → k ≤ 13 → setterParts sheet s (s .ty) ≡ setterParts sheet s (plain k)
@@ -252,7 +228,7 @@ module _ (sheet : Sheet) (s : tree.Slot) (r : Slot) (is : SlotIs r s) (tag : ℕ
   Whole l t l′ t′ p = Wrote l t (stringify (setterFunctions (sheet .root) tag name d p)) l′ t′
 
   abbrev Masked : List ℕ → Text → List ℕ → Text → (Option Str → Parts) → Type 0
-  Masked l t l′ t′ parts = Given (primDefault (value (r .default) (r .bits))) (λ mask. Whole l t l′ t′ (parts mask))
+  Masked l t l′ t′ parts = Whole l t l′ t′ (parts (maskOr (primDefault (value (r .default) (r .bits)))))
 
   abbrev boolParts : Option Str → Parts
   boolParts mask = setterOnly (ascii "value") (oneLine (setBoolField (r .offset) (ascii "value") mask)) (ascii "bool")
@@ -262,35 +238,32 @@ module _ (sheet : Sheet) (s : tree.Slot) (r : Slot) (is : SlotIs r s) (tag : ℕ
       setterOnly (ascii "value") (oneLine (setDataField (primitiveText (r .kind)) (r .offset) (ascii "value") mask))
       (primitiveText (r .kind))
 
-  default-here : s .default ≡ value (r .default) (r .bits)
-  default-here = default-is (s .default) (r .default) (r .bits) (is .default) (is .bits)
-
   module _ {l l′ : List ℕ} {t t′ : Text} {q : Written} where
-    whole-here : (p : Parts) → setterParts sheet s (s .ty) ≡ ok p → Whole l t l′ t′ p → (q .text ≡ t′) × (q .refusal ≡ None)
-        → Writes (setterTextOf sheet tag name d s) l t l′ q
+    whole-here : (p : Parts) → setterParts sheet s (s .ty) ≡ ok p → Whole l t l′ t′ p
+        → (q .text ≡ t′) × (numberOf q ≡ option.none) → Writes (setterTextOf sheet tag name d s) l t l′ q
     unfolding generateSetter
     whole-here p e w h = rw e (whole-writes (sheet .root) tag name d p w h)
 
-    given-here : (m : Out (Option Str)) (parts : Option Str → Parts)
-        → setterParts sheet s (s .ty) ≡ (m then λ mask. ok (parts mask)) → Given m (λ mask. Whole l t l′ t′ (parts mask))
-        → q .text ≡ t′ → q .refusal ≡ refusalOf m → Writes (setterTextOf sheet tag name d s) l t l′ q
+    masked-here : (m : Out (Option Str)) (parts : Option Str → Parts)
+        → setterParts sheet s (s .ty) ≡ (m then λ mask. ok (parts mask)) → Whole l t l′ t′ (parts (maskOr m))
+        → q .text ≡ t′ → numberOf q ≡ refusalOf m → Writes (setterTextOf sheet tag name d s) l t l′ q
     unfolding generateSetter
-    given-here m parts e w i n = rw e (given-writes (sheet .root) tag name d m parts w i n)
+    masked-here m parts e w i n = rw e (default-writes (sheet .root) tag name d m parts w i n)
 
     pub void-here : r .kind ≡ 0 → Whole l t l′ t′ (setterOnly (ascii "_value") lines.none (ascii "()"))
-        → (q .text ≡ t′) × (q .refusal ≡ None) → Writes (setterTextOf sheet tag name d s) l t l′ q
+        → (q .text ≡ t′) × (numberOf q ≡ option.none) → Writes (setterTextOf sheet tag name d s) l t l′ q
     void-here e w h = whole-here _ (parts-at 0 e (omega arith)) w h
 
     pub text-here : r .kind ≡ 12 → Whole l t l′ t′ (textParts (sheet .root) (r .offset))
-        → (q .text ≡ t′) × (q .refusal ≡ None) → Writes (setterTextOf sheet tag name d s) l t l′ q
+        → (q .text ≡ t′) × (numberOf q ≡ option.none) → Writes (setterTextOf sheet tag name d s) l t l′ q
     text-here e w h = whole-here (textParts (sheet .root) (r .offset)) (parts-at 12 e (omega arith) ∙ rw (is .offset) refl) w h
 
     pub data-here : r .kind ≡ 13 → Whole l t l′ t′ (dataParts (sheet .root) (r .offset))
-        → (q .text ≡ t′) × (q .refusal ≡ None) → Writes (setterTextOf sheet tag name d s) l t l′ q
+        → (q .text ≡ t′) × (numberOf q ≡ option.none) → Writes (setterTextOf sheet tag name d s) l t l′ q
     data-here e w h = whole-here (dataParts (sheet .root) (r .offset)) (parts-at 13 e (omega arith) ∙ rw (is .offset) refl) w h
 
     pub any-here : r .kind ≡ 18 → r .id ≡ 0 → Whole l t l′ t′ (pointerParts (sheet .root) (r .offset))
-        → (q .text ≡ t′) × (q .refusal ≡ None) → Writes (setterTextOf sheet tag name d s) l t l′ q
+        → (q .text ≡ t′) × (numberOf q ≡ option.none) → Writes (setterTextOf sheet tag name d s) l t l′ q
     any-here e i w h =
         whole-here (pointerParts (sheet .root) (r .offset))
         (at-any (λ ty. setterParts sheet s ty ≡ ok (pointerParts (sheet .root) (r .offset))) (s .ty) (r .id) (is .id)
@@ -298,20 +271,21 @@ module _ (sheet : Sheet) (s : tree.Slot) (r : Slot) (is : SlotIs r s) (tag : ℕ
         (rw (is .offset) refl)) w h
 
     pub bool-here : r .kind ≡ 1 → Masked l t l′ t′ boolParts
-        → q .text ≡ t′ → q .refusal ≡ refusalOf (primDefault (value (r .default) (r .bits)))
+        → q .text ≡ t′ → numberOf q ≡ refusalOf (primDefault (value (r .default) (r .bits)))
         → Writes (setterTextOf sheet tag name d s) l t l′ q
     bool-here e w i n =
-        given-here (primDefault (value (r .default) (r .bits))) boolParts
-        (prim-at 1 e (λ z. let w : ⊥ = omega arith in absurd w) (omega arith) ∙ rw (is .kind ∙ e, is .offset, default-here) refl)
+        masked-here (primDefault (value (r .default) (r .bits))) boolParts
+        (prim-at 1 e (λ z. let w : ⊥ = omega arith in absurd w) (omega arith)
+        ∙ rw (is .kind ∙ e, is .offset, default-here s r is) refl)
         w i n
 
     pub number-here : (r .kind ≡ 0 → ⊥) → (r .kind ≡ 1 → ⊥) → r .kind ≤ 11 → Masked l t l′ t′ numberParts
-        → q .text ≡ t′ → q .refusal ≡ refusalOf (primDefault (value (r .default) (r .bits)))
+        → q .text ≡ t′ → numberOf q ≡ refusalOf (primDefault (value (r .default) (r .bits)))
         → Writes (setterTextOf sheet tag name d s) l t l′ q
     number-here n0 n1 le w i n =
-        given-here (primDefault (value (r .default) (r .bits))) numberParts
+        masked-here (primDefault (value (r .default) (r .bits))) numberParts
         (prim-at (r .kind) refl n0 le
-        ∙ rw (is .kind, ne-eqb (r .kind) 1 n1, typ-at le, is .offset, default-here) refl)
+        ∙ rw (is .kind, ne-eqb (r .kind) 1 n1, typ-at le, is .offset, default-here s r is) refl)
         w i n
 
 -- ---- the request

@@ -8,22 +8,23 @@ use mathlib.Core.Option as option
 use mathlib.Core.Option.{Option, some}
 use Prim.Native.Nat.{ℕ, _<_, _≤_}
 use native.Mathlib.Omega.{arith}
-use borrow.Author.Tests.{ne-eqb, eqb-false, le-leb, lt-leb, leb-false}
+use borrow.Author.Tests.{eqb-false, leb-false}
 use lib.Dec.{eqb, leb}
 use Rattle.text.specs.Bytes.{Str, ascii, cond, both}
 use Rattle.text.specs.Lines.{stringify}
 use Rattle.text.specs.Text.{Wrote}
 use Rattle.text.specs.declared.Text.{Text}
 use Rattle.codegen_types.specs.Out.{Out, ok, refused, _then_, refusalOf}
-use Rattle.codegen_types.specs.Written.{Writes, firstOf}
+use Rattle.codegen_types.specs.Written.{refusalNumber, Writes, firstOf}
 use Rattle.codegen_types.specs.declared.Written.{Written}
 use Rattle.codegen_types.specs.declared.Refusal.{Refusal}
 use Rattle.codegen_types.specs.declared.Refusal.the-variants.{None, Number}
 use Rattle.codegen_types.proofs.WrittenLaws as written
 use Rattle.codegen_types.proofs.WrittenLaws.{around}
-use Rattle.codegen.specs.Given.{Given}
 use Rattle.codegen.specs.Default.{value, primDefault}
+use Rattle.codegen.specs.Mask.{maskOr}
 use Rattle.codegen.specs.Setter.{Parts, setterFunctions, setterOnly, setterAndInitter, oneLine, setPointer, setterInput}
+use Rattle.codegen.proofs.Laws.{refused-below, refused-above}
 use Rattle.setter_code.specs.Parts.{tagLine, setOpen, setClose, sizeParam, initOpen, initnOpen}
 use Rattle.setter_code.proofs.Laws.{only-text, both-text, parameter-text}
 use Rattle.setter.specs.Typed.{setEnd, initEnd}
@@ -34,16 +35,29 @@ use Rattle.setter.specs.Typed.{setEnd, initEnd}
 abbrev with : Text → Refusal → Written
 with t q = record { text = t; refusal = q }
 
+-- document 01's number for what a writer refuses
+abbrev pub numberOf : Written → Option ℕ
+numberOf w = refusalNumber (w .refusal)
+
+-- the refusal with a number
+abbrev asRefusal : Option ℕ → Refusal
+asRefusal option.none = None
+asRefusal (some k) = Number k
+
+as-refusal : (n : Option ℕ) → refusalNumber (asRefusal n) ≡ n
+as-refusal option.none = refl
+as-refusal (some k) = refl
+
 -- no refusal after another
-first-none : (a : Refusal) → firstOf a None ≡ a
-first-none None = refl
-first-none (Number k) = refl
+first-none : (a : Option ℕ) → firstOf a option.none ≡ a
+first-none option.none = refl
+first-none (some k) = refl
 
 -- a refusal once more, after it and another
-again : (a b : Refusal) → firstOf a b ≡ firstOf a (firstOf b a)
-again None None = refl
-again None (Number k) = refl
-again (Number k) b = refl
+again : (a b : Option ℕ) → firstOf a b ≡ firstOf a (firstOf b a)
+again option.none option.none = refl
+again option.none (some k) = refl
+again (some k) b = refl
 
 -- ---- what the match gives, as text
 
@@ -116,7 +130,7 @@ module _ (root : Str) (tag : ℕ) (name : Str) (d : ℕ) where
 
   pub only-writes : {l l₁ l₂ l₃ : List ℕ} {t t₁ t₃ : Text} {w q : Written} (line : Str) (o : Out Str)
       → Wrote l t (setOpen name) l₁ t₁ → Writes o l₁ t₁ l₂ w → Wrote l₂ (w .text) (onlyEnd tag d line) l₃ t₃
-      → q .text ≡ t₃ → q .refusal ≡ w .refusal
+      → q .text ≡ t₃ → numberOf q ≡ numberOf w
       → Writes (made (o then λ typ. ok (setterOnly (ascii "value") (oneLine line) typ))) l t l₃ q
   only-writes {l} {l₁} {l₂} {l₃} {t} {t₁} {t₃} {w} {q} line o a x b i n =
       subst (λ (z : Out Str). Writes z l t l₃ q) (only-out line o) (around o a x b i n)
@@ -125,7 +139,7 @@ module _ (root : Str) (tag : ℕ) (name : Str) (d : ℕ) where
       (offset : ℕ) (sized : Bool) (line : Str) (o o′ : Out Str)
       → Wrote l t (setOpen name) l₁ t₁ → Writes o l₁ t₁ l₂ v → Wrote l₂ (v .text) (setEnd root tag d offset) l₃ t₃
       → Wrote l₃ t₃ (initOpen name sized) l₄ t₄ → Writes o′ l₄ t₄ l₅ w → Wrote l₅ (w .text) (initEnd tag d line) l₆ t₆
-      → q .text ≡ t₆ → q .refusal ≡ firstOf (v .refusal) (w .refusal)
+      → q .text ≡ t₆ → numberOf q ≡ firstOf (numberOf v) (numberOf w)
       → Writes (made (o then λ a. o′ then λ b. ok (bothParts offset sized line a b))) l t l₆ q
   both-writes {l} {l₁} {l₂} {l₃} {l₄} {l₅} {l₆} {t} {t₁} {t₃} {t₄} {t₆} {v} {w} {q} offset sized line o o′ a x b c y e i n =
       subst (λ (z : Out Str). Writes z l t l₆ q) (both-out offset sized line o o′)
@@ -138,54 +152,58 @@ module _ (root : Str) (tag : ℕ) (name : Str) (d : ℕ) where
       → Wrote l₃ t₃ (setOpen name) l₄ t₄ → Writes (o′ then λ owned. ok (setterInput root owned)) l₄ t₄ l₅ v
       → Wrote l₅ (v .text) (setEnd root tag d offset) l₆ t₆
       → Wrote l₆ t₆ (initOpen name false) l₇ t₇ → Writes o l₇ t₇ l₈ w → Wrote l₈ (w .text) (initEnd tag d initter) l₉ t₉
-      → q .text ≡ t₉ → q .refusal ≡ firstOf (u .refusal) (v .refusal)
+      → q .text ≡ t₉ → numberOf q ≡ firstOf (numberOf u) (numberOf v)
       → Writes (made (o then λ b. o′ then λ owned. ok (threeParts offset initn initter b owned))) l t l₉ q
   three-writes {l} {l₁} {l₂} {l₃} {l₄} {l₅} {l₆} {l₇} {l₈} {l₉} {t} {t₁} {t₃} {t₄} {t₆} {t₇} {t₉} {u} {v} {w} {q}
       offset initn initter o o′ a x b c y e f z g i n =
       subst (λ (z : Out Str). Writes z l t l₉ q) (three-out offset initn initter o o′)
       (written.both _ _ (around {q = with t₃ (u .refusal)} o a x b refl refl)
-      (written.both {q = with t₉ (firstOf (v .refusal) (w .refusal))} _ _ (around {q = with t₆ (v .refusal)} _ c y e refl refl)
-      (around {q = with t₉ (w .refusal)} o f z g refl refl) refl refl) i
-      (n ∙ again (u .refusal) (v .refusal) ∙ ap (λ (k : Refusal). firstOf (u .refusal) (firstOf (v .refusal) k))
-      (x .refusal ∙ sym (z .refusal))))
+      (written.both {q = with t₉ (asRefusal later)} _ _ (around {q = with t₆ (v .refusal)} _ c y e refl refl)
+      (around {q = with t₉ (w .refusal)} o f z g refl refl) refl (as-refusal later)) i
+      (n ∙ again (numberOf u) (numberOf v)
+      ∙ ap (λ (k : Option ℕ). firstOf (numberOf u) (firstOf (numberOf v) k)) (x .refusal ∙ sym (z .refusal))
+      ∙ ap (firstOf (numberOf u)) (sym (as-refusal later))))
+    where
+      later : Option ℕ
+      later = firstOf (numberOf v) (numberOf w)
 
   -- a setter whose mask may be refused, after its type: the mask's refusal comes after the type's
   pub masked-writes : {l l₁ l₂ l₃ : List ℕ} {t t₁ t₃ : Text} {w q : Written} (line : Option Str → Str) (o : Out Str)
-      (m : Out (Option Str)) (mask : Option Str)
-      → Wrote l t (setOpen name) l₁ t₁ → Writes o l₁ t₁ l₂ w → Wrote l₂ (w .text) (onlyEnd tag d (line mask)) l₃ t₃
-      → Given m (λ x. mask ≡ x) → q .text ≡ t₃ → q .refusal ≡ firstOf (w .refusal) (refusalOf m)
+      (m : Out (Option Str))
+      → Wrote l t (setOpen name) l₁ t₁ → Writes o l₁ t₁ l₂ w → Wrote l₂ (w .text) (onlyEnd tag d (line (maskOr m))) l₃ t₃
+      → q .text ≡ t₃ → numberOf q ≡ firstOf (numberOf w) (refusalOf m)
       → Writes (made (o then λ typ. m then λ x. ok (setterOnly (ascii "value") (oneLine (line x)) typ))) l t l₃ q
-  masked-writes {l} {l₁} {l₂} {l₃} {t} {t₁} {t₃} {w} {q} line (ok typ) (ok x) mask a h b e i n =
-      only-writes (line x) (ok typ) a h (rw e at b) i (n ∙ first-none (w .refusal))
-  masked-writes {w = w} line (ok typ) (refused k) mask a h b e i n =
-      written.none (n ∙ ap (λ (z : Refusal). firstOf z (Number k)) (h .refusal))
-  masked-writes {w = w} line (refused k) m mask a h b e i n =
-      written.none (n ∙ ap (λ (z : Refusal). firstOf z (refusalOf m)) (h .refusal))
+  masked-writes {w = w} line (ok typ) (ok x) a h b i n = only-writes (line x) (ok typ) a h b i (n ∙ first-none (numberOf w))
+  masked-writes line (ok typ) (refused k) a h b i n =
+      written.no-text (n ∙ ap (λ (z : Option ℕ). firstOf z (some k)) (h .refusal))
+  masked-writes line (refused k) m a h b i n =
+      written.no-text (n ∙ ap (λ (z : Option ℕ). firstOf z (refusalOf m)) (h .refusal))
 
   -- a setter that is not refused, and one whose mask may be
   pub whole-writes : {l l′ : List ℕ} {t t′ : Text} {q : Written} (p : Parts)
-      → Wrote l t (stringify (setterFunctions root tag name d p)) l′ t′ → (q .text ≡ t′) × (q .refusal ≡ None)
+      → Wrote l t (stringify (setterFunctions root tag name d p)) l′ t′ → (q .text ≡ t′) × (numberOf q ≡ option.none)
       → Writes (made (ok p)) l t l′ q
   whole-writes {l} {l′} {t} {t′} {q} p w e =
       written.whole (subst (λ (x : Text). Wrote l t (stringify (setterFunctions root tag name d p)) l′ x) (sym (e .0)) w) (e .1)
 
-  pub given-writes : {l l′ : List ℕ} {t t′ : Text} {q : Written} (m : Out (Option Str)) (parts : Option Str → Parts)
-      → Given m (λ mask. Wrote l t (stringify (setterFunctions root tag name d (parts mask))) l′ t′)
-      → q .text ≡ t′ → q .refusal ≡ refusalOf m
+  pub default-writes : {l l′ : List ℕ} {t t′ : Text} {q : Written} (m : Out (Option Str)) (parts : Option Str → Parts)
+      → Wrote l t (stringify (setterFunctions root tag name d (parts (maskOr m)))) l′ t′
+      → q .text ≡ t′ → numberOf q ≡ refusalOf m
       → Writes (made (m then λ mask. ok (parts mask))) l t l′ q
-  given-writes (ok mask) parts w i n = whole-writes (parts mask) w (i, n)
-  given-writes (refused k) parts w i n = written.none n
+  default-writes (ok mask) parts w i n = whole-writes (parts mask) w (i, n)
+  default-writes (refused k) parts w i n = written.no-text n
 
 -- ---- prim_default is refused but for kinds 1 to 11
 
 module _ (k b : ℕ) where
-  pub within : 1 ≤ k → k < 12 → refusalOf (primDefault (value k b)) ≡ None
+  pub within : 1 ≤ k → k < 12 → refusalOf (primDefault (value k b)) ≡ option.none
   unfolding primDefault
   within lo hi = go (eqb k 1) (leb 2 k) (leb k 9) (eqb k 10) (eqb k 11) refl refl refl refl refl _ _ _ _
     where
       go : (one low high ten eleven : Bool) → eqb k 1 ≡ one → leb 2 k ≡ low → leb k 9 ≡ high → eqb k 10 ≡ ten → eqb k 11 ≡ eleven
           → (v w x y : Option Str)
-          → refusalOf (cond one (ok v) (cond (both low high) (ok w) (cond ten (ok x) (cond eleven (ok y) (refused 11))))) ≡ None
+          → refusalOf (cond one (ok v) (cond (both low high) (ok w) (cond ten (ok x) (cond eleven (ok y) (refused 11)))))
+          ≡ option.none
       go true low high ten eleven e f g h i v w x y = refl
       go false true true ten eleven e f g h i v w x y = refl
       go false true false true eleven e f g h i v w x y = refl
@@ -196,17 +214,8 @@ module _ (k b : ℕ) where
       go false false high ten eleven e f g h i v w x y =
           let n1 = eqb-false k 1 e in let low = leb-false 2 k f in let z : ⊥ = omega arith in absurd z
 
-  pub below : k < 1 → refusalOf (primDefault (value k b)) ≡ Number 11
-  unfolding primDefault
-  below lo = rw (let z : k ≡ 0 = omega arith in z) refl
+  pub below : k < 1 → refusalOf (primDefault (value k b)) ≡ some 11
+  below lo = ap refusalOf (refused-below k b lo)
 
-  pub above : 12 ≤ k → refusalOf (primDefault (value k b)) ≡ Number 11
-  unfolding primDefault
-  above hi =
-      rw (
-        ne-eqb k 1 (λ e. let z : ⊥ = omega arith in absurd z),
-        lt-leb k 9 (omega arith),
-        le-leb 2 k (omega arith),
-        ne-eqb k 10 (λ e. let z : ⊥ = omega arith in absurd z),
-        ne-eqb k 11 (λ e. let z : ⊥ = omega arith in absurd z),
-      ) refl
+  pub above : 12 ≤ k → refusalOf (primDefault (value k b)) ≡ some 11
+  above hi = ap refusalOf (refused-above k b hi)

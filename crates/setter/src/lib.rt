@@ -15,7 +15,7 @@ ghost use mathlib.Core.List.{_++_, List};
 ghost use Prim.Native.Nat.{_<_};
 ghost use lib.Dec.{eqb, leb};
 ghost use lib.ListN.{drop};
-ghost use Rattle.text.specs.Text.{Wrote};
+ghost use Rattle.text.specs.Text.{Wrote, WroteSome};
 ghost use Rattle.text.specs.Bytes.{Str, either};
 ghost use Rattle.row.specs.Rows.{restOf, rows};
 ghost use Rattle.tree.specs.Tree as tree;
@@ -26,19 +26,19 @@ ghost use Rattle.nodes.specs.Index.{ForAll, sheetOf};
 ghost use Rattle.types.specs.Find.{kindAt};
 ghost use Rattle.codegen_types.specs.Out.{refusalOf};
 ghost use Rattle.codegen_types.specs.TypeString.{typeString};
-ghost use Rattle.codegen_types.specs.Written.{Writes};
+ghost use Rattle.codegen_types.specs.Written.{refusalNumber, Writes};
 ghost use Rattle.codegen_types.specs.declared.Leaf.the-variants.{Reader, Builder};
 ghost use Rattle.codegen_types.specs.declared.Lifetime.the-variants as lifetime;
 ghost use Rattle.calls.specs.Mask.{maskText};
 ghost use Rattle.field.specs.Slot.{SlotIs, SlotField, SlotHere};
-ghost use Rattle.codegen.specs.Given.{Given};
 ghost use Rattle.codegen.specs.Default.{value, primDefault};
-ghost use Rattle.codegen.specs.Setter.{listReaderType, initPointer, newPointer, enumMask, setterRequest};
+ghost use Rattle.codegen.specs.Mask.{maskOr};
+ghost use Rattle.codegen.specs.Setter.{listReaderType, initPointer, newPointer, explicitMask, setterRequest};
 ghost use Rattle.setter.specs.Typed.{Types, inputType, setEnd, initStart, initEnd, setterTextOf};
 
 // The refusal of the default of a Bool or a number: one that is no primitive.
 fn default_refusal(slot: Slot) -> Refusal
-    ensures { λ r. ⌜ r ≡ refusalOf (primDefault (value (slot .default) (slot .bits))) ⌝ }
+    ensures { λ r. ⌜ refusalNumber r ≡ refusalOf (primDefault (value (slot .default) (slot .bits))) ⌝ }
 {
     let kind = slot.default;
     match kind {
@@ -49,9 +49,10 @@ fn default_refusal(slot: Slot) -> Refusal
 
 // The setter of a slot whose type has one row: kinds 0 to 13.
 fn plain_setter(root: &[u8], slot: Slot, name: Snake, tag: u64, t: Text, buf: &mut [u8]) -> Written
-    ensures { λ r. ⌜ ((ns : List tree.Node) (sl : tree.Slot) → SlotIs slot sl → slot .kind < 14
+    ensures text { λ r. ⌜ ((ns : List tree.Node) (sl : tree.Slot) → SlotIs slot sl → slot .kind < 14
         → Writes (setterTextOf (sheetOf (now (root .entry)) ns) tag (nameOf name) (slot .discriminant) sl)
         (now (buf .entry)) t (now (buf .exit)) r) ⌝ }
+    ensures some { λ r. ⌜ WroteSome (now (buf .entry)) t (now (buf .exit)) (r .text) ⌝ }
 {
     let kind = slot.kind;
     match kind {
@@ -77,8 +78,9 @@ fn plain_setter(root: &[u8], slot: Slot, name: Snake, tag: u64, t: Text, buf: &m
 
 // What a setter takes where its type has several SetterInput impls, for the type at a position.
 fn setter_input(root: &[u8], s: &[u8], index: &[u64], at: usize, t: Text, buf: &mut [u8]) -> Written
-    ensures { λ r. ⌜ Types (now (root .entry)) (now (s .entry)) (now (index .entry)) at inputType
+    ensures text { λ r. ⌜ Types (now (root .entry)) (now (s .entry)) (now (index .entry)) at inputType
         (now (buf .entry)) t (now (buf .exit)) r ⌝ }
+    ensures some { λ r. ⌜ WroteSome (now (buf .entry)) t (now (buf .exit)) (r .text) ⌝ }
 {
     let t = t.bytes(buf, b"impl ");
     let t = t.bytes(buf, root);
@@ -98,8 +100,9 @@ fn setter_input(root: &[u8], s: &[u8], index: &[u64], at: usize, t: Text, buf: &
 
 // What other setters take: the type at a position as a Reader.
 fn reader_type(root: &[u8], s: &[u8], index: &[u64], at: usize, t: Text, buf: &mut [u8]) -> Written
-    ensures { λ r. ⌜ Types (now (root .entry)) (now (s .entry)) (now (index .entry)) at
+    ensures text { λ r. ⌜ Types (now (root .entry)) (now (s .entry)) (now (index .entry)) at
         (λ sheet ty. typeString ty sheet (Reader lifetime.Anonymous)) (now (buf .entry)) t (now (buf .exit)) r ⌝ }
+    ensures some { λ r. ⌜ WroteSome (now (buf .entry)) t (now (buf .exit)) (r .text) ⌝ }
 {
     type_string::type_string(
         root,
@@ -114,8 +117,9 @@ fn reader_type(root: &[u8], s: &[u8], index: &[u64], at: usize, t: Text, buf: &m
 
 // What an initializer returns: the type at a position as a Builder.
 fn init_type(root: &[u8], s: &[u8], index: &[u64], at: usize, t: Text, buf: &mut [u8]) -> Written
-    ensures { λ r. ⌜ Types (now (root .entry)) (now (s .entry)) (now (index .entry)) at
+    ensures text { λ r. ⌜ Types (now (root .entry)) (now (s .entry)) (now (index .entry)) at
         (λ sheet ty. typeString ty sheet (Builder lifetime.A)) (now (buf .entry)) t (now (buf .exit)) r ⌝ }
+    ensures some { λ r. ⌜ WroteSome (now (buf .entry)) t (now (buf .exit)) (r .text) ⌝ }
 {
     type_string::type_string(root, s, index, at, Leaf::Builder(Lifetime::A), t, buf)
 }
@@ -184,9 +188,10 @@ fn several_inputs(kind: u64) -> bool
 
 // What the setter of a list takes, for the list type at a position.
 fn list_reader(root: &[u8], s: &[u8], index: &[u64], at: usize, t: Text, buf: &mut [u8]) -> Written
-    ensures { λ r. ⌜ ForAll (now (root .entry)) (now (s .entry)) (now (index .entry)) (λ sheet.
+    ensures text { λ r. ⌜ ForAll (now (root .entry)) (now (s .entry)) (now (index .entry)) (λ sheet.
         On (readType 16 (rows (drop at (now (s .entry))))) (λ ty. (element : tree.Ty) → ty ≡ tree.list element
         → Writes (listReaderType sheet element ty) (now (buf .entry)) t (now (buf .exit)) r)) ⌝ }
+    ensures some { λ r. ⌜ WroteSome (now (buf .entry)) t (now (buf .exit)) (r .text) ⌝ }
 {
     if several_inputs(element_kind(s, at)) {
         return setter_input(root, s, index, at, t, buf);
@@ -205,10 +210,11 @@ fn list_setter(
     t: Text,
     buf: &mut [u8],
 ) -> Written
-    ensures { λ r. ⌜ ForAll (now (root .entry)) (now (s .entry)) (now (index .entry)) (λ sheet.
+    ensures text { λ r. ⌜ ForAll (now (root .entry)) (now (s .entry)) (now (index .entry)) (λ sheet.
         (f : SlotField) → SlotHere (now (s .entry)) slot f → slot .kind ≡ 14
         → Writes (setterTextOf sheet tag (nameOf name) (slot .discriminant) (f .slot))
         (now (buf .entry)) t (now (buf .exit)) r) ⌝ }
+    ensures some { λ r. ⌜ WroteSome (now (buf .entry)) t (now (buf .exit)) (r .text) ⌝ }
 {
     let t = setter_code::set_open(name, t, buf);
     let Written {
@@ -228,11 +234,14 @@ fn list_setter(
     }
 }
 
-// The mask of an enum's setter: its default, where that is explicit.
+// The mask of an enum's setter: its default, where that is explicit; none where it is refused.
 fn enum_mask(slot: Slot) -> Mask
-    ensures { λ r. ⌜ ((sl : tree.Slot) → SlotIs slot sl → Given (enumMask sl) (λ mask. maskText r ≡ mask)) ⌝ }
+    ensures { λ r. ⌜ maskText r ≡ maskOr (explicitMask (slot .explicit) (value (slot .default) (slot .bits))) ⌝ }
 {
-    if 0 < slot.explicit {
+    if slot.explicit == 0 {
+        return Mask::None;
+    }
+    if slot.default == kinds::ENUM {
         return Mask::Plain(slot.bits);
     }
     Mask::None
@@ -240,7 +249,7 @@ fn enum_mask(slot: Slot) -> Mask
 
 // The refusal of that mask: an explicit default that is no Enum.
 fn enum_refusal(slot: Slot) -> Refusal
-    ensures { λ r. ⌜ ((sl : tree.Slot) → SlotIs slot sl → r ≡ refusalOf (enumMask sl)) ⌝ }
+    ensures { λ r. ⌜ refusalNumber r ≡ refusalOf (explicitMask (slot .explicit) (value (slot .default) (slot .bits))) ⌝ }
 {
     if slot.explicit == 0 {
         return Refusal::None;
@@ -261,10 +270,11 @@ fn enum_setter(
     t: Text,
     buf: &mut [u8],
 ) -> Written
-    ensures { λ r. ⌜ ((root : Str) → ForAll root (now (s .entry)) (now (index .entry)) (λ sheet.
+    ensures text { λ r. ⌜ ((root : Str) → ForAll root (now (s .entry)) (now (index .entry)) (λ sheet.
         (f : SlotField) → SlotHere (now (s .entry)) slot f → slot .kind ≡ 15
         → Writes (setterTextOf sheet tag (nameOf name) (slot .discriminant) (f .slot))
         (now (buf .entry)) t (now (buf .exit)) r)) ⌝ }
+    ensures some { λ r. ⌜ WroteSome (now (buf .entry)) t (now (buf .exit)) (r .text) ⌝ }
 {
     let t = setter_code::set_open(name, t, buf);
     let Written {
@@ -294,10 +304,11 @@ fn struct_setter(
     t: Text,
     buf: &mut [u8],
 ) -> Written
-    ensures { λ r. ⌜ ForAll (now (root .entry)) (now (s .entry)) (now (index .entry)) (λ sheet.
+    ensures text { λ r. ⌜ ForAll (now (root .entry)) (now (s .entry)) (now (index .entry)) (λ sheet.
         (f : SlotField) → SlotHere (now (s .entry)) slot f → slot .kind ≡ 16
         → Writes (setterTextOf sheet tag (nameOf name) (slot .discriminant) (f .slot))
         (now (buf .entry)) t (now (buf .exit)) r) ⌝ }
+    ensures some { λ r. ⌜ WroteSome (now (buf .entry)) t (now (buf .exit)) (r .text) ⌝ }
 {
     let t = setter_code::set_open(name, t, buf);
     let Written {
@@ -328,10 +339,11 @@ fn interface_setter(
     t: Text,
     buf: &mut [u8],
 ) -> Written
-    ensures { λ r. ⌜ ForAll (now (root .entry)) (now (s .entry)) (now (index .entry)) (λ sheet.
+    ensures text { λ r. ⌜ ForAll (now (root .entry)) (now (s .entry)) (now (index .entry)) (λ sheet.
         (f : SlotField) → SlotHere (now (s .entry)) slot f → slot .kind ≡ 17
         → Writes (setterTextOf sheet tag (nameOf name) (slot .discriminant) (f .slot))
         (now (buf .entry)) t (now (buf .exit)) r) ⌝ }
+    ensures some { λ r. ⌜ WroteSome (now (buf .entry)) t (now (buf .exit)) (r .text) ⌝ }
 {
     let t = setter_code::set_open(name, t, buf);
     let Written { text: t, refusal } = type_string::type_string(
@@ -362,10 +374,11 @@ fn parameter_setter(
     t: Text,
     buf: &mut [u8],
 ) -> Written
-    ensures { λ r. ⌜ ForAll (now (root .entry)) (now (s .entry)) (now (index .entry)) (λ sheet.
+    ensures text { λ r. ⌜ ForAll (now (root .entry)) (now (s .entry)) (now (index .entry)) (λ sheet.
         (f : SlotField) → SlotHere (now (s .entry)) slot f → slot .kind ≡ 18 → (slot .id ≡ 0 → ⊥)
         → Writes (setterTextOf sheet tag (nameOf name) (slot .discriminant) (f .slot))
         (now (buf .entry)) t (now (buf .exit)) r) ⌝ }
+    ensures some { λ r. ⌜ WroteSome (now (buf .entry)) t (now (buf .exit)) (r .text) ⌝ }
 {
     let t = setter_code::initn_open(name, t, buf);
     let Written {
@@ -399,10 +412,11 @@ fn setter_of(
     t: Text,
     buf: &mut [u8],
 ) -> Written
-    ensures { λ r. ⌜ ForAll (now (root .entry)) (now (s .entry)) (now (index .entry)) (λ sheet.
+    ensures text { λ r. ⌜ ForAll (now (root .entry)) (now (s .entry)) (now (index .entry)) (λ sheet.
         (f : SlotField) → SlotHere (now (s .entry)) slot f
         → Writes (setterTextOf sheet tag (nameOf name) (slot .discriminant) (f .slot))
         (now (buf .entry)) t (now (buf .exit)) r) ⌝ }
+    ensures some { λ r. ⌜ WroteSome (now (buf .entry)) t (now (buf .exit)) (r .text) ⌝ }
 {
     let kind = slot.kind;
     match kind {
@@ -437,9 +451,10 @@ pub fn setter(
     t: Text,
     buf: &mut [u8],
 ) -> Written
-    ensures { λ r. ⌜ ForAll (now (root .entry)) (now (s .entry)) (now (index .entry)) (λ sheet.
+    ensures text { λ r. ⌜ ForAll (now (root .entry)) (now (s .entry)) (now (index .entry)) (λ sheet.
         (f : SlotField) → SlotHere (now (s .entry)) slot f
         → Writes (setterRequest sheet tag (f .name) (f .discriminant) (f .slot)) (now (buf .entry)) t (now (buf .exit)) r) ⌝ }
+    ensures some { λ r. ⌜ WroteSome (now (buf .entry)) t (now (buf .exit)) (r .text) ⌝ }
 {
     let name = names::camel_to_snake_case(slot.name(s));
     setter_of(root, s, index, slot, name, tag, t, buf)

@@ -4,7 +4,7 @@ use mathlib.Core.Path.{_≡_, refl, sym, ap, _∙_}
 use mathlib.Core.Bool.{Bool, true, false}
 use mathlib.Core.List.{List, [], _++_, append-assoc, append-nil}
 use mathlib.Core.Option as option
-use mathlib.Core.Option.{Option, some}
+use mathlib.Core.Option.{some}
 use Prim.Native.Nat.{ℕ}
 use native.Mathlib.Omega.{arith}
 use lib.Dec.{eqb}
@@ -14,10 +14,7 @@ use Rattle.text.specs.Lines.{FormattedTexts, Indent, Branch, Line, none, _&_, t
 use Rattle.text.proofs.LinesLaws.{stringify-lines}
 use Rattle.text.specs.Text.{Wrote}
 use Rattle.text.specs.declared.Text.{Text}
-use Rattle.text.proofs.Laws.{_⨾_}
-use Rattle.codegen_types.specs.Out.{Out, ok, refused}
 use Rattle.calls.specs.Calls.{setTag}
-use Rattle.codegen.specs.Given.{Given}
 use Rattle.codegen.specs.Function.{function}
 use Rattle.codegen.specs.Setter.{setterOnly, setterAndInitter, oneLine, tagged, returnType, setterFunctions}
 use Rattle.codegen.specs.Setter.{pointerParts, newPointer, initPointer}
@@ -247,16 +244,7 @@ pub text-line : (x a root b c g e tag sp p u z : Str)
     ≡ x ++ (a ++ root ++ b ++ (root ++ c) ++ g) ++ e ++ tag ++ sp ++ (p ++ u) ++ z
 text-line x a root b c g e tag sp p u z = simp append-assoc
 
--- a setter whose line is written with a mask that is given
-pub masked-text : {l : List ℕ} {t : Text} {l₁ : List ℕ} {t₁ : Text} {l₂ : List ℕ} {t₂ : Text} {l₃ : List ℕ} {t₃ : Text}
-    (root : Str) (o : ℕ) (name : Str) (d : ℕ) (typ : Str) (line : Option Str → Str) (given : Out (Option Str))
-    → Wrote l t (setOpen name ++ typ ++ ascii ")  {\n" ++ tagLine o d ++ ascii "    ") l₁ t₁
-    → Given given (λ mask. Wrote l₁ t₁ (line mask) l₂ t₂) → Wrote l₂ t₂ (ascii "\n}\n") l₃ t₃
-    → Given given (λ mask. Wrote l t (stringify
-    (setterFunctions root o name d (setterOnly (ascii "value") (oneLine (line mask)) typ))) l₃ t₃)
-masked-text root o name d typ line (ok mask) w g e = rw (← only-text root o name d (line mask) typ) (w ⨾ g ⨾ e)
-masked-text root o name d typ line (refused k) w g e = tt
-
+-- a Bool's setter up to its line
 pub bool-open : (name tag : Str) → setOpen name ++ ascii "bool)  {\n" ++ tag ++ ascii "    "
     ≡ setOpen name ++ ascii "bool" ++ ascii ")  {\n" ++ tag ++ ascii "    "
 bool-open name tag = ap (λ (x : Str). x ++ tag ++ ascii "    ")

@@ -11,7 +11,7 @@ ghost use Rattle.text.specs.Text.{Wrote};
 ghost use Rattle.names.specs.Names.{nameOf};
 ghost use Rattle.calls.specs.Calls.{setBoolField, setDataField};
 ghost use Rattle.codegen.specs.Default.{value, primDefault};
-ghost use Rattle.codegen.specs.Given.{Given};
+ghost use Rattle.codegen.specs.Mask.{maskOr};
 ghost use Rattle.codegen_types.specs.Primitive.{primitiveText};
 ghost use Rattle.codegen.specs.Setter.{setPointer, initPointer, newPointer, setterInput, pointerField, reborrowed};
 ghost use Rattle.codegen.specs.Setter.{setterFunctions, setterOnly, oneLine, textParts, dataParts, pointerParts};
@@ -128,12 +128,12 @@ pub fn void(name: Snake, slot: Slot, tag: u64, t: Text, buf: &mut [u8]) -> Text
     t.bytes(buf, b"}\n")
 }
 
-// Bool, with a default of any primitive kind.
+// Bool, with a default of any primitive kind; without a mask where the default is refused.
 pub fn boolean(name: Snake, slot: Slot, tag: u64, t: Text, buf: &mut [u8]) -> Text
-    ensures { λ r. ⌜ ((root : Str) → Given (primDefault (value (slot .default) (slot .bits))) (λ mask. Wrote (now (buf .entry)) t
+    ensures { λ r. ⌜ ((root : Str) → Wrote (now (buf .entry)) t
         (stringify (setterFunctions root tag (nameOf name) (slot .discriminant)
-        (setterOnly (ascii "value") (oneLine (setBoolField (slot .offset) (ascii "value") mask)) (ascii "bool"))))
-        (now (buf .exit)) r)) ⌝ }
+        (setterOnly (ascii "value") (oneLine (setBoolField (slot .offset) (ascii "value")
+        (maskOr (primDefault (value (slot .default) (slot .bits)))))) (ascii "bool")))) (now (buf .exit)) r) ⌝ }
 {
     let t = set_open(name, t, buf);
     let t = t.bytes(buf, b"bool)  {\n");
@@ -143,12 +143,12 @@ pub fn boolean(name: Snake, slot: Slot, tag: u64, t: Text, buf: &mut [u8]) -> Te
     t.bytes(buf, b"\n}\n")
 }
 
-// A number, with a default of any primitive kind.
+// A number, with a default of any primitive kind; without a mask where the default is refused.
 pub fn number(name: Snake, slot: Slot, tag: u64, t: Text, buf: &mut [u8]) -> Text
-    ensures { λ r. ⌜ ((root : Str) → Given (primDefault (value (slot .default) (slot .bits))) (λ mask. Wrote (now (buf .entry)) t
+    ensures { λ r. ⌜ ((root : Str) → Wrote (now (buf .entry)) t
         (stringify (setterFunctions root tag (nameOf name) (slot .discriminant)
-        (setterOnly (ascii "value") (oneLine (setDataField (primitiveText (slot .kind)) (slot .offset) (ascii "value") mask))
-        (primitiveText (slot .kind))))) (now (buf .exit)) r)) ⌝ }
+        (setterOnly (ascii "value") (oneLine (setDataField (primitiveText (slot .kind)) (slot .offset) (ascii "value")
+        (maskOr (primDefault (value (slot .default) (slot .bits)))))) (primitiveText (slot .kind))))) (now (buf .exit)) r) ⌝ }
 {
     let t = set_open(name, t, buf);
     let t = codegen_types::type_name(t, buf, slot.kind);

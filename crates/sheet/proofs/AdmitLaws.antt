@@ -10,7 +10,7 @@ use denote.Enum.Declared.{tagOf}
 use Rattle.text.specs.Bytes.{Str}
 use Rattle.row.proofs.Line.{the-type}
 use Rattle.row.specs.Rows.{rows, restOf, lineNo}
-use Rattle.row.specs.Line.{lineAt, textAt}
+use Rattle.row.specs.Line.{lineSaid, lineAt, textAt}
 use Rattle.row.specs.declared.Line.{Line}
 use Rattle.tree.specs.Tree.{Node, Sheet}
 use Rattle.tree.specs.Reader.{Rows, Reading, got, no, Reader, _then_, On}
@@ -20,21 +20,21 @@ use Rattle.tree.specs.declared.Walk.{Walk}
 use Rattle.tree.specs.declared.Walk.the-variants.{Next, Refused}
 use Rattle.tree.proofs.OtherLines.{never, not-root}
 use Rattle.nodes.specs.Index.{indexSize, Indexed}
-use Rattle.sheet.specs.Admission.{verdict, IndexOf, NodesRead}
+use Rattle.sheet.specs.Admission.{answerNumbers, refusalIn, IndexOf, NodesRead}
 use Rattle.sheet.specs.declared.Answer.{Answer}
 use Rattle.row.specs.declared.Line.the-variants as line
 use Rattle.sheet.specs.declared.Answer.the-variants as answer
 
 -- an answer of what is admitted, and its index y, if there was room for all its numbers
 abbrev Says : Str → Admitted → Answer → ℕ → List ℕ → Type 0
-Says s a r room y = (r ≡ verdict a) × (indexSize (length s) ≤ room → IndexOf s a y)
+Says s a r room y = (answerNumbers r ≡ refusalIn a) × (indexSize (length s) ≤ room → IndexOf s a y)
 
 pub too-long : (s : Str) (room : ℕ) (y : List ℕ) → 65536 < length s → Says s (admitted s) (answer.Refused 1 0) room y
 unfolding admitted
 too-long s room y h = rw (admitted, lt-ltb 65536 (length s) h) (refl, λ big. tt)
 
--- a sheet that is not too long, and its first row's line
-module _ (s : Str) (short : length s ≤ 65536) (l : Line) (here : l ≡ lineAt (rows s)) (room : ℕ) (y : List ℕ) where
+-- a sheet that is not too long, and what the code says of its first row
+module _ (s : Str) (short : length s ≤ 65536) (l : Line) (here : lineSaid l ≡ lineAt (rows s)) (room : ℕ) (y : List ℕ) where
   fits : admitted s ≡ numbered s (readSheet (rows s))
   unfolding admitted
   fits = rw (admitted, le-ltb 65536 (length s) short)
@@ -51,7 +51,7 @@ module _ (s : Str) (short : length s ≤ 65536) (l : Line) (here : l ≡ lineAt 
     made ns = record { root = textAt (rows s); nodes = ns }
 
     nodes-read : admitted s ≡ numbered s (readNodes 64 [] [] rest then λ ns. got (made ns))
-    unfolding readSheet made
+    unfolding lineSaid readSheet made
     nodes-read = fits ∙ rw (← here, is, ← after)
 
     pub whole-sheet : (q : ℕ) → w ≡ Next q → Says s (admitted s) answer.Sheet room y

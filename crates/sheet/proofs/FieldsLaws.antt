@@ -12,8 +12,9 @@ use denote.Enum.Declared.{tagOf}
 use Rattle.text.specs.Bytes.{unit, either}
 use Rattle.row.proofs.Line.{the-type}
 use Rattle.row.specs.Rows.{restOf, size}
-use Rattle.row.specs.Line.{lineAt, textAt}
+use Rattle.row.specs.Line.{Parameter, lineSaid, lineAt, textAt}
 use Rattle.row.specs.declared.Line.{Line}
+use Rattle.row.proofs.ReadLaws.{Good}
 use Rattle.tree.specs.Tree.{Slot, Field, slot, group}
 use Rattle.tree.specs.Reader.{Rows, Reading, got, no, Reader, _then_}
 use Rattle.tree.specs.Read.{among, overlap, readSlot, field, readField, isField, groupId, groupIds, readFields, readParams}
@@ -65,21 +66,22 @@ groups-no seen rs ts k i e =
     ap (λ (g : Reading (List Field)). g then λ fs. got (seen ++ groupIds fs)) (fields-here seen rs) ∙ rw (i, e)
 
 -- where there is a line of a letter, there is a row
-shorter : (rs : Rows) → (lineAt rs ≡ line.Bad → _≡_ {A = ℕ} 0 1) → length (restOf rs) < length rs
+shorter : (rs : Rows) → Good (lineAt rs) → length (restOf rs) < length rs
 unfolding lineAt restOf
-shorter [] h = never (h refl)
+shorter [] h = absurd h
 shorter (r ∷ rs) h = omega arith
 
--- the first row's line l, and the rows after it
-module _ (rs rest : Rows) (l : Line) (here : l ≡ lineAt rs) (after : rest ≡ restOf rs) where
+-- what the code says of the first row, and the rows after it
+module _ (rs rest : Rows) (l : Line) (here : lineSaid l ≡ lineAt rs) (after : rest ≡ restOf rs) where
   pub params-less : l ≡ line.Parameter → length rest < length rs
-  params-less i = rw after (shorter rs (λ e. cc))
+  unfolding lineSaid
+  params-less i = rw after (shorter rs (rw (← here, i) tt))
 
   pub params-on : l ≡ line.Parameter → passed (readParams rs) ≡ passed (readParams rest)
-  unfolding readParams lineAt restOf
-  params-on i = rw after (go rs (sym here ∙ i))
+  unfolding lineSaid readParams lineAt restOf
+  params-on i = rw after (go rs (sym here ∙ ap lineSaid i))
     where
-      go : (rs : Rows) → lineAt rs ≡ line.Parameter → passed (readParams rs) ≡ passed (readParams (restOf rs))
+      go : (rs : Rows) → lineAt rs ≡ Parameter → passed (readParams rs) ≡ passed (readParams (restOf rs))
       go [] e = never cc
       go (r ∷ rs) e = rw e (passed-map _ (readParams rs))
 
@@ -88,7 +90,7 @@ module _ (rs rest : Rows) (l : Line) (here : l ≡ lineAt rs) (after : rest ≡ 
   unfolding readParams lineAt
   params-stop o = go rs here
     where
-      go : (rs : Rows) → l ≡ lineAt rs → got tt rs ≡ passed (readParams rs)
+      go : (rs : Rows) → lineSaid l ≡ lineAt rs → got tt rs ≡ passed (readParams rs)
       go [] e = refl
       go (r ∷ rs) e = rw (← e, not-parameter {A = Reader _} l _ _ o)
 
@@ -101,12 +103,12 @@ module _ (rs rest : Rows) (l : Line) (here : l ≡ lineAt rs) (after : rest ≡ 
 
   module _ (o d e p : ℕ) (is : l ≡ line.Field o d e p) where
     field-here : readField rs ≡ (readSlot o e p rest then λ sl. got (field (textAt rs) d (slot sl)))
-    unfolding readField
+    unfolding lineSaid readField
     field-here = rw (← here, is, ← after)
 
     pub groups-slot :
         (seen : List ℕ) (q : Rows) → got tt q ≡ passed (readSlot o e p rest) → groupsAfter seen rs ≡ groupsAfter seen q
-    unfolding overlap
+    unfolding lineSaid overlap
     groups-slot seen q h = go (readSlot o e p rest) refl h
       where
         go : (g : Reading Slot) → readSlot o e p rest ≡ g → got tt q ≡ passed g → groupsAfter seen rs ≡ groupsAfter seen q
@@ -118,6 +120,7 @@ module _ (rs rest : Rows) (l : Line) (here : l ≡ lineAt rs) (after : rest ≡ 
 
     pub groups-slot-no :
         (seen : List ℕ) (k : ℕ) (q : Rows) → no k q ≡ passed (readSlot o e p rest) → no k q ≡ groupsAfter seen rs
+    unfolding lineSaid
     groups-slot-no seen k q h = go (readSlot o e p rest) refl h
       where
         go : (g : Reading Slot) → readSlot o e p rest ≡ g → no k q ≡ passed g → no k q ≡ groupsAfter seen rs
@@ -131,8 +134,9 @@ module _ (rs rest : Rows) (l : Line) (here : l ≡ lineAt rs) (after : rest ≡ 
     slot-tail q h = leaves-passed (leaves-slot o e p rest) q h
 
     pub slot-less : (q : Rows) → got tt q ≡ passed (readSlot o e p rest) → length q < length rs
+    unfolding lineSaid
     slot-less q h =
-        let z : length rest < length rs = rw after (shorter rs (λ e. cc)) in omega (arith, tail-length (slot-tail q h))
+        let z : length rest < length rs = rw after (shorter rs (rw (← here, is) tt)) in omega (arith, tail-length (slot-tail q h))
 
     pub slot-room : (q : Rows) → got tt q ≡ passed (readSlot o e p rest) → size q ≤ size rs
     slot-room q h = let z : size rest ≤ size rs = rw after (tail-size (tail-rest rs)) in omega
@@ -140,11 +144,11 @@ module _ (rs rest : Rows) (l : Line) (here : l ≡ lineAt rs) (after : rest ≡ 
 
   module _ (i d : ℕ) (is : l ≡ line.Group i d) where
     group-here : readField rs ≡ got (field (textAt rs) d (group i)) rest
-    unfolding readField
+    unfolding lineSaid readField
     group-here = rw (← here, is, ← here, is, ← after)
 
     pub groups-double : (seen : List ℕ) (b : Bool) → b ≡ among i seen → b ≡ true → no 3 rs ≡ groupsAfter seen rs
-    unfolding overlap
+    unfolding lineSaid overlap
     groups-double seen b e t =
         let z : isField (lineAt rs) ≡ true = rw (← here, is) in
         sym (ap (λ (g : Reading (List Field)). g then λ fs. got (seen ++ groupIds fs)) (fields-here seen rs)
@@ -152,12 +156,14 @@ module _ (rs rest : Rows) (l : Line) (here : l ≡ lineAt rs) (after : rest ≡ 
 
     pub groups-group :
         (seen : List ℕ) (b : Bool) → b ≡ among i seen → b ≡ false → groupsAfter seen rs ≡ groupsAfter (seen ++ unit i) rest
-    unfolding overlap
+    unfolding lineSaid overlap
     groups-group seen b e t =
         groups-on seen rs rest (field (textAt rs) d (group i)) (rw (← here, is)) group-here (rw (← e, t))
 
     pub group-less : length rest < length rs
-    group-less = rw after (shorter rs (λ e. cc))
+    unfolding lineSaid
+    group-less = rw after (shorter rs (rw (← here, is) tt))
 
     pub group-fits : 44 + size rest ≤ size rs
-    group-fits = rw after (group-room rs i d (sym here ∙ is))
+    unfolding lineSaid
+    group-fits = rw after (group-room rs i d (sym here ∙ ap lineSaid is))

@@ -7,3 +7,4 @@ pub mod PlacedLaws
 pub mod NodeLaws
 pub mod NodesLaws
 pub mod AdmitLaws
+pub mod VerdictLaws

@@ -10,7 +10,7 @@ use denote.Enum.Declared.{tagOf}
 use Rattle.text.specs.Bytes.{Str}
 use Rattle.row.proofs.Line.{the-type}
 use Rattle.row.specs.Rows.{rows, restOf, size}
-use Rattle.row.specs.Line.{lineAt, textAt}
+use Rattle.row.specs.Line.{lineSaid, lineAt, textAt}
 use Rattle.row.specs.declared.Line.{Line}
 use Rattle.tree.specs.Tree.{Field, Node}
 use Rattle.tree.specs.Reader.{Rows, Reading, got, no, Reader, _then_, On}
@@ -55,15 +55,15 @@ node-refused s at groups flags x held seen k g r e = record {
   entry = λ big. rw e tt;
 }
 
--- the first row's line l
-module _ (rs : Rows) (l : Line) (here : l ≡ lineAt rs) (ids seen : List ℕ) where
+-- what the code says of the first row
+module _ (rs : Rows) (l : Line) (here : lineSaid l ≡ lineAt rs) (ids seen : List ℕ) where
   pub node-other : OneOf (0 ∷ 2 ∷ 3 ∷ 4 ∷ 5 ∷ 6 ∷ 7 ∷ 8 ∷ 9 ∷ 10 ∷ []) (tagOf the-type l) → readNode ids seen rs ≡ no 2 rs
   unfolding readNode
   node-other o = rw (← here, not-node {A = Reader _} l _ _ o)
 
   module _ (i p sc st g tc to : ℕ) (is : l ≡ line.Node i p sc st g tc to) (b : Bool) (e : b ≡ among i ids) where
     pub node-double : b ≡ true → readNode ids seen rs ≡ no 3 rs
-    unfolding readNode
+    unfolding lineSaid readNode
     node-double t = rw (← here, is, ← e, t)
 
 -- what is left after a row is less
@@ -83,7 +83,7 @@ ready-after s at e groups flags held r after =
     }
 
 -- a node is its N row, with the rows after it, and what belongs to it
-module _ (s : Str) (at e : ℕ) (l : Line) (here : l ≡ lineAt (rows (drop at s)))
+module _ (s : Str) (at e : ℕ) (l : Line) (here : lineSaid l ≡ lineAt (rows (drop at s)))
     (after : rows (drop e s) ≡ restOf (rows (drop at s)))
     (i p sc st g tc to : ℕ) (is : l ≡ line.Node i p sc st g tc to) (held : Held) where
   -- the entry that has the row's numbers
@@ -104,16 +104,17 @@ module _ (s : Str) (at e : ℕ) (l : Line) (here : l ≡ lineAt (rows (drop at s
   }
 
   pub node-begun : NodeRoom (length s) (held .nodes) (size (rows (drop at s))) → Begun s held entry
+  unfolding lineSaid
   node-begun room =
       let less : 151 + size (rows (drop e s)) ≤ size (rows (drop at s)) = rw after
-      (node-room (rows (drop at s)) i p sc st g tc to (sym here ∙ is)) in
+      (node-room (rows (drop at s)) i p sc st g tc to (sym here ∙ ap lineSaid is)) in
       record { after = after; marks = refl; room = omega arith }
 
   pub node-whole :
       (ids seen x y groups flags : List ℕ) (r : NodeRun) (b : Bool) → b ≡ among i ids → b ≡ false
       → NodeRead s held seen x (membersHere s entry seen) groups flags y r
       → NodeRead s held seen x (readNode ids seen (rows (drop at s))) groups flags y r
-  unfolding readNode
+  unfolding lineSaid readNode
   node-whole ids seen x y groups flags r b e f h = rw same h
     where
       same : readNode ids seen (rows (drop at s)) ≡ membersHere s entry seen

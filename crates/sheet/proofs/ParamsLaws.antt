@@ -15,7 +15,7 @@ use denote.Enum.Declared.{tagOf}
 use Rattle.text.specs.Bytes.{Str, cond, both}
 use Rattle.row.proofs.Line.{the-type}
 use Rattle.row.specs.Rows.{rows, restOf, size}
-use Rattle.row.specs.Line.{lineAt, textAt}
+use Rattle.row.specs.Line.{Parameter, lineSaid, lineAt, textAt}
 use Rattle.row.specs.declared.Line.{Line}
 use Rattle.tree.specs.Reader.{Rows}
 use Rattle.tree.specs.Read.{readParams}
@@ -86,9 +86,9 @@ passing-first s from marks x = record {
   marked = λ j h. let z : ⊥ = omega arith in absurd z;
 }
 
--- a row's line l at a position, and the rows after it
+-- what the code says of the row at a position, and the rows after it
 module _ (s : Str) (rs : Rows) (marks : ℕ) (x y : List ℕ) (at count place : ℕ) (p : Passing s rs marks x y at count place)
-    (l : Line) (here : l ≡ lineAt (rows (drop at s))) where
+    (l : Line) (here : lineSaid l ≡ lineAt (rows (drop at s))) where
   -- the row is no P row
   pub passing-done :
       OneOf (0 ∷ 1 ∷ 3 ∷ 4 ∷ 5 ∷ 6 ∷ 7 ∷ 8 ∷ 9 ∷ 10 ∷ []) (tagOf the-type l) → MarkRoom (length s) marks (size rs)
@@ -113,8 +113,12 @@ module _ (s : Str) (rs : Rows) (marks : ℕ) (x y : List ℕ) (at count place : 
 
   -- the row is a P row
   module _ (is : l ≡ line.Parameter) (e : ℕ) (after : rows (drop e s) ≡ restOf (rows (drop at s))) where
+    said : lineAt (rows (drop at s)) ≡ Parameter
+    unfolding lineSaid
+    said = sym here ∙ ap lineSaid is
+
     fits : 4 + size (rows (drop e s)) ≤ size (rows (drop at s))
-    fits = rw after (parameter-room (rows (drop at s)) (sym here ∙ is))
+    fits = rw after (parameter-room (rows (drop at s)) said)
 
     pub passing-room : MarkRoom (length s) marks (size rs) → place < 2 ^ 64 - 1
     passing-room room = omega (arith, p .left, p .next, fits)
@@ -123,7 +127,7 @@ module _ (s : Str) (rs : Rows) (marks : ℕ) (x y : List ℕ) (at count place : 
     passing-few room = omega (arith, p .left, fits)
 
     more : namesOf (rows (drop at s)) ≡ textAt (rows (drop at s)) ∷ namesOf (rows (drop e s))
-    more = rw after (names-more (rows (drop at s)) (sym here ∙ is))
+    more = rw after (names-more (rows (drop at s)) said)
 
     pub passing-on :
         (y′ : List ℕ) (place′ : ℕ) → y′ ≡ withMark y place count at → place′ ≡ nextMark place count

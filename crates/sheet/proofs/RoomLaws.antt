@@ -19,7 +19,7 @@ use Rattle.row.proofs.Laws.{size-rows}
 use Rattle.row.proofs.ReadLaws.{printed-line}
 use Rattle.tree.specs.Reader.{Rows}
 use Rattle.tree.proofs.OtherLines.{never}
-use Rattle.row.specs.declared.Line.the-variants as line
+use Rattle.row.specs.Line as line
 
 -- a name has a byte
 name-some : (t : Str) → isName t ≡ true → 1 ≤ length t

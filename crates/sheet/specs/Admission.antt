@@ -2,6 +2,7 @@
 use mathlib.Core.Path.{_≡_}
 use mathlib.Core.Bool.{Bool, true}
 use mathlib.Core.List.{List, _++_}
+use mathlib.Core.Option.{Option, none, some}
 use Prim.Native.Nat.{ℕ, _+_, _-_, _*_, _/_, _%_, _≤_, _<_}
 use lib.Dec.{eqb, ltb}
 use lib.ListN.{length, drop, take, getD, set}
@@ -24,10 +25,15 @@ use Rattle.sheet.specs.declared.ParamsRun.{ParamsRun}
 use Rattle.sheet.specs.declared.Held.{Held}
 use Rattle.sheet.specs.declared.NodeRun.{NodeRun}
 
--- document 01's answer for what is admitted: a sheet, or the number and the line of its refusal
-abbrev pub verdict : Admitted → Answer
-verdict (sheet sh) = answer.Sheet
-verdict (refused k l) = answer.Refused k l
+-- the number and the line of the refusal that an answer of the code gives, if it gives one
+abbrev pub answerNumbers : Answer → Option (ℕ × ℕ)
+answerNumbers answer.Sheet = none
+answerNumbers (answer.Refused k l) = some (k, l)
+
+-- document 01's number and line for what is refused; none for a sheet
+abbrev pub refusalIn : Admitted → Option (ℕ × ℕ)
+refusalIn (sheet sh) = none
+refusalIn (refused k l) = some (k, l)
 
 -- the index holds the nodes of the tree, if there is one
 abbrev pub IndexOf : Str → Admitted → List ℕ → Type 0

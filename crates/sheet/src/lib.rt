@@ -10,9 +10,9 @@ ghost use lib.ListN.{length, drop, take, set};
 ghost use Rattle.row.specs.Rows.{rows, size};
 ghost use Rattle.tree.specs.Read.{among, readNode, readNodes, admitted};
 ghost use Rattle.nodes.specs.Index.{indexSize};
-ghost use Rattle.sheet.specs.Admission.{verdict, IndexOf, walkedWith, Flagged, Room, groupsAfter, leftAfter, Turned};
+ghost use Rattle.sheet.specs.Admission.{answerNumbers, refusalIn, IndexOf, walkedWith, Flagged, Room, groupsAfter};
 ghost use Rattle.sheet.specs.Admission.{MarkRoom, withMark, nextMark, ParamsRead, Ready, Begun, refusedRun, membersHere};
-ghost use Rattle.sheet.specs.Admission.{NodeRead, NodesRead};
+ghost use Rattle.sheet.specs.Admission.{leftAfter, Turned, NodeRead, NodesRead};
 
 // What a sheet is: one that document 01 admits, or one with a refusal at a line.
 pub enum Answer {
@@ -374,7 +374,7 @@ fn all_nodes(s: &[u8], index: &mut [u64], from: usize) -> Walk
 // Whether a sheet is admitted: one R row, then the nodes. Their index is put into `index`, if there is room for that of a sheet
 // of this length; `nodes::INDEX_SIZE` numbers are room enough for any sheet.
 pub fn admit(s: &[u8], index: &mut [u64]) -> Answer
-    ensures answer { λ r. ⌜ r ≡ verdict (admitted (now (s .entry))) ⌝ }
+    ensures answer { λ r. ⌜ answerNumbers r ≡ refusalIn (admitted (now (s .entry))) ⌝ }
     ensures index { λ r. ⌜ (indexSize (length (now (s .entry))) ≤ length (now (index .entry))
         → IndexOf (now (s .entry)) (admitted (now (s .entry))) (now (index .exit))) ⌝ }
 {

@@ -7,7 +7,7 @@ use native.Mathlib.Numerals.{add-one}
 use lib.ListN.{set, length, drop, getD, length-set}
 use lib.Seq.{drop-cons}
 use Rattle.text.specs.Bytes.{unit}
-use Rattle.text.specs.Text.{next, adv, put, Wrote}
+use Rattle.text.specs.Text.{next, adv, put, Wrote, WroteSome}
 use Rattle.text.specs.declared.Text.{Text}
 
 infixl 50 _⨾_
@@ -37,6 +37,19 @@ e ⨾ f = record {
 -- the buffer keeps its length
 pub kept : {l : List ℕ} {t : Text} {a l₁ : List ℕ} {t₁ : Text} → Wrote l t a l₁ t₁ → length l₁ ≡ length l
 kept {l} {t} {a} e = rw (e .bytes) (length-put l t a)
+
+-- some text: a text that is known, none, and one after another
+pub some-text : {l : List ℕ} {t : Text} {a l₁ : List ℕ} {t₁ : Text} → Wrote l t a l₁ t₁ → WroteSome l t l₁ t₁
+some-text {a = a} e = record { text = a; wrote = e }
+
+pub no-text : {l : List ℕ} {t : Text} → WroteSome l t l t
+unfolding put adv
+no-text = record { text = []; wrote = record { bytes = refl; state = refl } }
+
+infixl 50 _⨟_
+pub _⨟_ : {l : List ℕ} {t : Text} {l₁ : List ℕ} {t₁ : Text} {l₂ : List ℕ} {t₂ : Text} → WroteSome l t l₁ t₁
+    → WroteSome l₁ t₁ l₂ t₂ → WroteSome l t l₂ t₂
+e ⨟ f = some-text (e .wrote ⨾ f .wrote)
 
 -- for loops: what is left, s at t into l, makes what the whole, s₀ at t₀ into l₀, makes
 pub record Left (l : List ℕ) (t : Text) (s l₀ : List ℕ) (t₀ : Text) (s₀ : List ℕ) : Type 0 where

@@ -27,3 +27,8 @@ put l t (x ∷ xs) = put (set l (t .at) x) (next t) xs
 pub record Wrote (l : List ℕ) (t : Text) (s : List ℕ) (l′ : List ℕ) (t′ : Text) : Type 0 where
   pub bytes : l′ ≡ put l t s
   pub state : t′ ≡ adv t s
+
+-- some text, written at t into l, leaves l′ and t′: no byte before the fill count changes, and the count does not fall
+pub record WroteSome (l : List ℕ) (t : Text) (l′ : List ℕ) (t′ : Text) : Type 0 where
+  pub text : List ℕ
+  pub wrote : Wrote l t text l′ t′

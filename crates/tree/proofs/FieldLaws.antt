@@ -8,20 +8,19 @@ use native.Mathlib.Omega.{arith}
 use lib.ListN.{length}
 use Rattle.text.specs.Bytes.{Str, cond}
 use Rattle.row.specs.Rows.{restOf}
-use Rattle.row.specs.Line.{lineOf, lineAt, textAt, asField, asGroup}
-use Rattle.row.specs.declared.Line.{Line}
+use Rattle.row.specs.Line.{Content, lineOf, lineAt, textAt, asField, asGroup}
 use Rattle.tree.specs.Tree.{Field, slot, group}
 use Rattle.tree.specs.Reader.{Rows, Reading, got, no, Reader, _then_, mapR, onGroup}
 use Rattle.tree.specs.Read.{readSlot, field, readField, isField, groupId, overlap, fieldsFrom, fieldsUpTo, readFields}
 use Rattle.tree.proofs.TailLaws.{Tail, here, Leaves, left, none, tail-length, leaves-map, leaves-slot}
-use Rattle.row.specs.declared.Line.the-variants as line
+use Rattle.row.specs.Line as line
 
 -- a field has a row of its own
 pub leaves-field : (r : Str) (rs : Rows) → Leaves rs (readField (r ∷ rs))
 unfolding readField lineAt restOf
 leaves-field r rs = by-field (lineOf r)
   where
-    by-group : (l : Line) → Leaves rs (asGroup {A = Reader Field} l
+    by-group : (l : Content) → Leaves rs (asGroup {A = Reader Field} l
         (λ i d rs. got (field (textAt rs) d (group i)) (restOf rs)) (no 2) (r ∷ rs))
     by-group line.Root = none
     by-group (line.Node a b c d e f g) = none
@@ -35,7 +34,7 @@ leaves-field r rs = by-field (lineOf r)
     by-group (line.Word a) = none
     by-group line.Bad = none
 
-    by-field : (l : Line) → Leaves rs (asField {A = Reader Field} l
+    by-field : (l : Content) → Leaves rs (asField {A = Reader Field} l
         (λ o d e p rs. mapR (λ sl. field (textAt rs) d (slot sl)) (readSlot o e p) (restOf rs))
         (onGroup (λ i d name. got (field name d (group i))) (no 2))
         (r ∷ rs))

@@ -1,5 +1,5 @@
--- A line of one letter is no line of another: where a `match` leaves a letter out, its reader takes the other way.
--- Assumes nothing.
+-- A line of one letter is no line of another: where a `match` on what the code says of a row leaves a letter out, that letter's
+-- reader takes the other way. Assumes nothing.
 use mathlib.Core.Path.{_≡_, refl}
 use mathlib.Core.Bool.{false}
 use mathlib.Core.List.{[], _∷_}
@@ -8,13 +8,14 @@ use native.Mathlib.Omega.{arith}
 use types.Run.{OneOf, miss}
 use denote.Enum.Declared.{tagOf}
 use Rattle.row.proofs.Line.{the-type}
-use Rattle.row.specs.Line.{asRoot, asNode, asParameter, asField, asType, asScope, asUnbound, asValue, asWord}
+use Rattle.row.specs.Line.{lineSaid, asRoot, asNode, asParameter, asField, asType, asScope, asUnbound, asValue, asWord}
 use Rattle.tree.specs.Read.{isField}
 use Rattle.row.specs.declared.Line.{Line}
 use Rattle.row.specs.declared.Line.the-variants.{Root, Node, Parameter, Field, Group, Typ, Scope, Unbound, Value, Word, Bad}
 
 pub not-root : {A : Type 0} (l : Line) (y : A) (z : A) → OneOf (1 ∷ 2 ∷ 3 ∷ 4 ∷ 5 ∷ 6 ∷ 7 ∷ 8 ∷ 9 ∷ 10 ∷ [])
-    (tagOf the-type l) → asRoot l y z ≡ z
+    (tagOf the-type l) → asRoot (lineSaid l) y z ≡ z
+unfolding lineSaid
 not-root Root y z h = absurd (miss (1 ∷ 2 ∷ 3 ∷ 4 ∷ 5 ∷ 6 ∷ 7 ∷ 8 ∷ 9 ∷ 10 ∷ []) 0 tt h)
 not-root (Node a b c d e f g) y z h = refl
 not-root Parameter y z h = refl
@@ -28,7 +29,8 @@ not-root (Word a) y z h = refl
 not-root Bad y z h = refl
 
 pub not-node : {A : Type 0} (l : Line) (y : (ℕ → ℕ → ℕ → ℕ → ℕ → ℕ → ℕ → A)) (z : A) → OneOf
-    (0 ∷ 2 ∷ 3 ∷ 4 ∷ 5 ∷ 6 ∷ 7 ∷ 8 ∷ 9 ∷ 10 ∷ []) (tagOf the-type l) → asNode l y z ≡ z
+    (0 ∷ 2 ∷ 3 ∷ 4 ∷ 5 ∷ 6 ∷ 7 ∷ 8 ∷ 9 ∷ 10 ∷ []) (tagOf the-type l) → asNode (lineSaid l) y z ≡ z
+unfolding lineSaid
 not-node Root y z h = refl
 not-node (Node a b c d e f g) y z h = absurd (miss (0 ∷ 2 ∷ 3 ∷ 4 ∷ 5 ∷ 6 ∷ 7 ∷ 8 ∷ 9 ∷ 10 ∷ []) 1 tt h)
 not-node Parameter y z h = refl
@@ -42,7 +44,8 @@ not-node (Word a) y z h = refl
 not-node Bad y z h = refl
 
 pub not-parameter : {A : Type 0} (l : Line) (y : A) (z : A) → OneOf (0 ∷ 1 ∷ 3 ∷ 4 ∷ 5 ∷ 6 ∷ 7 ∷ 8 ∷ 9 ∷ 10 ∷ [])
-    (tagOf the-type l) → asParameter l y z ≡ z
+    (tagOf the-type l) → asParameter (lineSaid l) y z ≡ z
+unfolding lineSaid
 not-parameter Root y z h = refl
 not-parameter (Node a b c d e f g) y z h = refl
 not-parameter Parameter y z h = absurd (miss (0 ∷ 1 ∷ 3 ∷ 4 ∷ 5 ∷ 6 ∷ 7 ∷ 8 ∷ 9 ∷ 10 ∷ []) 2 tt h)
@@ -56,7 +59,8 @@ not-parameter (Word a) y z h = refl
 not-parameter Bad y z h = refl
 
 pub not-field : {A : Type 0} (l : Line) (y : (ℕ → ℕ → ℕ → ℕ → A)) (z : A) → OneOf
-    (0 ∷ 1 ∷ 2 ∷ 4 ∷ 5 ∷ 6 ∷ 7 ∷ 8 ∷ 9 ∷ 10 ∷ []) (tagOf the-type l) → asField l y z ≡ z
+    (0 ∷ 1 ∷ 2 ∷ 4 ∷ 5 ∷ 6 ∷ 7 ∷ 8 ∷ 9 ∷ 10 ∷ []) (tagOf the-type l) → asField (lineSaid l) y z ≡ z
+unfolding lineSaid
 not-field Root y z h = refl
 not-field (Node a b c d e f g) y z h = refl
 not-field Parameter y z h = refl
@@ -70,7 +74,8 @@ not-field (Word a) y z h = refl
 not-field Bad y z h = refl
 
 pub not-type : {A : Type 0} (l : Line) (y : (ℕ → ℕ → ℕ → ℕ → A)) (z : A) → OneOf (0 ∷ 1 ∷ 2 ∷ 3 ∷ 4 ∷ 6 ∷ 7 ∷ 8 ∷ 9 ∷ 10 ∷ [])
-    (tagOf the-type l) → asType l y z ≡ z
+    (tagOf the-type l) → asType (lineSaid l) y z ≡ z
+unfolding lineSaid
 not-type Root y z h = refl
 not-type (Node a b c d e f g) y z h = refl
 not-type Parameter y z h = refl
@@ -84,7 +89,8 @@ not-type (Word a) y z h = refl
 not-type Bad y z h = refl
 
 pub not-scope : {A : Type 0} (l : Line) (y : (ℕ → ℕ → ℕ → A)) (z : A) → OneOf (0 ∷ 1 ∷ 2 ∷ 3 ∷ 4 ∷ 5 ∷ 7 ∷ 8 ∷ 9 ∷ 10 ∷ [])
-    (tagOf the-type l) → asScope l y z ≡ z
+    (tagOf the-type l) → asScope (lineSaid l) y z ≡ z
+unfolding lineSaid
 not-scope Root y z h = refl
 not-scope (Node a b c d e f g) y z h = refl
 not-scope Parameter y z h = refl
@@ -98,7 +104,8 @@ not-scope (Word a) y z h = refl
 not-scope Bad y z h = refl
 
 pub not-unbound : {A : Type 0} (l : Line) (y : A) (z : A) → OneOf (0 ∷ 1 ∷ 2 ∷ 3 ∷ 4 ∷ 5 ∷ 6 ∷ 8 ∷ 9 ∷ 10 ∷ [])
-    (tagOf the-type l) → asUnbound l y z ≡ z
+    (tagOf the-type l) → asUnbound (lineSaid l) y z ≡ z
+unfolding lineSaid
 not-unbound Root y z h = refl
 not-unbound (Node a b c d e f g) y z h = refl
 not-unbound Parameter y z h = refl
@@ -112,7 +119,8 @@ not-unbound (Word a) y z h = refl
 not-unbound Bad y z h = refl
 
 pub not-value : {A : Type 0} (l : Line) (y : (ℕ → ℕ → A)) (z : A) → OneOf (0 ∷ 1 ∷ 2 ∷ 3 ∷ 4 ∷ 5 ∷ 6 ∷ 7 ∷ 9 ∷ 10 ∷ [])
-    (tagOf the-type l) → asValue l y z ≡ z
+    (tagOf the-type l) → asValue (lineSaid l) y z ≡ z
+unfolding lineSaid
 not-value Root y z h = refl
 not-value (Node a b c d e f g) y z h = refl
 not-value Parameter y z h = refl
@@ -126,7 +134,8 @@ not-value (Word a) y z h = refl
 not-value Bad y z h = refl
 
 pub not-word : {A : Type 0} (l : Line) (y : (ℕ → A)) (z : A) → OneOf (0 ∷ 1 ∷ 2 ∷ 3 ∷ 4 ∷ 5 ∷ 6 ∷ 7 ∷ 8 ∷ 10 ∷ [])
-    (tagOf the-type l) → asWord l y z ≡ z
+    (tagOf the-type l) → asWord (lineSaid l) y z ≡ z
+unfolding lineSaid
 not-word Root y z h = refl
 not-word (Node a b c d e f g) y z h = refl
 not-word Parameter y z h = refl
@@ -140,7 +149,8 @@ not-word (Word a) y z h = absurd (miss (0 ∷ 1 ∷ 2 ∷ 3 ∷ 4 ∷ 5 ∷ 6 �
 not-word Bad y z h = refl
 
 -- a line that is neither F nor G
-pub not-a-field : (l : Line) → OneOf (0 ∷ 1 ∷ 2 ∷ 5 ∷ 6 ∷ 7 ∷ 8 ∷ 9 ∷ 10 ∷ []) (tagOf the-type l) → isField l ≡ false
+pub not-a-field : (l : Line) → OneOf (0 ∷ 1 ∷ 2 ∷ 5 ∷ 6 ∷ 7 ∷ 8 ∷ 9 ∷ 10 ∷ []) (tagOf the-type l) → isField (lineSaid l) ≡ false
+unfolding lineSaid
 not-a-field Root h = refl
 not-a-field (Node a b c d e f g) h = refl
 not-a-field Parameter h = refl

@@ -9,7 +9,7 @@ use types.Run.{OneOf}
 use denote.Enum.Declared.{tagOf}
 use Rattle.row.proofs.Line.{the-type}
 use Rattle.row.specs.Rows.{restOf}
-use Rattle.row.specs.Line.{lineAt}
+use Rattle.row.specs.Line.{lineSaid, lineAt}
 use Rattle.row.specs.declared.Line.{Line}
 use Rattle.tree.specs.Tree.{Ty, Value, Slot}
 use Rattle.tree.specs.Reader.{Rows, Reading, got, no, Reader, _then_, mapR, onWord}
@@ -47,10 +47,11 @@ slot-passed o e p rs = passed-then (readType 16 rs) _ _ (λ t vs. go t (valueOf 
 pub slot-type : (o e p k : ℕ) (rs q : Rows) → no k q ≡ passed (readType 16 rs) → no k q ≡ passed (readSlot o e p rs)
 slot-type o e p k rs q h = sym (slot-passed o e p rs ∙ rw (← h))
 
--- the first row's line l, and the rows after it
-module _ (rs rest : Rows) (l : Line) (here : l ≡ lineAt rs) (after : rest ≡ restOf rs) where
+-- what the code says of the first row, and the rows after it
+module _ (rs rest : Rows) (l : Line) (here : lineSaid l ≡ lineAt rs) (after : rest ≡ restOf rs) where
   pub words-on :
       (n w : ℕ) → 0 < n → l ≡ line.Word w → passed (readWordsUpTo n rs) ≡ passed (readWordsUpTo (n - 1) rest)
+  unfolding lineSaid
   words-on n w h i = rw (words-more n rs h, ← here, i, ← after) (passed-map _ (readWordsUpTo (n - 1) rest))
 
   pub words-stop :
@@ -61,7 +62,7 @@ module _ (rs rest : Rows) (l : Line) (here : l ≡ lineAt rs) (after : rest ≡ 
   module _ (has : Bool) (is : has ≡ true) where
     pub words-first :
         (w : Reading (Unit {0})) (x : ℕ) → l ≡ line.Word x → w ≡ passed (readWordsUpTo 254 rest) → w ≡ passed (readWords has rs)
-    unfolding readWords
+    unfolding lineSaid readWords
     words-first w x i e = e ∙ sym (rw (is, ← here, i, ← after) (passed-map _ (readWordsUpTo 254 rest)))
 
     pub words-missing :
@@ -79,7 +80,7 @@ module _ (rs rest : Rows) (l : Line) (here : l ≡ lineAt rs) (after : rest ≡ 
     pub slot-words :
         (w : Reading (Unit {0})) (k b : ℕ) (has : Bool) → l ≡ line.Value k b → has ≡ hasWords e k
         → w ≡ passed (readWords has rest) → w ≡ passed (readSlot o e p from)
-    unfolding afterType valueOf
+    unfolding lineSaid afterType valueOf
     slot-words w k b has i m h = h ∙ sym (slot-passed o e p from ∙ rw (← ended, ← here, i, ← after, ← m))
 
 pub words-absent : (has : Bool) (rs : Rows) → has ≡ false → got tt rs ≡ passed (readWords has rs)

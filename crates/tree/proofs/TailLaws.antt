@@ -9,8 +9,7 @@ use lib.ListN.{length}
 use lib.Dec.{eqb, ltb}
 use Rattle.text.specs.Bytes.{Str, cond}
 use Rattle.row.specs.Rows.{restOf, size}
-use Rattle.row.specs.Line.{lineAt, cases}
-use Rattle.row.specs.declared.Line.{Line}
+use Rattle.row.specs.Line.{Content, lineAt, cases}
 use Rattle.tree.specs.Tree.{Ty, end, inherit, bind, stop, unbound, bound, Field}
 use Rattle.tree.specs.Reader.{Rows, Reading, got, no, Reader, _then_, mapR, times, onType, onScope}
 use Rattle.tree.specs.Reader.{onUnbound, onValue, onWord}
@@ -18,7 +17,7 @@ use Rattle.tree.specs.Read.{readBinding, readScope, typeFrom, readType, 
 use Rattle.tree.specs.Read.{readSlot}
 use Rattle.tree.specs.Walked.{passed}
 use Rattle.tree.proofs.OtherLines.{never}
-use Rattle.row.specs.declared.Line.the-variants as line
+use Rattle.row.specs.Line as line
 
 -- the first rows are the last of the second
 pub data Tail : Rows → Rows → Type 0 where
@@ -83,7 +82,7 @@ leaves-cases :
     → Left rs r → ((i q k x y c o : ℕ) → Left rs (n i q k x y c o)) → Left rs p → ((o d e q : ℕ) → Left rs (f o d e q))
     → ((i d : ℕ) → Left rs (g i d)) → ((k a b c : ℕ) → Left rs (t k a b c)) → ((i b c : ℕ) → Left rs (s i b c)) → Left rs u
     → ((k b : ℕ) → Left rs (v k b)) → ((x : ℕ) → Left rs (w x)) → Left rs z
-    → (l : Line) → Left rs (cases r n p f g t s u v w z l)
+    → (l : Content) → Left rs (cases r n p f g t s u v w z l)
 leaves-cases rs _ _ _ _ _ _ _ _ _ _ _ h _ _ _ _ _ _ _ _ _ _ line.Root = h
 leaves-cases rs _ _ _ _ _ _ _ _ _ _ _ _ h _ _ _ _ _ _ _ _ _ (line.Node a b c d e f g) = h a b c d e f g
 leaves-cases rs _ _ _ _ _ _ _ _ _ _ _ _ _ h _ _ _ _ _ _ _ _ line.Parameter = h

@@ -12,7 +12,7 @@ use denote.Enum.Declared.{tagOf}
 use Rattle.text.specs.Bytes.{Str}
 use Rattle.row.proofs.Line.{the-type}
 use Rattle.row.specs.Rows.{rows, restOf}
-use Rattle.row.specs.Line.{lineAt}
+use Rattle.row.specs.Line.{lineSaid, lineAt}
 use Rattle.row.specs.declared.Line.{Line}
 use Rattle.row.specs.declared.Line.the-variants.{Typ, Scope, Unbound}
 use Rattle.tree.specs.Tree.{Ty, end, stop}
@@ -64,11 +64,11 @@ module _ {A : Type 0} (one : Reader (A → A)) (none : A) (s : Str) where
       → passed (times one none n (rows (drop at s))) ≡ no k (rows (drop q s))
   times-stop n at k q r h e i = times-more n (rows (drop at s)) h ∙ rw (← e, i)
 
--- the first row's line l, and the rows after it
-module _ (rs rest : Rows) (l : Line) (here : l ≡ lineAt rs) (after : rest ≡ restOf rs) where
+-- what the code says of the first row, and the rows after it
+module _ (rs rest : Rows) (l : Line) (here : lineSaid l ≡ lineAt rs) (after : rest ≡ restOf rs) where
   module _ (ty : Reader Ty) where
     pub binding-unbound : l ≡ Unbound → got tt rest ≡ passed (readBinding ty rs)
-    unfolding readBinding
+    unfolding lineSaid readBinding
     binding-unbound i = rw (← here, i, ← after)
 
     pub binding-type :
@@ -79,12 +79,12 @@ module _ (rs rest : Rows) (l : Line) (here : l ≡ lineAt rs) (after : rest ≡ 
 
     module _ (i b n : ℕ) (is : l ≡ Scope i b n) where
       pub scope-inherit : b ≡ 0 → got tt rest ≡ passed (readScope ty rs)
-      unfolding readScope
+      unfolding lineSaid readScope
       scope-inherit h = rw (← here, is, eq-eqb b 0 h, ← after)
 
       pub scope-bind :
           (w : Reading (Unit {0})) → (b ≡ 0 → ⊥) → w ≡ passed (times (readBinding ty) stop n rest) → w ≡ passed (readScope ty rs)
-      unfolding readScope
+      unfolding lineSaid readScope
       scope-bind w h e = e ∙ sym (rw (← here, is, ne-eqb b 0 h, ← after) (passed-map _ (times (readBinding ty) stop n rest)))
 
     pub scope-other :
@@ -112,10 +112,11 @@ module _ (rs rest : Rows) (l : Line) (here : l ≡ lineAt rs) (after : rest ≡ 
 
     module _ (k a b c : ℕ) (is : l ≡ Typ k a b c) where
       pub type-deep : left ≡ 0 → no 4 rs ≡ passed (readType left rs)
-      unfolding readType
+      unfolding lineSaid readType
       type-deep h = rw (h, ← here, is)
 
       type-here : (left ≡ 0 → ⊥) → readType left rs ≡ typeFrom (readType (left - 1)) k a b c rest
+      unfolding lineSaid
       type-here h = typeOf-more h ∙ rw (← here, is, ← after)
 
       pub type-plain : (left ≡ 0 → ⊥) → k < 14 → got tt rest ≡ passed (readType left rs)

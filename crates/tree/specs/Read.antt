@@ -8,8 +8,7 @@ use lib.Dec.{eqb, ltb}
 use lib.ListN.{length}
 use Rattle.text.specs.Bytes.{Str, unit, cond, both, either}
 use Rattle.row.specs.Rows.{rows, lineNo}
-use Rattle.row.specs.Line.{lineAt, asField, asGroup}
-use Rattle.row.specs.declared.Line.{Line}
+use Rattle.row.specs.Line.{Content, lineAt, asField, asGroup}
 use Rattle.tree.specs.Tree.{Ty, plain, list, enum, struct, interface, anyPointer, parameter}
 use Rattle.tree.specs.Tree.{Scopes, end, inherit, bind, Binds, stop, unbound, bound}
 use Rattle.tree.specs.Tree.{Value, Slot, Arm, slot, group, Field, Node, Sheet}
@@ -81,7 +80,7 @@ abbrev pub field : Str → ℕ → Arm → Field
 field name d arm = record { name = name; discriminant = d; arm = arm }
 
 -- whether a line is an F or a G
-abbrev pub isField : Line → Bool
+abbrev pub isField : Content → Bool
 isField l = asField l (λ o d e p. true) (asGroup l (λ i d. true) false)
 
 -- a field: an F line and what belongs to it, or a G line

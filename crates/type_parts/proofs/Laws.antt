@@ -15,9 +15,8 @@ use Rattle.text.specs.Text.{put, adv, Wrote}
 use Rattle.text.specs.declared.Text.{Text}
 use Rattle.text.proofs.Laws.{_⨾_}
 use Rattle.row.specs.Rows.{rows, restOf}
-use Rattle.row.specs.Line.{lineOf, textOf, textAt, asParameter}
-use Rattle.row.specs.declared.Line.{Line}
-use Rattle.row.specs.declared.Line.the-variants as line
+use Rattle.row.specs.Line as line
+use Rattle.row.specs.Line.{Content, lineOf, textOf, textAt, asParameter}
 use Rattle.tree.specs.Tree.{Node, Sheet, parameter}
 use Rattle.tree.specs.Reader.{Rows}
 use Rattle.codegen_types.specs.TypeString.{typeString, getQualifiedModule, parameterName, parameterString, angled}
@@ -26,8 +25,7 @@ use Rattle.codegen_types.specs.declared.Leaf.{Leaf}
 use Rattle.codegen_types.specs.declared.Leaf.the-variants.{Reader, Builder, Owned, Client, Server, ServerDispatch, Pipeline}
 use Rattle.codegen_types.specs.declared.Leaf.the-variants.{GetType}
 use Rattle.codegen_types.specs.Out.{Out, ok, refused, orRefused, _then_}
-use Rattle.codegen_types.specs.declared.Refusal.the-variants.{None, Number}
-use Rattle.codegen_types.specs.Written.{Writes}
+use Rattle.codegen_types.specs.Written.{Writes, refusalNumber}
 use Rattle.codegen_types.specs.declared.Written.{Written}
 use Rattle.codegen_types.proofs.WrittenLaws.{ok-one, not-ok}
 use Rattle.codegen_types.proofs.NodeLaws.{node-missing, node-there, parameter-named}
@@ -37,7 +35,7 @@ use Rattle.nodes.specs.declared.Found.{Found}
 use Rattle.nodes.specs.declared.Found.the-variants as found
 use Rattle.nodes.specs.declared.Position.{Position}
 use Rattle.nodes.specs.declared.Position.the-variants as position
-use Rattle.type_parts.specs.Parts.{listed, sepAfter, closer, Listed, Lists, Opened}
+use Rattle.type_parts.specs.Parts.{listed, sepAfter, closer, textsOf, Listed, Lists, Opened}
 use Rattle.type_parts.specs.declared.Arguments.{Arguments}
 use Rattle.type_parts.specs.declared.Argued.{Argued}
 
@@ -124,13 +122,13 @@ listed-cons {ws = ws} a h = record { text = a ⨾ h .text; sep = h .sep ∙ last
 
 -- arguments that are not refused, and a refusal
 pub all-listed : {l : List ℕ} {p : Arguments} {ws : List Str} {l′ : List ℕ} {r : Argued} → Listed l p ws l′ (r .arguments)
-    → r .refusal ≡ None → Lists (ok ws) l p l′ r
+    → refusalNumber (r .refusal) ≡ none → Lists (ok ws) l p l′ r
 all-listed {l} {p} {ws} {l′} {r} h n = record {
   refusal = n;
   listed = λ v e. subst (λ (x : List Str). Listed l p x l′ (r .arguments)) (ok-one e) h;
 }
 
-pub not-listed : {l : List ℕ} {p : Arguments} {k : ℕ} {l′ : List ℕ} {r : Argued} → r .refusal ≡ Number k
+pub not-listed : {l : List ℕ} {p : Arguments} {k : ℕ} {l′ : List ℕ} {r : Argued} → refusalNumber (r .refusal) ≡ some k
     → Lists (refused k) l p l′ r
 not-listed n = record { refusal = n; listed = λ ws e. absurd (not-ok e) }
 
@@ -144,7 +142,7 @@ unfolding namesOf textAt restOf
 names-on [] h = let z : ⊥ = omega arith in absurd z
 names-on (r ∷ rs) h = go (lineOf r) h
   where
-    go : (l : Line) → 0 < length (asParameter l (textOf r ∷ namesOf rs) [])
+    go : (l : Content) → 0 < length (asParameter l (textOf r ∷ namesOf rs) [])
         → asParameter l (textOf r ∷ namesOf rs) [] ≡ textOf r ∷ namesOf rs
     go line.Parameter h = refl
     go line.Root h = let z : ⊥ = omega arith in absurd z
@@ -158,34 +156,29 @@ names-on (r ∷ rs) h = go (lineOf r) h
     go (line.Word x) h = let z : ⊥ = omega arith in absurd z
     go line.Bad h = let z : ⊥ = omega arith in absurd z
 
--- the loop over a node's parameters: n names are left from a position on, and whatever they make of what is written, all names
--- make of the start
-pub record Naming (s : Str) (from count : ℕ) (l : List ℕ) (p : Arguments) (at n : ℕ) (l₁ : List ℕ) (p₁ : Arguments) : Type 0 where
-  pub left : count ≡ length (namesOf (rows (drop from s))) → n ≡ length (namesOf (rows (drop at s)))
-  pub all : count ≡ length (namesOf (rows (drop from s))) → (l′ : List ℕ) (p′ : Arguments)
-      → Listed l₁ p₁ (namesOf (rows (drop at s))) l′ p′ → Listed l p (namesOf (rows (drop from s))) l′ p′
+-- rows' texts, one after the other; they are a node's names where they are as many
+pub texts-none : (n : ℕ) (rs : Rows) → n ≤ 0 → textsOf n rs ≡ []
+unfolding textsOf
+texts-none zero rs h = refl
+texts-none (suc n) rs h = let z : ⊥ = omega arith in absurd z
 
-module _ (s : Str) (from count : ℕ) (l : List ℕ) (p : Arguments) where
-  pub naming-start : Naming s from count l p from count l p
-  naming-start = record { left = λ h. h; all = λ h l′ p′ w. w }
+pub texts-on : (n : ℕ) (rs rest : Rows) (name : Str) → 0 < n → rest ≡ restOf rs → name ≡ textAt rs
+    → textsOf n rs ≡ name ∷ textsOf (n - 1) rest
+unfolding textsOf
+texts-on zero rs rest name h e f = let z : ⊥ = omega arith in absurd z
+texts-on (suc n) rs rest name h e f = rw (e, f, sub-one (suc n)) refl
 
-  module _ (at n : ℕ) (l₁ : List ℕ) (p₁ : Arguments) (w : Naming s from count l p at n l₁ p₁) where
-    pub naming-end : n ≤ 0 → count ≡ length (namesOf (rows (drop from s))) → Listed l p (namesOf (rows (drop from s))) l₁ p₁
-    naming-end h c = (w .all) c l₁ p₁ (rw (none (namesOf (rows (drop at s))) (omega (arith, (w .left) c))) (listed-none l₁ p₁))
-      where
-        none : (ws : List Str) → length ws ≤ 0 → ws ≡ []
-        none [] z = refl
-        none (v ∷ ws) z = let y : ⊥ = omega arith in absurd y
+no-names : (ws : List Str) → 0 ≡ length ws → ws ≡ []
+no-names [] h = refl
+no-names (w ∷ ws) h = let z : ⊥ = omega arith in absurd z
 
-    pub naming-next : 0 < n → (next : ℕ) → rows (drop next s) ≡ restOf (rows (drop at s)) → (name l₂ : List ℕ) (t : Text)
-        → name ≡ textAt (rows (drop at s)) → Wrote l₁ (p₁ .text) (unit (p₁ .sep) ++ name) l₂ t
-        → Naming s from count l p next (n - 1) l₂ (args t 44)
-    naming-next h next e name l₂ t named a = record {
-      left = λ c. let z : n ≡ suc (length (namesOf (rows (drop next s)))) = (w .left) c
-          ∙ rw (names-on (rows (drop at s)) (omega (arith, (w .left) c)), e) refl in omega arith;
-      all = λ c l′ p′ v. (w .all) c l′ p′ (rw (names-on (rows (drop at s)) (omega (arith, (w .left) c)), ← named, ← e)
-          (listed-cons a v));
-    }
+pub texts-names : (n : ℕ) (rs : Rows) → n ≡ length (namesOf rs) → textsOf n rs ≡ namesOf rs
+unfolding textsOf
+texts-names zero rs h = sym (no-names (namesOf rs) h)
+texts-names (suc n) rs h =
+    let on = names-on rs (omega arith) in
+    let z : suc n ≡ suc (length (namesOf (restOf rs))) = h ∙ ap (λ (ws : List Str). length ws) on in
+    rw on (ap (λ (ws : List Str). textAt rs ∷ ws) (texts-names n (restOf rs) (omega arith)))
 
 -- one more of the same
 pub replicate-on : (w : Str) (n : ℕ) → 0 < n → replicate n w ≡ w ∷ replicate (n - 1) w
@@ -213,10 +206,9 @@ sep-append b [] y = refl
 sep-append b (w ∷ x) [] = refl
 sep-append b (w ∷ x) (v ∷ y) = refl
 
-infixl 50 _⨟_
-pub _⨟_ : {l : List ℕ} {p : Arguments} {x : List Str} {l₁ : List ℕ} {p₁ : Arguments} {y : List Str} {l₂ : List ℕ}
+pub listed-both : {l : List ℕ} {p : Arguments} {x : List Str} {l₁ : List ℕ} {p₁ : Arguments} {y : List Str} {l₂ : List ℕ}
     {p₂ : Arguments} → Listed l p x l₁ p₁ → Listed l₁ p₁ y l₂ p₂ → Listed l p (x ++ y) l₂ p₂
-_⨟_ {p = p} {x = x} {y = y} a b = record {
+listed-both {p = p} {x = x} {y = y} a b = record {
   text = rw (listed-append (p .sep) x y, ← a .sep) (a .text ⨾ b .text);
   sep = rw (sep-append (p .sep) x y, ← a .sep) (b .sep);
 }

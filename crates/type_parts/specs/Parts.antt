@@ -1,12 +1,15 @@
 -- What the writers of a brand leave: its arguments, each after `<` or a comma, or their refusal. Assumes nothing.
 use mathlib.Core.Path.{_≡_}
 use mathlib.Core.List.{List, [], _∷_, _++_}
-use Prim.Native.Nat.{ℕ}
+use Prim.Native.Nat.{ℕ, zero, suc}
 use lib.Dec.{eqb}
 use Rattle.text.specs.Bytes.{Str, ascii, unit, cond}
 use Rattle.text.specs.Text.{Wrote}
 use Rattle.text.specs.declared.Text.{Text}
+use Rattle.row.specs.Rows.{restOf}
+use Rattle.row.specs.Line.{textAt}
 use Rattle.codegen_types.specs.Out.{Out, ok, refusalOf}
+use Rattle.codegen_types.specs.Written.{refusalNumber}
 use Rattle.codegen_types.specs.Leaf.{bareName, maybeColons, leafArguments}
 use Rattle.codegen_types.specs.declared.Leaf.{Leaf}
 use Rattle.type_parts.specs.declared.Arguments.{Arguments}
@@ -26,6 +29,11 @@ sepAfter b (w ∷ ws) = 44
 abbrev pub closer : ℕ → Str
 closer b = cond (eqb b 44) (ascii ">") []
 
+-- the texts of the first n rows
+unfoldable pub textsOf : ℕ → List Str → List Str
+textsOf zero rs = []
+textsOf (suc n) rs = textAt rs ∷ textsOf n (restOf rs)
+
 -- the arguments ws, written after those of p into l
 pub record Listed (l : List ℕ) (p : Arguments) (ws : List Str) (l′ : List ℕ) (p′ : Arguments) : Type 0 where
   pub text : Wrote l (p .text) (listed (p .sep) ws) l′ (p′ .text)
@@ -33,7 +41,7 @@ pub record Listed (l : List ℕ) (p : Arguments) (ws : List Str) (l′ : List �
 
 -- arguments that the Rust gives, written after those of p into l: their refusal, or all of them
 pub record Lists (o : Out (List Str)) (l : List ℕ) (p : Arguments) (l′ : List ℕ) (r : Argued) : Type 0 where
-  pub refusal : r .refusal ≡ refusalOf o
+  pub refusal : refusalNumber (r .refusal) ≡ refusalOf o
   pub listed : (ws : List Str) → o ≡ ok ws → Listed l p ws l′ (r .arguments)
 
 -- a brand's text between its module and its arguments, and the leaf's own argument

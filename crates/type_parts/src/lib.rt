@@ -10,18 +10,18 @@ use terms::refusals;
 use text::Text;
 ghost use mathlib.Core.Path.{_≡_};
 ghost use mathlib.Core.List.{_++_};
-ghost use lib.ListN.{drop, length, replicate};
+ghost use lib.ListN.{drop, replicate};
 ghost use Rattle.text.specs.Bytes.{Str, ascii};
-ghost use Rattle.text.specs.Text.{Wrote};
+ghost use Rattle.text.specs.Text.{Wrote, WroteSome};
 ghost use Rattle.row.specs.Rows.{rows};
 ghost use Rattle.tree.specs.Tree.{parameter};
-ghost use Rattle.nodes.specs.Index.{namesOf, ForAll};
+ghost use Rattle.nodes.specs.Index.{ForAll};
 ghost use Rattle.codegen_types.specs.Out.{ok};
 ghost use Rattle.codegen_types.specs.Written.{Writes};
 ghost use Rattle.codegen_types.specs.Leaf.{display, bareName, lifetimeComma};
 ghost use Rattle.codegen_types.specs.TypeString.{plainString, listModule};
 ghost use Rattle.codegen_types.specs.TypeString.{anyOwned, parameterString, getQualifiedModule, typeString};
-ghost use Rattle.type_parts.specs.Parts.{Listed, Opened, closer};
+ghost use Rattle.type_parts.specs.Parts.{Listed, Opened, closer, textsOf};
 
 // The arguments of a brand while they are written: the text so far, and the byte that stands before the next one, `<` or a comma.
 pub struct Arguments {
@@ -101,8 +101,9 @@ fn projected(root: &[u8], name: &[u8], tail: &[u8], t: Text, buf: &mut [u8]) -> 
 
 // A parameter's text by its name: 7 under Client, Server, ServerDispatch and GetType.
 fn parameter_text(root: &[u8], name: &[u8], leaf: Leaf, t: Text, buf: &mut [u8]) -> Written
-    ensures { λ r. ⌜ Writes (parameterString (now (root .entry)) leaf (now (name .entry))) (now (buf .entry)) t
+    ensures text { λ r. ⌜ Writes (parameterString (now (root .entry)) leaf (now (name .entry))) (now (buf .entry)) t
         (now (buf .exit)) r ⌝ }
+    ensures some { λ r. ⌜ WroteSome (now (buf .entry)) t (now (buf .exit)) (r .text) ⌝ }
 {
     match leaf {
         Leaf::Reader(lifetime) => match lifetime {
@@ -130,8 +131,9 @@ pub fn parameter(
     t: Text,
     buf: &mut [u8],
 ) -> Written
-    ensures { λ r. ⌜ ForAll (now (root .entry)) (now (s .entry)) (now (index .entry))
+    ensures text { λ r. ⌜ ForAll (now (root .entry)) (now (s .entry)) (now (index .entry))
         (λ sheet. Writes (typeString (parameter id k) sheet leaf) (now (buf .entry)) t (now (buf .exit)) r) ⌝ }
+    ensures some { λ r. ⌜ WroteSome (now (buf .entry)) t (now (buf .exit)) (r .text) ⌝ }
 {
     let Found::At(node) = nodes::find(index, id) else {
         return codegen_types::refused(t, refusals::NO_NODE);
@@ -145,8 +147,9 @@ pub fn parameter(
 
 // The module of a node: 5 where the node is not there.
 pub fn qualified_module(s: &[u8], index: &[u64], id: u64, t: Text, buf: &mut [u8]) -> Written
-    ensures { λ r. ⌜ ((root : Str) → ForAll root (now (s .entry)) (now (index .entry))
+    ensures text { λ r. ⌜ ((root : Str) → ForAll root (now (s .entry)) (now (index .entry))
         (λ sheet. Writes (getQualifiedModule sheet id) (now (buf .entry)) t (now (buf .exit)) r)) ⌝ }
+    ensures some { λ r. ⌜ WroteSome (now (buf .entry)) t (now (buf .exit)) (r .text) ⌝ }
 {
     let Found::At(node) = nodes::find(index, id) else {
         return codegen_types::refused(t, refusals::NO_NODE);
@@ -155,10 +158,9 @@ pub fn qualified_module(s: &[u8], index: &[u64], id: u64, t: Text, buf: &mut [u8
     codegen_types::whole(t.bytes(buf, name))
 }
 
-// The own names of a node's parameters, as many as it has, from a position on.
+// So many texts of the rows from a position on: the own names of a node's parameters, where the position is that of its P rows.
 pub fn inherited(s: &[u8], from: usize, count: u64, first: Arguments, buf: &mut [u8]) -> Arguments
-    ensures { λ r. ⌜ (count ≡ length (namesOf (rows (drop from (now (s .entry)))))
-        → Listed (now (buf .entry)) first (namesOf (rows (drop from (now (s .entry))))) (now (buf .exit)) r) ⌝ }
+    ensures { λ r. ⌜ Listed (now (buf .entry)) first (textsOf count (rows (drop from (now (s .entry))))) (now (buf .exit)) r ⌝ }
 {
     let mut at = from;
     let mut n = count;

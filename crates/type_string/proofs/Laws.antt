@@ -1,8 +1,8 @@
 -- Laws of the writers of types and brands: one for each turn of the code, over what is read, the sheet, and the texts and
 -- refusals that were met. Assumes nothing.
-use mathlib.Core.Path.{_≡_, refl, sym, _∙_, subst}
+use mathlib.Core.Path.{_≡_, refl, sym, ap, _∙_, subst}
 use mathlib.Core.List.{List, [], _∷_, _++_}
-use mathlib.Core.Option.{Option, some}
+use mathlib.Core.Option.{Option, none, some}
 use Prim.Native.Nat.{ℕ, _+_, _-_, _<_, _≤_}
 use native.Mathlib.Omega.{arith}
 use borrow.Author.Tests.{eq-eqb, ne-eqb}
@@ -16,7 +16,7 @@ use Rattle.text.specs.Text.{Wrote}
 use Rattle.text.specs.declared.Text.{Text}
 use Rattle.text.proofs.Laws.{_⨾_}
 use Rattle.row.specs.Rows.{rows, restOf}
-use Rattle.row.specs.Line.{lineAt}
+use Rattle.row.specs.Line.{lineSaid, lineAt}
 use Rattle.row.specs.declared.Line.{Line}
 use Rattle.row.specs.declared.Line.the-variants.{Scope, Unbound}
 use Rattle.tree.specs.Tree.{list, struct, Scopes, end, Binds, stop, Node, Sheet}
@@ -30,7 +30,7 @@ use Rattle.codegen_types.specs.TypeString as typeString
 use Rattle.codegen_types.specs.TypeString.{typeString, doBranding, scopeOf, scopesOf, bindingsOf, allOf, argumentsOf}
 use Rattle.codegen_types.specs.TypeString.{accumulate, outermostFirst, angled, anyOwned, listString, listModule, elementLeaf}
 use Rattle.codegen_types.specs.TypeString.{getQualifiedModule}
-use Rattle.codegen_types.specs.Written.{Writes, firstOf}
+use Rattle.codegen_types.specs.Written.{Writes, firstOf, refusalNumber}
 use Rattle.codegen_types.specs.declared.Refusal.{Refusal}
 use Rattle.codegen_types.specs.declared.Refusal.the-variants.{None, Number}
 use Rattle.codegen_types.specs.declared.Leaf.{Leaf}
@@ -45,21 +45,22 @@ use Rattle.types.proofs.ScopeLaws.{placed, scope-there}
 use Rattle.types.proofs.Laws.{on-one, on-two, on-all}
 use Rattle.types.proofs.TypeLaws as read-law
 use Rattle.types.proofs.TypeLaws.{list-of, times-none, binds-more, binds-length, scope-inherit, scope-binds, scope-not}
-use Rattle.type_parts.specs.Parts.{Lists, Listed, Opened, closer}
+use Rattle.type_parts.specs.Parts.{Lists, Listed, Opened, closer, textsOf}
 use Rattle.type_parts.specs.declared.Arguments.{Arguments}
 use Rattle.type_parts.specs.declared.Argued.{Argued}
 use Rattle.type_parts.proofs.Laws as parts
-use Rattle.type_parts.proofs.Laws.{listed-none, listed-cons, _⨟_, all-listed, not-listed, listed-of, map-replicate}
+use Rattle.type_parts.proofs.Laws.{listed-none, listed-cons, listed-both, all-listed, not-listed, listed-of, map-replicate}
+use Rattle.type_parts.proofs.Laws.{texts-names}
 use Rattle.type_string.specs.Told.{outward, onlyOf, ChainTold, OwnTold}
 use Rattle.type_string.specs.declared.Brand.{Brand}
 
--- two refusals at once
-clash : {A : Type 0} {r : Refusal} {k : ℕ} → r ≡ None → r ≡ Number k → A
+-- a refusal and none at once
+clash : {A : Type 0} {r : Option ℕ} {k : ℕ} → r ≡ none → r ≡ some k → A
 clash {A} {r} {k} e f = absurd (subst go (sym e ∙ f) tt)
   where
-    go : Refusal → Type 0
-    go None = Unit {0}
-    go (Number j) = ⊥
+    go : Option ℕ → Type 0
+    go none = Unit {0}
+    go (some j) = ⊥
 
 -- ---- lists
 
@@ -93,7 +94,7 @@ module _ (sheet : Sheet) (leaf : Leaf) (left k a b c : ℕ) (rest : Rows) where
       (λ ty. Writes (listString (sheet .root) leaf k (typeString ty sheet (elementLeaf k))) l t l₃ q)
       (typeFrom (readType left) k a b c rest)
       (λ ty v. rw (ne-eqb k 12 x, ne-eqb k 13 y, ne-eqb k 18 (λ j. omega arith))
-      (around (typeString ty sheet (elementLeaf k)) head (rw i at v) tail f g)) h)
+      (around (typeString ty sheet (elementLeaf k)) head (rw i at v) tail f (ap refusalNumber g))) h)
 
 -- ---- the chain of a node's parents
 
@@ -132,17 +133,18 @@ module _ (root s index : List ℕ) (ns : List Node) (x : Indexed s ns index) (id
 
   chain-next : (places : List ℕ) → LastScopes s at n (take (c .count) (c .ids)) places → (k : ℕ) → 0 < k → k ≤ c .count
       → (l : List ℕ) (p : Arguments) (l₁ : List ℕ) (q : Arguments) (f : Refusal) (l₂ : List ℕ) (r : Argued)
+      (g : Refusal) → refusalNumber g ≡ firstOf (refusalNumber (r .refusal)) (refusalNumber f)
       → On G (Outer root s ns c k l p l₁ (argued q f))
       → ((o : Option typeString.Scope) → ScopeAt left (sheetOf root ns) (rows (drop (getD places (k - 1) 0) s)) o
       → getD (c .counts) (k - 1) 0 ≡ length (namesOf (rows (drop (getD (c .params) (k - 1) 0) s)))
       → Lists (argumentsOf root (namesOf (rows (drop (getD (c .params) (k - 1) 0) s))) o) l₁ q l₂ r)
-      → On G (Outer root s ns c (k - 1) l p l₂ (argued (r .arguments) (firstOf (r .refusal) f)))
+      → On G (Outer root s ns c (k - 1) l p l₂ (argued (r .arguments) g))
   unfolding outermostFirst
-  chain-next places there k h few l p l₁ q f l₂ r v own =
+  chain-next places there k h few l p l₁ q f l₂ r g e v own =
       on-two (Outer root s ns c k l p l₁ (argued q f))
       (λ ss. ScopeAt left (sheetOf root ns) (rows (drop (getD places (k - 1) 0) s))
       (scopeOf (getD (c .ids) (k - 1) 0) (scopesOf ss (sheetOf root ns))))
-      (Outer root s ns c (k - 1) l p l₂ (argued (r .arguments) (firstOf (r .refusal) f))) G
+      (Outer root s ns c (k - 1) l p l₂ (argued (r .arguments) g)) G
       (λ ss y u. rw (
         before-step root s (scopesOf ss (sheetOf root ns)) (c .ids) (c .params) (c .count) (k - 1) (endOf (c .refusal))
             (omega arith) (omega (arith, w .few, w .ids-size)) (omega (arith, w .few, w .params-size)),
@@ -159,16 +161,15 @@ module _ (root s index : List ℕ) (ns : List Node) (x : Indexed s ns index) (id
       back : k - 1 + 1 ≡ k
       back = omega arith
 
-      -- where the node's own arguments are given, what is further out counts
-      others : (j : Refusal) → r .refusal ≡ None → f ≡ j → firstOf (r .refusal) f ≡ j
-      others j e g = rw e g
+      -- the node's own refusal counts, and what is further out where its arguments are given
+      own-first : {o : Option ℕ} → refusalNumber (r .refusal) ≡ o → refusalNumber g ≡ firstOf o (refusalNumber f)
+      own-first y = e ∙ ap (λ (x : Option ℕ). firstOf x (refusalNumber f)) y
 
       go : (o : Out (List Str)) (a : Out (List (List Str))) → Lists (outward a) l p l₁ (argued q f) → Lists o l₁ q l₂ r
-          → Lists (outward (o then λ arguments. a then λ outer. ok (arguments ∷ outer))) l p l₂
-          (argued (r .arguments) (firstOf (r .refusal) f))
-      go (ok ws) (ok a) g h = all-listed (listed-of g ⨟ listed-of h) (others None (h .refusal) (g .refusal))
-      go (ok ws) (refused j) g h = not-listed (others (Number j) (h .refusal) (g .refusal))
-      go (refused j) a g h = not-listed (rw (h .refusal) refl)
+          → Lists (outward (o then λ arguments. a then λ outer. ok (arguments ∷ outer))) l p l₂ (argued (r .arguments) g)
+      go (ok ws) (ok a) y z = all-listed (listed-both (listed-of y) (listed-of z)) (own-first (z .refusal) ∙ y .refusal)
+      go (ok ws) (refused j) y z = not-listed (own-first (z .refusal) ∙ y .refusal)
+      go (refused j) a y z = not-listed (own-first (z .refusal))
 
 -- the way outwards in: what is written of a chain from its k-th node on, whatever brand it is the chain of
 pub record Writing (root s index : List ℕ) (left : ℕ) (l : List ℕ) (p : Arguments) (c : Links) (places : List ℕ)
@@ -190,11 +191,11 @@ module _ (root s index : List ℕ) (left : ℕ) (l : List ℕ) (p : Arguments) (
           params = getD (c .params) (k - 1) 0;
           count = getD (c .counts) (k - 1) 0;
           scope = getD places (k - 1) 0;
-        }) left l₁ q l₂ r → (g : Refusal) → g ≡ firstOf (r .refusal) f
+        }) left l₁ q l₂ r → (g : Refusal) → refusalNumber g ≡ firstOf (refusalNumber (r .refusal)) (refusalNumber f)
         → Writing root s index left l p c places l₂ (r .arguments) g (k - 1)
     writing-next h few l₂ r own g e = record {
-      outer = λ b v there ns x. rw e (chain-next root s index ns x (b .id) c v left (b .scopes) (b .count) places there k h few
-          l p l₁ q f l₂ r ((w .outer) b v there ns x) (own ns x));
+      outer = λ b v there ns x. chain-next root s index ns x (b .id) c v left (b .scopes) (b .count) places there k h few
+          l p l₁ q f l₂ r g e ((w .outer) b v there ns x) (own ns x);
     }
 
     pub writing-end : k ≤ 0 → (b : Brand) → ChainOf s index (b .id) c
@@ -216,7 +217,7 @@ brand-on {l} {t} {l₁} {w} {l₂} {p} {l₃} {l₄} {t₄} {r} sheet leaf id re
     on-one (λ ss. Lists (outward (accumulate sheet (scopesOf ss sheet) 16 id)) l₂ p l₃ q)
     (λ ss. Writes (typeString (struct id ss) sheet leaf) l t l₄ r) read
     (λ ss g. record {
-      refusal = f ∙ g .refusal ∙ refusal-then (accumulate sheet (scopesOf ss sheet) 16 id) outermostFirst
+      refusal = ap refusalNumber f ∙ g .refusal ∙ refusal-then (accumulate sheet (scopesOf ss sheet) 16 id) outermostFirst
           ∙ brand-chain sheet leaf id ss;
       text = λ v z. go v (getQualifiedModule sheet id) m (accumulate sheet (scopesOf ss sheet) 16 id) g z;
     }) h
@@ -232,25 +233,27 @@ brand-on {l} {t} {l₁} {w} {l₂} {p} {l₃} {l₄} {t₄} {r} sheet leaf id re
 
 -- ---- one node's own arguments
 
-module _ (left : ℕ) (sheet : Sheet) (q ps : Rows) (line : Line) (at : line ≡ lineAt q) (own : ℕ)
+module _ (left : ℕ) (sheet : Sheet) (q ps : Rows) (line : Line) (at : lineSaid line ≡ lineAt q) (own : ℕ)
     (count : own ≡ length (namesOf ps)) (l : List ℕ) (p : Arguments) (l′ : List ℕ) (r : Argued) (o : Option typeString.Scope)
     (here : ScopeAt left sheet q o) where
   pub own-other : OneOf (0 ∷ 1 ∷ 2 ∷ 3 ∷ 4 ∷ 5 ∷ 7 ∷ 8 ∷ 9 ∷ 10 ∷ []) (tagOf the-type line)
-      → Listed l p (replicate own (anyOwned (sheet .root))) l′ (r .arguments) → r .refusal ≡ None
+      → Listed l p (replicate own (anyOwned (sheet .root))) l′ (r .arguments) → refusalNumber (r .refusal) ≡ none
       → Lists (argumentsOf (sheet .root) (namesOf ps) o) l p l′ r
   unfolding argumentsOf
   own-other other w f = go q at here
     where
-      go : (q : Rows) → line ≡ lineAt q → ScopeAt left sheet q o → Lists (argumentsOf (sheet .root) (namesOf ps) o) l p l′ r
+      go : (q : Rows) → lineSaid line ≡ lineAt q → ScopeAt left sheet q o
+          → Lists (argumentsOf (sheet .root) (namesOf ps) o) l p l′ r
       go [] e h = rw (h, map-replicate (anyOwned (sheet .root)) (namesOf ps), ← count) (all-listed w f)
       go (x ∷ rs) e h = absurd (scope-not left sheet (x ∷ rs) o line e other h)
 
   module _ (i b m : ℕ) (is : line ≡ Scope i b m) where
-    pub own-inherit : b ≡ 0 → (own ≡ length (namesOf ps) → Listed l p (namesOf ps) l′ (r .arguments)) → r .refusal ≡ None
+    pub own-inherit : b ≡ 0 → Listed l p (textsOf own ps) l′ (r .arguments) → refusalNumber (r .refusal) ≡ none
         → Lists (argumentsOf (sheet .root) (namesOf ps) o) l p l′ r
     unfolding argumentsOf
     own-inherit z w f = let y : o ≡ some typeString.inherited = scope-inherit left sheet q o line i b m at is z
-        (scope-there left sheet q o line i b m at is here) in rw y (all-listed (w count) f)
+        (scope-there left sheet q o line i b m at is here) in
+        rw y (all-listed (rw (texts-names own ps count) at w) f)
 
     module _ (rest : Rows) (next : rest ≡ restOf q) (z : b ≡ 0 → ⊥) where
       by-binds : (Q : Out (List Str) → Type 0) → On (times (readBinding (readType left)) stop m rest)
@@ -268,7 +271,8 @@ module _ (left : ℕ) (sheet : Sheet) (q ps : Rows) (line : Line) (at : line ≡
           go (got bs k) o w v y = rw (w, y, ← count) v
           go (no j k) o w v y = absurd w
 
-      pub own-8 : (m ≡ own → ⊥) → r .refusal ≡ Number 8 → Lists (argumentsOf (sheet .root) (namesOf ps) o) l p l′ r
+      pub own-8 : (m ≡ own → ⊥) → refusalNumber (r .refusal) ≡ some 8
+          → Lists (argumentsOf (sheet .root) (namesOf ps) o) l p l′ r
       own-8 y f = by-binds (λ a. Lists a l p l′ r) (on-all {P = λ bs. Lists (cond (eqb m own) (allOf (bindingsOf bs sheet))
           (refused 8)) l p l′ r} (λ bs. rw (ne-eqb m own y) (not-listed f)) (times (readBinding (readType left)) stop m rest))
 
@@ -283,7 +287,7 @@ pub binds-none : (sheet : Sheet) (left n : ℕ) (rs : Rows) (l : List ℕ) (p : 
     → On (times (readBinding (readType left)) stop n rs) (λ bs. Lists (allOf (bindingsOf bs sheet)) l p l (argued p f))
 unfolding allOf bindingsOf
 binds-none sheet left n rs l p f h e =
-    rw (times-none (readBinding (readType left)) stop n rs h) (all-listed (listed-none l p) e)
+    rw (times-none (readBinding (readType left)) stop n rs h) (all-listed (listed-none l p) (ap refusalNumber e))
 
 abbrev args : Text → ℕ → Arguments
 args t b = record { text = t; sep = b }
@@ -308,7 +312,7 @@ module _ (sheet : Sheet) (left n : ℕ) (rs rest : Rows) (more : 0 < n) (past : 
           → Lists (o then λ x. os then λ xs. ok (x ∷ xs)) l p l′ r
       go (ok x) (ok xs) g v = all-listed (listed-cons (a ⨾ text-of g) (listed-of v)) (v .refusal)
       go (ok x) (refused k) g v = not-listed (v .refusal)
-      go (refused k) os g v = clash z (g .refusal)
+      go (refused k) os g v = clash (ap refusalNumber z) (g .refusal)
 
   pub binds-stop : (k : ℕ) → w .refusal ≡ Number k → r .refusal ≡ w .refusal
       → On (times (readBinding (readType left)) stop n rs) (λ bs. Lists (allOf (bindingsOf bs sheet)) l p l′ r)
@@ -320,12 +324,12 @@ module _ (sheet : Sheet) (left n : ℕ) (rs rest : Rows) (more : 0 < n) (past : 
       (λ f o u bs v. rw (o .first sheet bs) (go (o .text sheet) (allOf (bindingsOf bs sheet)) (rw (o .first sheet stop) at u)))
     where
       go : (o : Out Str) (os : Out (List Str)) → Writes o l₁ t₁ l₂ w → Lists (o then λ x. os then λ xs. ok (x ∷ xs)) l p l′ r
-      go (ok x) os g = clash (g .refusal) z
-      go (refused j) os g = not-listed (e ∙ g .refusal)
+      go (ok x) os g = clash (g .refusal) (ap refusalNumber z)
+      go (refused j) os g = not-listed (ap refusalNumber e ∙ g .refusal)
 
 -- one binding: a U row, or a type
-module _ (sheet : Sheet) (left : ℕ) (rs : Rows) (line : Line) (at : line ≡ lineAt rs) (l : List ℕ) (t : Text) (l′ : List ℕ)
-    (r : Written) where
+module _ (sheet : Sheet) (left : ℕ) (rs : Rows) (line : Line) (at : lineSaid line ≡ lineAt rs) (l : List ℕ) (t : Text)
+    (l′ : List ℕ) (r : Written) where
   pub bind-unbound : line ≡ Unbound → Writes (ok (anyOwned (sheet .root))) l t l′ r
       → On (readBinding (readType left) rs) (λ f. Writes (onlyOf (bindingsOf (f stop) sheet)) l t l′ r)
   unfolding bindingsOf

@@ -12,6 +12,7 @@ use type_parts::Argued;
 use type_parts::Arguments;
 use types::TypeRow;
 ghost use lib.ListN.{drop};
+ghost use Rattle.text.specs.Text.{WroteSome};
 ghost use Rattle.row.specs.Rows.{rows};
 ghost use Rattle.tree.specs.Reader.{On};
 ghost use Rattle.tree.specs.Read.{readType};
@@ -45,9 +46,10 @@ pub fn type_string(
     t: Text,
     buf: &mut [u8],
 ) -> Written
-    ensures { λ r. ⌜ ForAll (now (root .entry)) (now (s .entry)) (now (index .entry)) (λ sheet.
+    ensures text { λ r. ⌜ ForAll (now (root .entry)) (now (s .entry)) (now (index .entry)) (λ sheet.
         On (readType 16 (rows (drop at (now (s .entry)))))
         (λ ty. Writes (typeString ty sheet leaf) (now (buf .entry)) t (now (buf .exit)) r)) ⌝ }
+    ensures some { λ r. ⌜ WroteSome (now (buf .entry)) t (now (buf .exit)) (r .text) ⌝ }
 {
     let row = types::type_row(s, at);
     write_type(root, s, index, row, 15, leaf, t, buf)
@@ -64,8 +66,9 @@ fn write_type(
     t: Text,
     buf: &mut [u8],
 ) -> Written
-    ensures { λ r. ⌜ TypeTold (now (root .entry)) (now (s .entry)) (now (index .entry)) row left leaf
+    ensures text { λ r. ⌜ TypeTold (now (root .entry)) (now (s .entry)) (now (index .entry)) row left leaf
         (now (buf .entry)) t (now (buf .exit)) r ⌝ }
+    ensures some { λ r. ⌜ WroteSome (now (buf .entry)) t (now (buf .exit)) (r .text) ⌝ }
 {
     let kind = row.kind;
     if kind < kinds::LIST {
@@ -102,8 +105,9 @@ fn write_list(
     t: Text,
     buf: &mut [u8],
 ) -> Written
-    ensures { λ r. ⌜ ListTold (now (root .entry)) (now (s .entry)) (now (index .entry)) at left leaf
+    ensures text { λ r. ⌜ ListTold (now (root .entry)) (now (s .entry)) (now (index .entry)) at left leaf
         (now (buf .entry)) t (now (buf .exit)) r ⌝ }
+    ensures some { λ r. ⌜ WroteSome (now (buf .entry)) t (now (buf .exit)) (r .text) ⌝ }
 {
     if left == 0 {
         return codegen_types::whole(t);
@@ -140,8 +144,9 @@ fn do_branding(
     t: Text,
     buf: &mut [u8],
 ) -> Written
-    ensures { λ r. ⌜ BrandTold (now (root .entry)) (now (s .entry)) (now (index .entry)) brand left leaf
+    ensures text { λ r. ⌜ BrandTold (now (root .entry)) (now (s .entry)) (now (index .entry)) brand left leaf
         (now (buf .entry)) t (now (buf .exit)) r ⌝ }
+    ensures some { λ r. ⌜ WroteSome (now (buf .entry)) t (now (buf .exit)) (r .text) ⌝ }
 {
     let w = type_parts::qualified_module(s, index, brand.id, t, buf);
     let p = type_parts::opening(leaf, w.text, buf);
@@ -163,8 +168,9 @@ fn write_chain(
     first: Arguments,
     buf: &mut [u8],
 ) -> Argued
-    ensures { λ r. ⌜ ChainTold (now (root .entry)) (now (s .entry)) (now (index .entry)) brand left
+    ensures text { λ r. ⌜ ChainTold (now (root .entry)) (now (s .entry)) (now (index .entry)) brand left
         (now (buf .entry)) first (now (buf .exit)) r ⌝ }
+    ensures some { λ r. ⌜ WroteSome (now (buf .entry)) (first .text) (now (buf .exit)) (r .arguments .text) ⌝ }
 {
     let chain = types::chain(index, brand.id);
     let ids = chain.ids;
@@ -202,8 +208,9 @@ fn write_own(
     p: Arguments,
     buf: &mut [u8],
 ) -> Argued
-    ensures { λ r. ⌜ OwnTold (now (root .entry)) (now (s .entry)) (now (index .entry)) own left
+    ensures text { λ r. ⌜ OwnTold (now (root .entry)) (now (s .entry)) (now (index .entry)) own left
         (now (buf .entry)) p (now (buf .exit)) r ⌝ }
+    ensures some { λ r. ⌜ WroteSome (now (buf .entry)) (p .text) (now (buf .exit)) (r .arguments .text) ⌝ }
 {
     let g = row::next(s, own.scope);
     let line = g.line;
@@ -241,8 +248,9 @@ fn write_binds(
     first: Arguments,
     buf: &mut [u8],
 ) -> Argued
-    ensures { λ r. ⌜ BindsTold (now (root .entry)) (now (s .entry)) (now (index .entry)) from count left
+    ensures text { λ r. ⌜ BindsTold (now (root .entry)) (now (s .entry)) (now (index .entry)) from count left
         (now (buf .entry)) first (now (buf .exit)) r ⌝ }
+    ensures some { λ r. ⌜ WroteSome (now (buf .entry)) (first .text) (now (buf .exit)) (r .arguments .text) ⌝ }
 {
     let mut at = from;
     let mut n = count;
@@ -285,8 +293,9 @@ fn write_binding(
     t: Text,
     buf: &mut [u8],
 ) -> Written
-    ensures { λ r. ⌜ BindTold (now (root .entry)) (now (s .entry)) (now (index .entry)) at left
+    ensures text { λ r. ⌜ BindTold (now (root .entry)) (now (s .entry)) (now (index .entry)) at left
         (now (buf .entry)) t (now (buf .exit)) r ⌝ }
+    ensures some { λ r. ⌜ WroteSome (now (buf .entry)) t (now (buf .exit)) (r .text) ⌝ }
 {
     let g = row::next(s, at);
     let line = g.line;

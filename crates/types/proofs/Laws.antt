@@ -18,9 +18,10 @@ use Rattle.row.proofs.Laws.{rows-out, rows-length}
 use Rattle.tree.proofs.OtherLines.{not-scope}
 use Rattle.text.specs.Bytes.{Str, cond}
 use Rattle.row.specs.Rows.{rows, restOf, unboundRows}
-use Rattle.row.specs.Line.{lineOf, lineAt, reader, unboundLine, asType, asScope, asUnbound}
+use Rattle.row.specs.Line.{lineSaid, lineOf, lineAt, reader, unboundLine, asType, asScope, asUnbound}
+use Rattle.row.specs.Line.{Content, Root, Node, Parameter, Field, Group, Typ, Scope, Unbound, Value, Word, Bad}
 use Rattle.row.specs.declared.Line.{Line}
-use Rattle.row.specs.declared.Line.the-variants.{Root, Node, Parameter, Field, Group, Typ, Scope, Unbound, Value, Word, Bad}
+use Rattle.row.specs.declared.Line.the-variants as variant
 use Rattle.tree.specs.Tree as tree
 use Rattle.tree.specs.Tree.{Ty, Scopes, Binds, Sheet, end, stop, bound, inherit, bind}
 use Rattle.tree.specs.Reader.{Rows, Reading, got, no, Reader, _then_, mapR, times, onType, On, Has}
@@ -31,7 +32,7 @@ use Rattle.codegen_types.specs.TypeString.{orElse, scopeOf, scopesOf, bindingsO
 use Rattle.types.specs.Find.{After, owed, pastRows, lastScope, ScopeHere, ScopeIs}
 
 -- what holds for a letter's lines and for all others
-pub as-type : {A : Type 0} (P : A → Type 0) (l : Line) (y : (ℕ → ℕ → ℕ → ℕ → A)) (z : A)
+pub as-type : {A : Type 0} (P : A → Type 0) (l : Content) (y : (ℕ → ℕ → ℕ → ℕ → A)) (z : A)
     → ((k a b c : ℕ) → l ≡ Typ k a b c → P (y k a b c)) → P z → P (asType l y z)
 as-type P Root this other f g = g
 as-type P (Node i q k x y c o) this other f g = g
@@ -45,7 +46,7 @@ as-type P (Value k b) this other f g = g
 as-type P (Word x) this other f g = g
 as-type P Bad this other f g = g
 
-pub as-scope : {A : Type 0} (P : A → Type 0) (l : Line) (y : (ℕ → ℕ → ℕ → A)) (z : A)
+pub as-scope : {A : Type 0} (P : A → Type 0) (l : Content) (y : (ℕ → ℕ → ℕ → A)) (z : A)
     → ((i b c : ℕ) → l ≡ Scope i b c → P (y i b c)) → P z → P (asScope l y z)
 as-scope P Root this other f g = g
 as-scope P (Node i q k x y c o) this other f g = g
@@ -59,7 +60,8 @@ as-scope P (Value k b) this other f g = g
 as-scope P (Word x) this other f g = g
 as-scope P Bad this other f g = g
 
-pub as-unbound : {A : Type 0} (P : A → Type 0) (l : Line) (y : A) (z : A) → (l ≡ Unbound → P y) → P z → P (asUnbound l y z)
+pub as-unbound : {A : Type 0} (P : A → Type 0) (l : Content) (y : A) (z : A)
+    → (l ≡ Unbound → P y) → P z → P (asUnbound l y z)
 as-unbound P Root this other f g = g
 as-unbound P (Node i q k x y c o) this other f g = g
 as-unbound P Parameter this other f g = g
@@ -221,26 +223,26 @@ past-scope left rs =
     (λ rest e. rw add-zero at (sym (past-next rs 0)) ∙ e ∙ past-none rest) (passes-scope (readType left) (passes-type left) 0 rs)
 
 -- a row that owes nothing
-pub owed-none : (l : Line) → OneOf (0 ∷ 1 ∷ 2 ∷ 3 ∷ 4 ∷ 7 ∷ 8 ∷ 9 ∷ 10 ∷ []) (tagOf the-type l) → owed l ≡ 0
-unfolding owed
-owed-none (Typ k a b c) h = absurd (miss (0 ∷ 1 ∷ 2 ∷ 3 ∷ 4 ∷ 7 ∷ 8 ∷ 9 ∷ 10 ∷ []) 5 tt h)
-owed-none (Scope i b c) h = absurd (miss (0 ∷ 1 ∷ 2 ∷ 3 ∷ 4 ∷ 7 ∷ 8 ∷ 9 ∷ 10 ∷ []) 6 tt h)
-owed-none Root h = refl
-owed-none (Node i q k x y c o) h = refl
-owed-none Parameter h = refl
-owed-none (Field o d e q) h = refl
-owed-none (Group i d) h = refl
-owed-none Unbound h = refl
-owed-none (Value k b) h = refl
-owed-none (Word x) h = refl
-owed-none Bad h = refl
+pub owed-none : (l : Line) → OneOf (0 ∷ 1 ∷ 2 ∷ 3 ∷ 4 ∷ 7 ∷ 8 ∷ 9 ∷ 10 ∷ []) (tagOf the-type l) → owed (lineSaid l) ≡ 0
+unfolding lineSaid owed
+owed-none (variant.Typ k a b c) h = absurd (miss (0 ∷ 1 ∷ 2 ∷ 3 ∷ 4 ∷ 7 ∷ 8 ∷ 9 ∷ 10 ∷ []) 5 tt h)
+owed-none (variant.Scope i b c) h = absurd (miss (0 ∷ 1 ∷ 2 ∷ 3 ∷ 4 ∷ 7 ∷ 8 ∷ 9 ∷ 10 ∷ []) 6 tt h)
+owed-none variant.Root h = refl
+owed-none (variant.Node i q k x y c o) h = refl
+owed-none variant.Parameter h = refl
+owed-none (variant.Field o d e q) h = refl
+owed-none (variant.Group i d) h = refl
+owed-none variant.Unbound h = refl
+owed-none (variant.Value k b) h = refl
+owed-none (variant.Word x) h = refl
+owed-none variant.Bad h = refl
 
 -- one turn of passing over rows: n rows are owed at a position, and the row there owes more
 past-turn : (rs : Rows) (n : ℕ) → 0 < n → pastRows rs n ≡ pastRows (restOf rs) (owed (lineAt rs) + (n - 1))
 past-turn rs zero h = let z : ⊥ = omega arith in absurd z
 past-turn rs (suc n) h = rw (sub-one (suc n)) (past-next rs n)
 
-pub past-on : (rs rest : Rows) (n m : ℕ) (l : Line) → 0 < n → l ≡ lineAt rs → rest ≡ restOf rs → m ≡ owed l
+pub past-on : (rs rest : Rows) (n m : ℕ) (l : Content) → 0 < n → l ≡ lineAt rs → rest ≡ restOf rs → m ≡ owed l
     → pastRows rs n ≡ pastRows rest (m + (n - 1))
 past-on rs rest n m l h e f g = past-turn rs n h ∙ rw (← e, ← f, ← g) refl
 
@@ -401,14 +403,14 @@ unfolding lastScope
 scope-none id zero rs found h = refl
 scope-none id (suc n) rs found h = let z : ⊥ = omega arith in absurd z
 
-pub scope-other : (id n : ℕ) (rs : Rows) (found : Option Rows) (l : Line) → l ≡ lineAt rs
+pub scope-other : (id n : ℕ) (rs : Rows) (found : Option Rows) (l : Line) → lineSaid l ≡ lineAt rs
     → OneOf (0 ∷ 1 ∷ 2 ∷ 3 ∷ 4 ∷ 5 ∷ 7 ∷ 8 ∷ 9 ∷ 10 ∷ []) (tagOf the-type l) → lastScope id n rs found ≡ found
 unfolding lastScope
 scope-other id zero rs found l e h = refl
 scope-other id (suc n) rs found l e h = rw (← e, not-scope l _ _ h)
 
-module _ (id n : ℕ) (rs next rest : Rows) (found : Option Rows) (l : Line) (m i b c : ℕ) (more : 0 < n) (line : l ≡ lineAt rs)
-    (is : l ≡ Scope i b c)
+module _ (id n : ℕ) (rs next rest : Rows) (found : Option Rows) (l : Content) (m i b c : ℕ) (more : 0 < n)
+    (line : l ≡ lineAt rs) (is : l ≡ Scope i b c)
     (after : next ≡ restOf rs) (owes : m ≡ owed (Scope i b c)) (past : rest ≡ pastRows next m) where
   turn : lastScope id n rs found ≡ lastScope id (n - 1) rest (cond (eqb i id) (some rs) found)
   unfolding lastScope

@@ -16,7 +16,8 @@ use Rattle.row.proofs.Line.{the-type}
 use Rattle.row.proofs.Laws.{rows-out}
 use Rattle.text.specs.Bytes.{Str, cond}
 use Rattle.row.specs.Rows.{rows, restOf}
-use Rattle.row.specs.Line.{lineAt, asScope}
+use Rattle.row.specs.Line as content
+use Rattle.row.specs.Line.{Content, lineSaid, lineAt, asScope}
 use Rattle.row.specs.declared.Line.{Line}
 use Rattle.row.specs.declared.Line.the-variants as line
 use Rattle.tree.specs.Tree.{Node, Sheet, end}
@@ -87,21 +88,21 @@ last-or id (suc n) rs f g h = go (lineAt rs) (λ rest x y. last-or id n rest x y
     found true = refl
     found false = h
 
-    go : (l : Line) → ((rest : Rows) (x y : Option Rows) → orNone x ≡ orNone y
+    go : (l : Content) → ((rest : Rows) (x y : Option Rows) → orNone x ≡ orNone y
         → orNone (lastScope id n rest x) ≡ orNone (lastScope id n rest y))
         → orNone (asScope l (λ i b m. lastScope id n (pastRows (restOf rs) (owed l)) (cond (eqb i id) (some rs) f)) f)
         ≡ orNone (asScope l (λ i b m. lastScope id n (pastRows (restOf rs) (owed l)) (cond (eqb i id) (some rs) g)) g)
-    go (line.Scope i b m) ih = ih _ _ _ (found (eqb i id))
-    go line.Root ih = h
-    go (line.Node i q k x y c o) ih = h
-    go line.Parameter ih = h
-    go (line.Field o d e q) ih = h
-    go (line.Group i d) ih = h
-    go (line.Typ k a b c) ih = h
-    go line.Unbound ih = h
-    go (line.Value k b) ih = h
-    go (line.Word x) ih = h
-    go line.Bad ih = h
+    go (content.Scope i b m) ih = ih _ _ _ (found (eqb i id))
+    go content.Root ih = h
+    go (content.Node i q k x y c o) ih = h
+    go content.Parameter ih = h
+    go (content.Field o d e q) ih = h
+    go (content.Group i d) ih = h
+    go (content.Typ k a b c) ih = h
+    go content.Unbound ih = h
+    go (content.Value k b) ih = h
+    go (content.Word x) ih = h
+    go content.Bad ih = h
 
 -- n scopes are left from a position on, and these places are noted
 pub record Passing (s : Str) (from count : ℕ) (ids : List ℕ) (at n : ℕ) (places : List ℕ) : Type 0 where
@@ -125,18 +126,19 @@ module _ (s : Str) (from count : ℕ) (ids : List ℕ) where
       each = λ k x y. sym ((w .each) k x y ∙ ap orNone (scope-none (getD ids k 0) n (rows (drop at s)) _ h));
     }
 
-    pub pass-other : (l : Line) → l ≡ lineAt (rows (drop at s))
+    pub pass-other : (l : Line) → lineSaid l ≡ lineAt (rows (drop at s))
         → OneOf (0 ∷ 1 ∷ 2 ∷ 3 ∷ 4 ∷ 5 ∷ 7 ∷ 8 ∷ 9 ∷ 10 ∷ []) (tagOf the-type l) → LastScopes s from count ids places
     pass-other l e h = record {
       each = λ k x y. sym ((w .each) k x y ∙ ap orNone (scope-other (getD ids k 0) n (rows (drop at s)) _ l e h));
     }
 
-    module _ (more : 0 < n) (l : Line) (e : l ≡ lineAt (rows (drop at s))) (i b c : ℕ) (is : l ≡ line.Scope i b c)
+    module _ (more : 0 < n) (l : Line) (e : lineSaid l ≡ lineAt (rows (drop at s))) (i b c : ℕ) (is : l ≡ line.Scope i b c)
         (after : List ℕ) (noted : Noted ids i at places after) where
       -- after this scope
-      turn-on : (rest : Rows) → rest ≡ pastRows (restOf (rows (drop at s))) (owed (line.Scope i b c)) → (k : ℕ)
+      turn-on : (rest : Rows) → rest ≡ pastRows (restOf (rows (drop at s))) (owed (lineSaid (line.Scope i b c))) → (k : ℕ)
           → k < length ids → k < 16 → orNone (lastScope (getD ids k 0) count (rows (drop from s)) none)
           ≡ orNone (lastScope (getD ids k 0) (n - 1) rest (some (rows (drop (getD after k 0) s))))
+      unfolding lineSaid
       turn-on rest past k x y = (w .each) k x y ∙ go (eqb i (getD ids k 0)) refl
         where
           id : ℕ
@@ -148,19 +150,19 @@ module _ (s : Str) (from count : ℕ) (ids : List ℕ) where
           go : (t : Bool) → eqb i id ≡ t → orNone (lastScope id n (rows (drop at s)) old)
               ≡ orNone (lastScope id (n - 1) rest (some (rows (drop (getD after k 0) s))))
           go true z =
-              rw ((noted .each) k x y, z) (ap orNone (scope-this id n (rows (drop at s)) (restOf (rows (drop at s))) rest old l
-              (owed (line.Scope i b c)) i b c more e is refl refl past (eqb-true i id z)))
+              rw ((noted .each) k x y, z) (ap orNone (scope-this id n (rows (drop at s)) (restOf (rows (drop at s))) rest old _
+              (owed (content.Scope i b c)) i b c more e (ap lineSaid is) refl refl past (eqb-true i id z)))
           go false z =
-              rw ((noted .each) k x y, z) (ap orNone (scope-next id n (rows (drop at s)) (restOf (rows (drop at s))) rest old l
-              (owed (line.Scope i b c)) i b c more e is refl refl past (eqb-false i id z)))
+              rw ((noted .each) k x y, z) (ap orNone (scope-next id n (rows (drop at s)) (restOf (rows (drop at s))) rest old _
+              (owed (content.Scope i b c)) i b c more e (ap lineSaid is) refl refl past (eqb-false i id z)))
 
       pub pass-last : n ≡ 1 → LastScopes s from count ids after
       pass-last z = record {
-        each = λ k x y. sym (turn-on (pastRows (restOf (rows (drop at s))) (owed (line.Scope i b c))) refl k x y
+        each = λ k x y. sym (turn-on (pastRows (restOf (rows (drop at s))) (owed (lineSaid (line.Scope i b c)))) refl k x y
             ∙ ap orNone (scope-none (getD ids k 0) (n - 1) _ _ (omega arith)));
       }
 
-      pub pass-next : (next m to : ℕ) → rows (drop next s) ≡ restOf (rows (drop at s)) → m ≡ owed (line.Scope i b c)
+      pub pass-next : (next m to : ℕ) → rows (drop next s) ≡ restOf (rows (drop at s)) → m ≡ owed (lineSaid (line.Scope i b c))
           → rows (drop to s) ≡ pastRows (rows (drop next s)) m → Passing s from count ids to (n - 1) after
       pass-next next m to f g h = record {
         size = noted .size;
@@ -193,9 +195,9 @@ placed left sheet s from n nodes places count k w h f g =
     (scopeOf (getD nodes k 0) (scopesOf ss sheet)) v) (scope-counts left (getD nodes k 0) sheet n (rows (drop from s))))
 
 -- a scope's row stands at a place only where there is a scope
-pub scope-there : (left : ℕ) (sheet : Sheet) (q : Rows) (o : Option Scope) (l : Line) (i b m : ℕ) → l ≡ lineAt q
+pub scope-there : (left : ℕ) (sheet : Sheet) (q : Rows) (o : Option Scope) (l : Line) (i b m : ℕ) → lineSaid l ≡ lineAt q
     → l ≡ line.Scope i b m → ScopeAt left sheet q o → ScopeHere left sheet q o
-unfolding lineAt
+unfolding lineSaid lineAt
 scope-there left sheet [] o l i b m e is h =
-    let y : _≡_ {A = ℕ} 0 1 = ap (λ (l : Line). asScope l (λ i b m. 1) 0) (sym e ∙ is) in never y
+    let y : _≡_ {A = ℕ} 0 1 = ap (λ (l : Content). asScope l (λ i b m. 1) 0) (sym e ∙ ap lineSaid is) in never y
 scope-there left sheet (r ∷ rs) o l i b m e is h = h

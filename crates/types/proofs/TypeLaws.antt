@@ -15,9 +15,9 @@ use denote.Enum.Declared.{tagOf}
 use Rattle.row.proofs.Line.{the-type}
 use Rattle.text.specs.Bytes.{Str, cond}
 use Rattle.row.specs.Rows.{rows, restOf}
-use Rattle.row.specs.Line.{lineAt}
+use Rattle.row.specs.Line.{Content, Typ, Scope, lineSaid, lineAt}
 use Rattle.row.specs.declared.Line.{Line}
-use Rattle.row.specs.declared.Line.the-variants.{Typ, Scope, Unbound}
+use Rattle.row.specs.declared.Line.the-variants as line
 use Rattle.tree.specs.Tree.{Ty, plain, list, enum, struct, interface, parameter, anyPointer, Scopes, end, inherit, bind, Binds}
 use Rattle.tree.specs.Tree.{stop, unbound, bound, kind, Sheet}
 use Rattle.tree.specs.Reader.{Rows, Reading, got, no, Reader, _then_, mapR, times, On, Has}
@@ -64,7 +64,7 @@ type-row s at r (suc l) P w z h =
 
 -- another line as a T row
 pub row-other : (l : Line) (next : ℕ) → OneOf (0 ∷ 1 ∷ 2 ∷ 3 ∷ 4 ∷ 6 ∷ 7 ∷ 8 ∷ 9 ∷ 10 ∷ []) (tagOf the-type l)
-    → typeRow l next ≡ record { kind = 0; a = 0; b = 0; c = 0; next = next }
+    → typeRow (lineSaid l) next ≡ record { kind = 0; a = 0; b = 0; c = 0; next = next }
 row-other l next h =
     rw (
       not-type l (λ k a b c. k) 0 h,
@@ -74,7 +74,7 @@ row-other l next h =
     )
 
 -- a line that was read at a position, as a T row
-pub row-at : (s : Str) (at next : ℕ) (l : Line) (r : TypeRow) → l ≡ lineAt (rows (drop at s))
+pub row-at : (s : Str) (at next : ℕ) (l : Content) (r : TypeRow) → l ≡ lineAt (rows (drop at s))
     → rows (drop next s) ≡ restOf (rows (drop at s)) → r ≡ typeRow l next → TypeRowAt s at r
 row-at s at next l r e f g = record { row = rw (← e, g) refl; next = rw g f }
 
@@ -231,12 +231,12 @@ one-bind left rs =
     (on-all {P = λ t. OneBind (λ bs. bound t bs)} (λ t. record
     { text = λ sheet. typeString t sheet Owned; first = λ sheet bs. refl }) (readType left rs)))
 
-pub bind-unbound : (left : ℕ) (rs : Rows) (P : (Binds → Binds) → Type 0) (l : Line) → l ≡ lineAt rs → l ≡ Unbound
+pub bind-unbound : (left : ℕ) (rs : Rows) (P : (Binds → Binds) → Type 0) (l : Line) → lineSaid l ≡ lineAt rs → l ≡ line.Unbound
     → P (λ bs. unbound bs) → On (readBinding (readType left) rs) P
-unfolding readBinding
-bind-unbound left rs P l at is h = rw (sym at ∙ is) h
+unfolding lineSaid readBinding
+bind-unbound left rs P l at is h = rw (← at, is) h
 
-pub bind-typed : (left : ℕ) (rs : Rows) (P : (Binds → Binds) → Type 0) (l : Line) → l ≡ lineAt rs
+pub bind-typed : (left : ℕ) (rs : Rows) (P : (Binds → Binds) → Type 0) (l : Line) → lineSaid l ≡ lineAt rs
     → OneOf (0 ∷ 1 ∷ 2 ∷ 3 ∷ 4 ∷ 5 ∷ 6 ∷ 8 ∷ 9 ∷ 10 ∷ []) (tagOf the-type l)
     → On (readType left rs) (λ t. P (λ bs. bound t bs)) → On (readBinding (readType left) rs) P
 unfolding readBinding
@@ -268,23 +268,23 @@ scopeOf-more : (ty : Reader Ty) (rs : Rows) (i b m : ℕ) → lineAt rs ≡ Scop
 unfolding read.readScope
 scopeOf-more ty rs i b m e = rw e
 
-pub scope-inherit : (left : ℕ) (sheet : Sheet) (rs : Rows) (o : Option typeString.Scope) (l : Line) (i b m : ℕ) → l ≡ lineAt rs
-    → l ≡ Scope i b m → b ≡ 0
+pub scope-inherit : (left : ℕ) (sheet : Sheet) (rs : Rows) (o : Option typeString.Scope) (l : Line) (i b m : ℕ)
+    → lineSaid l ≡ lineAt rs → l ≡ line.Scope i b m → b ≡ 0
     → ScopeHere left sheet rs o → o ≡ some typeString.inherited
-unfolding ScopeHere scopesOf
-scope-inherit left sheet rs o l i b m at is z h = rw (scopeOf-more (readType left) rs i b m (sym at ∙ is), eq-eqb b 0 z) at h
+unfolding lineSaid ScopeHere scopesOf
+scope-inherit left sheet rs o l i b m at is z h =
+    rw (scopeOf-more (readType left) rs i b m (sym at ∙ ap lineSaid is), eq-eqb b 0 z) at h
 
 pub scope-binds : (left : ℕ) (sheet : Sheet) (rs rest : Rows) (o : Option typeString.Scope) (l : Line) (i b m : ℕ)
-    → l ≡ lineAt rs → l ≡ Scope i b m → rest ≡ restOf rs → (b ≡ 0 → ⊥)
+    → lineSaid l ≡ lineAt rs → l ≡ line.Scope i b m → rest ≡ restOf rs → (b ≡ 0 → ⊥)
     → ScopeHere left sheet rs o → Has (times (readBinding (readType left)) stop m rest)
     (λ bs. o ≡ some (typeString.binds (bindingsOf bs sheet)))
-unfolding ScopeHere scopesOf
+unfolding lineSaid ScopeHere scopesOf
 scope-binds left sheet rs rest o l i b m at is next z h =
     go (times (readBinding (readType left)) stop m rest) (rw (
-      scopeOf-more (readType left) rs i b m (sym at ∙ is),
+      scopeOf-more (readType left) rs i b m (sym at ∙ ap lineSaid is),
       ne-eqb b 0 z,
-      ←
-          next,
+      ← next,
     ) at h)
   where
     go : (g : Reading Binds) → Has {A = Scopes → Scopes} (g then λ bs. got (λ ss. bind i bs ss))
@@ -292,7 +292,7 @@ scope-binds left sheet rs rest o l i b m at is next z h =
     go (got bs q) w = w
     go (no k q) w = w
 
-pub scope-not : (left : ℕ) (sheet : Sheet) (rs : Rows) (o : Option typeString.Scope) (l : Line) → l ≡ lineAt rs
+pub scope-not : (left : ℕ) (sheet : Sheet) (rs : Rows) (o : Option typeString.Scope) (l : Line) → lineSaid l ≡ lineAt rs
     → OneOf (0 ∷ 1 ∷ 2 ∷ 3 ∷ 4 ∷ 5 ∷ 7 ∷ 8 ∷ 9 ∷ 10 ∷ []) (tagOf the-type l) → ScopeHere left sheet rs o → ⊥
 unfolding ScopeHere read.readScope
 scope-not left sheet rs o l at other h = rw (← at, not-scope l _ _ other) at h

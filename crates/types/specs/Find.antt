@@ -8,8 +8,7 @@ use lib.Dec.{eqb, ltb}
 use lib.ListN.{drop, take, length, getD}
 use Rattle.text.specs.Bytes.{Str, cond}
 use Rattle.row.specs.Rows.{rows, restOf}
-use Rattle.row.specs.Line.{lineOf, lineAt, asType, asScope}
-use Rattle.row.specs.declared.Line.{Line}
+use Rattle.row.specs.Line.{Content, lineOf, lineAt, asType, asScope}
 use Rattle.tree.specs.Tree.{Node, Sheet, end}
 use Rattle.tree.specs.Reader.{Rows, Reading, got, no, On, Has}
 use Rattle.tree.specs.Read as read
@@ -41,7 +40,7 @@ abbrev pub kindAt : Rows → ℕ
 kindAt rs = asType (lineAt rs) (λ k a b c. cond (ltb k 18) k 18) 0
 
 -- the numbers of a T line, 0 for another line, and the position of the row after it
-abbrev pub typeRow : Line → ℕ → TypeRow
+abbrev pub typeRow : Content → ℕ → TypeRow
 typeRow l next = record {
   kind = asType l (λ k a b c. k) 0;
   a = asType l (λ k a b c. a) 0;
@@ -56,7 +55,7 @@ pub record TypeRowAt (s : Str) (at : ℕ) (r : TypeRow) : Type 0 where
   pub next : rows (drop (r .next) s) ≡ restOf (rows (drop at s))
 
 -- how many types, scopes or bindings a line announces: a list one, a brand its scopes, a bind its bindings
-unfoldable pub owed : Line → ℕ
+unfoldable pub owed : Content → ℕ
 owed l =
     asType l (λ k a b c. cond (ltb k 14) 0 (cond (eqb k 14) 1 (cond (ltb k 18) b 0)))
     (asScope l (λ i b n. cond (eqb b 0) 0 n) 0)

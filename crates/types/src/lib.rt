@@ -10,6 +10,7 @@ ghost use mathlib.Core.Path.{_≡_};
 ghost use lib.ListN.{drop, length};
 ghost use Rattle.text.specs.Bytes.{Str};
 ghost use Rattle.row.specs.Rows.{rows};
+ghost use Rattle.row.specs.Line.{lineSaid};
 ghost use Rattle.types.specs.Find.{typeRow, TypeRowAt, kindAt, owed, pastRows, stepOf, ChainOf, LastScopes, Noted};
 
 // What a T row says of a type: its numbers, and where what belongs to it begins.
@@ -23,7 +24,7 @@ pub struct TypeRow {
 
 // What a line says as a T row, with where the next row begins. Of another line the numbers are 0.
 pub fn as_type(line: Line, next: usize) -> TypeRow
-    ensures { λ r. ⌜ r ≡ typeRow line next ⌝ }
+    ensures { λ r. ⌜ r ≡ typeRow (lineSaid line) next ⌝ }
 {
     let Line::Typ { kind, a, b, c } = line else {
         return TypeRow {
@@ -76,7 +77,7 @@ pub fn kind(s: &[u8], at: usize) -> u64
 
 // How many types, scopes or bindings follow a row that belong to it.
 fn owed(line: Line) -> u64
-    ensures { λ r. ⌜ r ≡ owed line ⌝ }
+    ensures { λ r. ⌜ r ≡ owed (lineSaid line) ⌝ }
 {
     match line {
         Line::Typ {

@@ -29,6 +29,7 @@ use Rattle.nodes.proofs.Laws.{found-is}
 use Rattle.codegen_types.specs.Out.{Out, ok, refused, orRefused, _then_}
 use Rattle.codegen_types.proofs.NodeLaws.{node-by-id}
 use Rattle.codegen_types.specs.TypeString.{isPointer, nodeOf}
+use Rattle.codegen_types.specs.Written.{refusalNumber}
 use Rattle.codegen_types.specs.declared.Refusal.the-variants.{None, Number}
 use Rattle.calls.specs.Calls.{zeroTag}
 use Rattle.codegen.specs.Zeroing.{Zeroing, zeroLine, contains, push, noPush, zeroSlot, zeroFields, zeroNode}
@@ -40,7 +41,7 @@ use Rattle.zeroing.specs.declared.Lines.{Lines}
 use Rattle.zeroing.proofs.SlotLaws.{either-false, either-true, either-assoc, line-is, pointer-is, seenLine, seenArm}
 use Rattle.zeroing.proofs.SlotLaws.{addedLines}
 
-infixl 50 _⨟_
+infixl 50 _⊞_
 -- ---- lines after lines
 
 wrote-none : (l : List ℕ) (t : Text) → Wrote l t [] l t
@@ -60,9 +61,9 @@ isAny-append : (a b : List Str) → isAny (a ++ b) ≡ either (isAny a) (isAny b
 isAny-append [] b = refl
 isAny-append (x ∷ a) b = refl
 
-_⨟_ : {a b : List Str} {x y : Bool} {l l₁ l₂ : List ℕ} {p p₁ p₂ : Lines} → Added a x l p l₁ p₁ → Added b y l₁ p₁ l₂ p₂
+_⊞_ : {a b : List Str} {x y : Bool} {l l₁ l₂ : List ℕ} {p p₁ p₂ : Lines} → Added a x l p l₁ p₁ → Added b y l₁ p₁ l₂ p₂
     → Added (a ++ b) (either x y) l p l₂ p₂
-_⨟_ {a} {b} {x} {y} {p = p} e f = record {
+_⊞_ {a} {b} {x} {y} {p = p} e f = record {
   text = rw (ended-append a b) (e .text ⨾ f .text);
   clears = f .clears ∙ ap (λ (z : Bool). either z y) (e .clears) ∙ either-assoc (p .clear) x y;
   any = f .any ∙ ap (λ (z : Bool). either z (isAny b)) (e .any) ∙ either-assoc (p .any) (isAny a) (isAny b)
@@ -124,18 +125,18 @@ module _ (inner : ℕ → Out Zeroing) (seen : List Str) where
   fields-slot fs option.none clear z l p l₁ p₁ l₂ p₂ a h = go (zeroFields inner seen fs) (rw (z refl) at a) h
     where
       go : (o : Out Zeroing) → Added [] false l p l₁ p₁ → Adds o l₁ p₁ l₂ p₂ → Adds o l p l₂ p₂
-      go (ok w) a h = a ⨟ h
+      go (ok w) a h = a ⊞ h
       go (refused k) a h = h
   fields-slot fs (some line) clear z l p l₁ p₁ l₂ p₂ a h = by-repeat (contains seen line) a h
     where
       repeat : (o : Out Zeroing) → Added [] clear l p l₁ p₁ → Adds o l₁ p₁ l₂ p₂
           → Adds (o then λ z. ok (noPush clear z)) l p l₂ p₂
-      repeat (ok w) a h = a ⨟ h
+      repeat (ok w) a h = a ⊞ h
       repeat (refused k) a h = h
 
       once : (o : Out Zeroing) → Added (line ∷ []) clear l p l₁ p₁ → Adds o l₁ p₁ l₂ p₂
           → Adds (o then λ z. ok (push (Line line) clear z)) l p l₂ p₂
-      once (ok w) a h = a ⨟ h
+      once (ok w) a h = a ⊞ h
       once (refused k) a h = h
 
       by-repeat : (t : Bool) → Added (cond t [] (line ∷ [])) clear l p l₁ p₁
@@ -154,9 +155,9 @@ module _ (inner : ℕ → Out Zeroing) (seen : List Str) where
     where
       go : (o q : Out Zeroing) → Adds o l p l₁ p₁ → Adds q l₁ p₁ l₂ p₂
           → Adds (o then λ g. q then λ z. ok (push (Branch (g .result)) (g .clear) z)) l p l₂ p₂
-      go (ok g) (ok z) a h = a ⨟ h
+      go (ok g) (ok z) a h = a ⊞ h
       go (ok g) (refused k) a h = h
-      go (refused k) q a h = let e : p₁ .refusal ≡ Number k = a in never cc
+      go (refused k) q a h = let e : option.none ≡ some k = sym (ap refusalNumber n) ∙ a in never cc
 
   fields-stop : (fs : List Field) (id k : ℕ) (l : List ℕ) (p : Lines) (l₁ : List ℕ) (p₁ : Lines)
       → p .refusal ≡ None → p₁ .refusal ≡ Number k → Adds (inner id) l p l₁ p₁
@@ -217,12 +218,12 @@ node-adds inner n l p l₁ p₁ l₂ p₂ a h = by-tag (eqb (n .tagCount) 0) a h
     tag = zeroTag (n .tagOffset)
 
     bare : (o : Out Zeroing) → Added [] false l p l₁ p₁ → Adds o l₁ p₁ l₂ p₂ → Adds o l p l₂ p₂
-    bare (ok w) a h = a ⨟ h
+    bare (ok w) a h = a ⊞ h
     bare (refused k) a h = h
 
     tagged : (o : Out Zeroing) → Added (tag ∷ []) false l p l₁ p₁ → Adds o l₁ p₁ l₂ p₂
         → Adds (o then λ z. ok (push (Line tag) false z)) l p l₂ p₂
-    tagged (ok w) a h = a ⨟ h
+    tagged (ok w) a h = a ⊞ h
     tagged (refused k) a h = h
 
     by-tag : (t : Bool) → Added (cond t [] (tag ∷ [])) false l p l₁ p₁
@@ -310,7 +311,7 @@ module _ (o : Out Zeroing) (l : List ℕ) (t : Text) (l₁ : List ℕ) (p : Line
       go (ok z) a = record {
         text = rw (stringify-lines (Branch (z .result)) (any-lines (flatMap (z .result) 0) (sym (a .any) ∙ y))) (a .text);
         clear = a .clears;
-        refusal = a .refusal;
+        refusal = ap refusalNumber (a .refusal);
       }
       go (refused k) a = a
 
@@ -327,6 +328,6 @@ module _ (o : Out Zeroing) (l : List ℕ) (t : Text) (l₁ : List ℕ) (p : Line
           record {
             text = rw (stringify-none (Branch (z .result)) e) (v ⨾ rw (stringify-none (Branch lines.none) refl) at w);
             clear = a .clears;
-            refusal = a .refusal;
+            refusal = ap refusalNumber (a .refusal);
           }
       go (refused k) a = a

@@ -3,6 +3,7 @@
 use mathlib.Core.Path.{_≡_}
 use mathlib.Core.Bool.{Bool, true, false}
 use mathlib.Core.List.{List, [], _∷_}
+use mathlib.Core.Option.{some}
 use Prim.Native.Nat.{ℕ}
 use lib.Dec.{eqb}
 use Rattle.text.specs.Bytes.{Str, either}
@@ -10,7 +11,7 @@ use Rattle.text.specs.Lines.{flatMap, ended}
 use Rattle.text.specs.Text.{Wrote}
 use Rattle.tree.specs.Tree.{Field}
 use Rattle.codegen_types.specs.Out.{Out, ok, refused}
-use Rattle.codegen_types.specs.declared.Refusal.the-variants.{Number}
+use Rattle.codegen_types.specs.Written.{refusalNumber}
 use Rattle.codegen.specs.Zeroing.{Zeroing}
 use Rattle.zeroing.specs.Lines.{repeats, slotLines}
 use Rattle.zeroing.specs.declared.Lines.{Lines}
@@ -34,4 +35,4 @@ AddedSlot type offset fs l p l′ p′ = Added (slotLines type offset (repeats t
 -- what the Rust gives: its lines, or its refusal, and then what was written counts for nothing
 abbrev pub Adds : Out Zeroing → List ℕ → Lines → List ℕ → Lines → Type 0
 Adds (ok z) l p l′ p′ = Added (flatMap (z .result) 0) (z .clear) l p l′ p′
-Adds (refused k) l p l′ p′ = p′ .refusal ≡ Number k
+Adds (refused k) l p l′ p′ = refusalNumber (p′ .refusal) ≡ some k

@@ -9,15 +9,17 @@ use text::Text;
 ghost use mathlib.Core.Path.{_≡_};
 ghost use mathlib.Core.Bool.{false};
 ghost use mathlib.Core.List.{List};
+ghost use mathlib.Core.Option.{some};
 ghost use Prim.Native.Nat.{_<_};
 ghost use lib.Dec.{eqb};
 ghost use lib.ListN.{length, drop, take};
 ghost use Rattle.text.specs.Bytes.{Str, both, either};
-ghost use Rattle.text.specs.Text.{Wrote};
+ghost use Rattle.text.specs.Text.{Wrote, WroteSome};
 ghost use Rattle.row.specs.Rows.{rows};
 ghost use Rattle.tree.specs.Tree as tree;
 ghost use Rattle.tree.specs.Fields.{FieldsHere};
 ghost use Rattle.nodes.specs.Index.{ForAll};
+ghost use Rattle.codegen_types.specs.Written.{refusalNumber};
 ghost use Rattle.codegen.specs.Zeroing.{zeroFieldsOfGroup};
 ghost use Rattle.zeroing.specs.Lines.{lineType, zeroText, repeats, slotLines, tagLines};
 ghost use Rattle.zeroing.specs.Table.{tableSize, stops, tablePlace, Knows, Kept, withLine};
@@ -235,6 +237,7 @@ fn zero_slot(
         → Kept (now (offsets .entry)) (now (types .entry)) (λ c o. repeats c o (take count fs))
         → AddedSlot (lineType (slot .kind)) (slot .offset) (take count fs) (now (buf .entry)) p (now (buf .exit)) r
         × Kept (now (offsets .exit)) (now (types .exit)) (withLine (lineType (slot .kind)) (slot .offset) (take count fs))) ⌝ }
+    ensures some { λ r. ⌜ WroteSome (now (buf .entry)) (p .text) (now (buf .exit)) (r .text) ⌝ }
 {
     let typ = line_type(slot.kind);
     let offset = slot.offset;
@@ -265,11 +268,11 @@ fn tag_line(tag_count: u64, tag_offset: u64, p: Lines, buf: &mut [u8]) -> Lines
 
 // The lines so far with a refusal: what was written counts for nothing.
 fn refused(p: Lines, number: u64) -> Lines
-    ensures { λ r. ⌜ r .refusal ≡ Refusal.Number number ⌝ }
+    ensures { λ r. ⌜ (r .text ≡ p .text) × (refusalNumber (r .refusal) ≡ some number) ⌝ }
 {
-    let t = p.text;
+    let text = p.text;
     Lines {
-        text: t,
+        text,
         clear: p.clear,
         any: p.any,
         refusal: Refusal::Number(number),
@@ -287,8 +290,9 @@ fn zero_fields_of_group(
     buf: &mut [u8],
 ) -> Lines
     requires { ⌜ before .refusal ≡ Refusal.None ⌝ }
-    ensures { λ r. ⌜ ((root : Str) → ForAll root (now (s .entry)) (now (index .entry)) (λ sheet.
+    ensures lines { λ r. ⌜ ((root : Str) → ForAll root (now (s .entry)) (now (index .entry)) (λ sheet.
         Adds (zeroFieldsOfGroup sheet left id) (now (buf .entry)) before (now (buf .exit)) r)) ⌝ }
+    ensures some { λ r. ⌜ WroteSome (now (buf .entry)) (before .text) (now (buf .exit)) (r .text) ⌝ }
 {
     if left == 0 {
         return refused(before, refusals::TOO_DEEP);
@@ -331,8 +335,9 @@ fn zero_fields_of_group(
 
 // The zeroing of the group with this id: its text, or its refusal.
 pub fn zeroing(s: &[u8], index: &[u64], id: u64, t: Text, buf: &mut [u8]) -> Zeroed
-    ensures { λ r. ⌜ ((root : Str) → ForAll root (now (s .entry)) (now (index .entry)) (λ sheet.
+    ensures text { λ r. ⌜ ((root : Str) → ForAll root (now (s .entry)) (now (index .entry)) (λ sheet.
         Zeroes (zeroFieldsOfGroup sheet 16 id) (now (buf .entry)) t (now (buf .exit)) r)) ⌝ }
+    ensures some { λ r. ⌜ WroteSome (now (buf .entry)) t (now (buf .exit)) (r .text) ⌝ }
 {
     let none = Lines {
         text: t,

@@ -21,7 +21,7 @@ fn places(length: usize) -> [(usize, usize); 9] {
     ]
 }
 
-/// The bytes that fit are written, all are counted, the count stops at the largest, and no other byte changes.
+/// The bytes that fit are written, all are counted, the count stops at the largest but one, and no other byte changes.
 pub fn writes(report: &mut Report, text: &[u8], writer: impl Writer, what: impl Fn() -> String) {
     for (length, fill) in places(text.len()) {
         let before = pattern(length);
@@ -31,12 +31,12 @@ pub fn writes(report: &mut Report, text: &[u8], writer: impl Writer, what: impl 
                 *place = *byte;
             }
         }
-        let expected_fill = fill.saturating_add(text.len());
+        let expected_fill = fill.saturating_add(text.len()).min(usize::MAX - 1);
         same(report, before, fill, (expected_fill, expected), &writer, &what);
     }
 }
 
-/// Nothing is written, and the answer is the largest count.
+/// Nothing is written, and the answer is the largest number, which is no count.
 pub fn refuses(report: &mut Report, writer: impl Writer, what: impl Fn() -> String) {
     for (length, fill) in places(64) {
         let before = pattern(length);

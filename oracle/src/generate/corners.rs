@@ -110,7 +110,8 @@ impl Slot {
     }
 }
 
-fn bound(id: u64, types: Vec<Type>) -> Scope {
+/// A scope that binds these types.
+pub fn bound(id: u64, types: Vec<Type>) -> Scope {
     Scope { id, bindings: Some(types.into_iter().map(Binding::Type).collect()) }
 }
 

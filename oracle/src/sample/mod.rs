@@ -2,6 +2,7 @@
 
 pub mod accessors;
 pub mod leaves;
+pub mod requests;
 pub mod sheets;
 
 use std::path::Path;

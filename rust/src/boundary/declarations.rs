@@ -82,4 +82,5 @@ extern "C" {
         buf: *mut u8,
         buf_len: usize,
     ) -> u64;
+    pub fn kitlubas_pad(s: *const u8, s_len: usize, fill: *mut usize, buf: *mut u8, buf_len: usize) -> u64;
 }

@@ -45,7 +45,7 @@ N 9 7 7 0 0 0 0 ward_capnp::Status
 pub const PLACES: u64 = 8;
 
 pub fn sheet(short: &str) -> Vec<u8> {
-    padded(short).into_bytes()
+    padded(short)
 }
 
 /// A file of the repository.

@@ -6,6 +6,7 @@ mod fill;
 mod header;
 mod hostile;
 mod in_c;
+mod padded;
 mod pinned;
 mod program;
 mod raw;

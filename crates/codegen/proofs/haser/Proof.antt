@@ -1,8 +1,8 @@
 -- `codegen::haser` meets its contract: no lines, or those of a pointer, their texts one after the other. Assumes nothing.
-use mathlib.Core.Path.{_∙_}
+use mathlib.Core.Path.{sym, _∙_}
 use borrow.Author.Tests.{not-true, not-false}
 use Rattle.text.proofs.Laws.{_⨾_, kept}
-use Rattle.codegen.proofs.Laws.{pointer-is, haser-none, haser-lines}
+use Rattle.codegen.proofs.Laws.{haser-none, haser-lines}
 use borrow.Author.Needs.{needs}
 use Rattle.codegen.proofs.haser.Statement.{statement}
 use Rattle.codegen.proofs.haser.Tie as tie
@@ -12,8 +12,7 @@ returns c =
     let c3 = c .before .before in
     let c2 = c3 .before .before in
     let c1 = c2 .before in
-    λ s h. rw (haser-none _ _ _ s _ (pointer-is s _ _ (h .kind) (c1 .is-pointer .ensures) ∙ not-true _ (c2 .if1 .taken)))
-    (c3 .no-lines .ensures)
+    rw (haser-none _ _ _ _ _ _ (sym (c1 .is-pointer .ensures) ∙ not-true _ (c2 .if1 .taken))) (c3 .no-lines .ensures)
 
 same-length-2 : tie.Need-same-length-2
 same-length-2 c =
@@ -39,8 +38,7 @@ returns-2 c =
     let c3 = c4 .before .before .before .before in
     let c2 = c3 .before .before .before in
     let c1 = c2 .before in
-    λ s h.
-    rw (haser-lines _ _ _ s _ (pointer-is s _ _ (h .kind) (c1 .is-pointer .ensures) ∙ not-false _ (c2 .if1 .left)), h .offset)
+    rw (haser-lines _ _ _ _ _ _ (sym (c1 .is-pointer .ensures) ∙ not-false _ (c2 .if1 .left)))
     (c3 .bytes .ensures ⨾ c4 .snake-name .ensures ⨾ c5 .bytes2 .ensures ⨾ c6 .tag-test-line .ensures
     ⨾ c7 .bytes3 .ensures ⨾ c8 .not-null .ensures ⨾ c9 .bytes4 .ensures)
 

@@ -1,12 +1,6 @@
 -- `codegen::set_number` meets its contract. Assumes nothing.
-use Rattle.text.specs.Bytes.{ascii}
-use Rattle.calls.specs.Calls.{setDataField}
-use Rattle.calls.specs.Mask.{maskText}
-use Rattle.codegen.specs.Default.{value, primDefault}
-use Rattle.codegen_types.specs.Primitive.{primitiveText}
 use native.Mathlib.Omega.{arith}
 use Rattle.codegen_types.proofs.PrimitiveLaws.{counted}
-use Rattle.codegen.proofs.Laws.{given-wrote}
 use borrow.Author.Needs.{needs}
 use Rattle.codegen.proofs.set_number.Statement.{statement}
 use Rattle.codegen.proofs.set_number.Tie as tie
@@ -23,14 +17,10 @@ slice-aggregate-set-data-field c =
 
 returns : tie.Need-returns
 returns c =
-    let c4 = c .before .before in
-    let c3 = c4 .before .before .before .before in
-    let c2 = c3 .before .before in
+    let c3 = c .before .before in
+    let c2 = c3 .before .before .before .before in
     let c1 = c2 .before .before in
-    given-wrote (setDataField (primitiveText (c1 .args .kind)) (c1 .args .offset) (ascii "value"))
-    (maskText (c3 .prim-default .result))
-    (primDefault (value (c1 .args .default) (c1 .args .bits))) (c3 .prim-default .ensures)
-    (rw (c2 .primitive .ensures .bytes) at (c4 .set-data-field .ensures))
+    rw (← (c2 .prim-default .ensures), ← (c1 .primitive .ensures .bytes)) (c3 .set-data-field .ensures)
 
 pub set-number-spec : {M : Type 1} → statement M
 set-number-spec =

@@ -8,7 +8,7 @@ use Rattle.exports.proofs.kitlubas_blank_line.Tie as tie
 returns : tie.Need-returns
 returns c =
     let w = c .before .before .before in
-    wrote refl (w .before .before .at .ensures) (w .blank-line .ensures) (c .fill .ensures)
+    wrote refl (w .before .before .at .ensures) (w .blank-line .ensures) (c .count .ensures)
 
 pub kitlubas-blank-line-spec : {M : Type 1} → statement M
 kitlubas-blank-line-spec = tie.close

@@ -8,7 +8,7 @@ use Rattle.exports.proofs.kitlubas_line.Tie as tie
 returns : tie.Need-returns
 returns c =
     let w = c .before .before .before in
-    wrote refl (w .before .before .at .ensures) (w .line .ensures) (c .fill .ensures)
+    wrote refl (w .before .before .at .ensures) (w .line .ensures) (c .count .ensures)
 
 pub kitlubas-line-spec : {M : Type 1} → statement M
 kitlubas-line-spec = tie.close

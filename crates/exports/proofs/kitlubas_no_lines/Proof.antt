@@ -8,7 +8,7 @@ use Rattle.exports.proofs.kitlubas_no_lines.Tie as tie
 returns : tie.Need-returns
 returns c =
     let w = c .before .before .before in
-    wrote refl (w .before .before .at .ensures) (w .no-lines .ensures) (c .fill .ensures)
+    wrote refl (w .before .before .at .ensures) (w .no-lines .ensures) (c .count .ensures)
 
 pub kitlubas-no-lines-spec : {M : Type 1} → statement M
 kitlubas-no-lines-spec = tie.close

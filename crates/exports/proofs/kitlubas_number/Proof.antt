@@ -8,7 +8,7 @@ use Rattle.exports.proofs.kitlubas_number.Tie as tie
 returns : tie.Need-returns
 returns c =
     let w = c .before .before .before in
-    wrote refl (w .before .before .at .ensures) (w .number .ensures) (c .fill .ensures)
+    wrote refl (w .before .before .at .ensures) (w .number .ensures) (c .count .ensures)
 
 pub kitlubas-number-spec : {M : Type 1} → statement M
 kitlubas-number-spec = tie.close

@@ -13,26 +13,26 @@ returns : tie.Need-returns
 returns c =
     let w = c .before .before .before in
     rw (w .before .before .match .keys1)
-    (wrote refl (w .before .before .before .at .ensures) (w .signed .ensures) (c .fill .ensures))
+    (wrote refl (w .before .before .before .at .ensures) (w .signed .ensures) (c .count .ensures))
 
 returns-2 : tie.Need-returns-2
 returns-2 c =
     let w = c .before .before .before in
     rw (w .before .before .match .keys2)
-    (wrote refl (w .before .before .before .at .ensures) (w .signed2 .ensures) (c .fill2 .ensures))
+    (wrote refl (w .before .before .before .at .ensures) (w .signed2 .ensures) (c .count2 .ensures))
 
 returns-3 : tie.Need-returns-3
 returns-3 c =
     let w = c .before .before .before in
     rw (w .before .before .match .keys3)
-    (wrote refl (w .before .before .before .at .ensures) (w .signed3 .ensures) (c .fill3 .ensures))
+    (wrote refl (w .before .before .before .at .ensures) (w .signed3 .ensures) (c .count3 .ensures))
 
 returns-4 : tie.Need-returns-4
 returns-4 c =
     let w = c .before .before .before in
     let n = w .before .before .before .before .before .args .n in
     rw (w .before .before .match .keys4, mod-eq-of-lt {n = n} {m = 2 ^ 64} (omega arith))
-    (wrote refl (w .before .before .before .at .ensures) (w .signed4 .ensures) (c .fill4 .ensures))
+    (wrote refl (w .before .before .before .at .ensures) (w .signed4 .ensures) (c .count4 .ensures))
 
 returns-5 : tie.Need-returns-5
 returns-5 c =

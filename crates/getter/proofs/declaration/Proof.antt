@@ -1,7 +1,6 @@
 -- `getter::declaration` meets its contract: the declaration of the words, or nothing. Assumes nothing.
 use mathlib.Core.Path.{refl, sym, _∙_}
 use Rattle.text.specs.Text.{put, adv}
-use Rattle.getter.proofs.TextLaws.{words-text, words-here, no-words}
 use borrow.Author.Needs.{needs}
 use Rattle.getter.proofs.declaration.Statement.{statement}
 use Rattle.getter.proofs.declaration.Tie as tie
@@ -11,16 +10,11 @@ returns c =
     let written = c .before .before in
     let at-if-1 = written .before .before in
     let at-has-words = at-if-1 .before in
-    let has = sym (at-has-words .has-words .ensures) ∙ (at-if-1 .if1 .taken) in
-    λ f h k. rw (words-text _ _ f h _ _ has)
-    ((written .word-array-declaration .ensures) (f .slot .words) (words-here _ _ f h k has) (h .count))
+    rw (sym (at-has-words .has-words .ensures) ∙ at-if-1 .if1 .taken) (written .word-array-declaration .ensures)
 
 returns-2 : tie.Need-returns-2
 unfolding put adv
-returns-2 c =
-    let at-has-words = c .before in
-    λ f h k. rw (no-words _ _ f h _ _ (sym (at-has-words .has-words .ensures) ∙ (c .if1 .left)))
-    record { bytes = refl; state = refl }
+returns-2 c = rw (sym (c .before .has-words .ensures) ∙ c .if1 .left) record { bytes = refl; state = refl }
 
 pub declaration-spec : {M : Type 1} → statement M
 declaration-spec =

@@ -1,7 +1,7 @@
 -- `getter::fallible_result` meets its contract: the type's text between its parts, its refusal handed on. Assumes nothing.
 use mathlib.Core.Path.{refl}
 use lib.ListN.{drop}
-use Rattle.text.proofs.Laws.{_⨾_}
+use Rattle.text.proofs.Laws.{_⨾_, some-text, _⨟_}
 use Rattle.row.specs.Rows.{rows}
 use Rattle.tree.specs.Read.{readType}
 use Rattle.nodes.specs.Index.{sheetOf}
@@ -16,10 +16,14 @@ returns c =
     let at-optional-type = at-bytes-3 .before .before .before .before .before in
     let at-bytes-2 = at-optional-type .before .before .before .before in
     let at-bytes = at-bytes-2 .before .before .before .before .before in
-    let a = at-bytes .before .before .before .before .before .before .args in
-    λ ns ix. on-fallible (readType 16 (rows (drop (a .at) (a .s .now)))) (sheetOf (a .root .now) ns)
-    (a .leaf) _ (a .root .now) (a .option) ((at-bytes .bytes .ensures) ⨾ (at-bytes-2 .bytes2 .ensures))
-    ((at-optional-type .optional-type .ensures) ns ix) (at-bytes-3 .bytes3 .ensures) refl refl
+    let a = at-bytes .before .before .before .before .before .before .args in (
+      λ ns ix. on-fallible (readType 16 (rows (drop (a .at) (a .s .now)))) (sheetOf (a .root .now) ns)
+          (a .leaf) (at-optional-type .optional-type .result) _ (a .root .now) (a .option)
+          (at-bytes .bytes .ensures ⨾ at-bytes-2 .bytes2 .ensures)
+          ((at-optional-type .optional-type .ensures .0) ns ix) (at-bytes-3 .bytes3 .ensures) refl refl,
+      some-text (at-bytes .bytes .ensures ⨾ at-bytes-2 .bytes2 .ensures) ⨟ at-optional-type .optional-type .ensures .1
+          ⨟ some-text (at-bytes-3 .bytes3 .ensures),
+    )
 
 pub fallible-result-spec : {M : Type 1} → statement M
 fallible-result-spec =

@@ -1,5 +1,4 @@
 -- `getter_code::code` meets its contract: the fragment as a line, or between the lines of an option. Assumes nothing.
-use mathlib.Core.Path.{sym, _∙_}
 use borrow.Author.Tests.{ne-eqb}
 use Rattle.text.specs.Lines.{toLines, join, stringify}
 use Rattle.text.proofs.Laws.{_⨾_}
@@ -14,7 +13,7 @@ returns c =
     let c3 = c .before .before in
     let c2 = c3 .before .before .before .before in
     let c1 = c2 .before .before in
-    λ s i e. rw (i .option ∙ (c1 .if1 .taken)) ((c2 .fragment .ensures) s i e ⨾ (c3 .byte .ensures))
+    rw (c1 .if1 .taken) ((c2 .fragment .ensures) ⨾ (c3 .byte .ensures))
 
 returns-2 : tie.Need-returns-2
 returns-2 c =
@@ -25,10 +24,9 @@ returns-2 c =
     let c3 = c4 .before .before .before .before in
     let c2 = c3 .before .before in
     let c1 = c2 .before in
-    λ s i e.
-    rw (ne-eqb _ 0 (λ z. (c1 .if1 .left) (sym (i .option) ∙ z)), ← option-lines _ _ _ _, ← (c2 .is-fallible .ensures) s i)
-    ((c3 .null-head .ensures) ⨾ (rw (← i .offset) at (c4 .number .ensures)) ⨾ (c5 .absent .ensures)
-    ⨾ (c6 .fragment2 .ensures) s i e ⨾ (c7 .some-end .ensures))
+    rw (ne-eqb _ 0 (c1 .if1 .left), ← option-lines _ _ _ _, ← (c2 .is-fallible .ensures))
+    ((c3 .null-head .ensures) ⨾ (c4 .number .ensures) ⨾ (c5 .absent .ensures) ⨾ (c6 .fragment2 .ensures)
+    ⨾ (c7 .some-end .ensures))
 
 pub code-spec : {M : Type 1} → statement M
 code-spec =

@@ -6,7 +6,7 @@ use Rattle.nodes.proofs.module.Tie as tie
 
 returns : tie.Need-returns
 returns c =
-    λ index n x. c .text-before .ensures (x .after) ∙ x .theMod
+    (λ index n x. c .text-before .ensures .0 (x .after) ∙ x .theMod, c .text-before .ensures .1)
 
 pub module-spec : {M : Type 1} → statement M
 module-spec = tie.close (tie.spec (λ c κs. search needs) returns)

@@ -7,23 +7,23 @@ use Rattle.nodes.proofs.nth.Tie as tie
 
 returns : tie.Need-returns
 returns c =
-    λ h. let z : ⊥ = omega (arith, c .if1 .taken) in absurd z
+    with-none _ _ (omega arith)
 
 returns-2 : tie.Need-returns-2
 returns-2 c =
-    λ h. with-empty _ _ (c .if2 .taken)
+    with-empty _ _ (c .if2 .taken)
 
 returns-3 : tie.Need-returns-3
 returns-3 c =
-    λ h. with-none _ _ (c .if3 .taken)
+    with-none _ _ (omega arith)
 
 returns-4 : tie.Need-returns-4
 returns-4 c =
-    λ h. with-out _ _ (omega arith) (c .if4 .taken)
+    with-out _ _ (omega arith) (c .if4 .taken)
 
 returns-5 : tie.Need-returns-5
 returns-5 c =
-    λ h. rw (c .entry-at .ensures) (with-entry _ _ (omega arith) (omega arith))
+    rw (c .entry-at .ensures) (with-entry _ _ (omega arith) (omega arith))
 
 pub nth-spec : {M : Type 1} → statement M
 nth-spec =

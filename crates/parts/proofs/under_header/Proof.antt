@@ -32,7 +32,7 @@ returns c =
         fits-same 65536 (a .buf .now) after (at-refused .refused .result) same (done .1 .0),
         λ ns x at tag-is is.
             let o = accessorText (sheetOf (a .root .now) ns) at (accessorOf (a .part)) in
-            let w = rw (at-asked .asked .ensures) at (at-write-accessor .write-accessor .ensures ns x at tag-is is) in
+            let w = rw (at-asked .asked .ensures) at (at-write-accessor .write-accessor .ensures .0 ns x at tag-is is) in
             rw (← refused-part z o _ w (at-refusal .refusal .given .1)) (done .1 .1),
       ),
     )
@@ -57,7 +57,7 @@ returns-2 c =
         fits-same 65536 (a .buf .now) after (at-refused2 .refused2 .result) same (done .1 .0),
         λ ns x at tag-is is.
             let o = accessorText (sheetOf (a .root .now) ns) at (accessorOf (a .part)) in
-            let w = rw (at-asked .asked .ensures) at (at-write-accessor .write-accessor .ensures ns x at tag-is is) in
+            let w = rw (at-asked .asked .ensures) at (at-write-accessor .write-accessor .ensures .0 ns x at tag-is is) in
             let none = at-enum-told .enum-told .given .1 in
             rw (← long-part z o w none (omega (arith, at-fill .fill .ensures, at-if1 .if1 .taken))) (done .1 .1),
       ),
@@ -83,7 +83,7 @@ returns-3 c =
             (taken-most _ after _ 65536 (omega (arith, at-fill .fill .ensures, at-if1 .if1 .left)) i),
         λ ns x at tag-is is.
             let o = accessorText (sheetOf (a .root .now) ns) at (accessorOf (a .part)) in
-            let w = rw (at-asked .asked .ensures) at (at-write-accessor .write-accessor .ensures ns x at tag-is is) in
+            let w = rw (at-asked .asked .ensures) at (at-write-accessor .write-accessor .ensures .0 ns x at tag-is is) in
             whole-part z o _ w (at-enum-told .enum-told .given .1) (room start)
             (omega (arith, at-fill .fill .ensures, at-if1 .if1 .left)) i,
       ),

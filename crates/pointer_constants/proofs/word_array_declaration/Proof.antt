@@ -1,24 +1,8 @@
 -- `pointer_constants::word_array_declaration` meets its contract: its parts, one after the other. Assumes nothing.
 use Rattle.text.proofs.Laws.{_⨾_, kept}
-use Rattle.pointer_constants.proofs.Laws.{words-of, declaration}
 use borrow.Author.Needs.{needs}
 use Rattle.pointer_constants.proofs.word_array_declaration.Statement.{statement}
 use Rattle.pointer_constants.proofs.word_array_declaration.Tie as tie
-
-same-length : tie.Need-same-length
-same-length c =
-    let c9 = c .before .before in
-    let c8 = c9 .before .before .before .before .before in
-    let c7 = c8 .before .before .before .before in
-    let c6 = c7 .before .before .before .before .before in
-    let c5 = c6 .before .before .before .before in
-    let c4 = c5 .before .before .before .before .before in
-    let c3 = c4 .before .before .before .before in
-    let c2 = c3 .before .before .before .before .before in
-    let c1 = c2 .before .before .before .before in
-    kept
-    (c1 .bytes .ensures ⨾ c2 .default-name .ensures ⨾ c3 .bytes2 .ensures ⨾ c4 .bytes3 .ensures ⨾ c5 .bytes4 .ensures
-    ⨾ c6 .number .ensures ⨾ c7 .bytes5 .ensures ⨾ c8 .words .ensures ⨾ c9 .bytes6 .ensures)
 
 returns : tie.Need-returns
 returns c =
@@ -31,10 +15,11 @@ returns c =
     let c3 = c4 .before .before .before .before in
     let c2 = c3 .before .before .before .before .before in
     let c1 = c2 .before .before .before .before in
-    λ ws h k.
-    rw (← declaration _ _ ws, ← k, ← words-of _ ws _ h k)
     (c1 .bytes .ensures ⨾ c2 .default-name .ensures ⨾ c3 .bytes2 .ensures ⨾ c4 .bytes3 .ensures ⨾ c5 .bytes4 .ensures
     ⨾ c6 .number .ensures ⨾ c7 .bytes5 .ensures ⨾ c8 .words .ensures ⨾ c9 .bytes6 .ensures)
+
+same-length : tie.Need-same-length
+same-length c = kept (returns c)
 
 pub word-array-declaration-spec : {M : Type 1} → statement M
 word-array-declaration-spec =

@@ -28,7 +28,7 @@ returns c =
       λ nodes x at e h.
           own-refusal (accessorText (sheetOf (textAt (rows (a .s .now))) nodes) at (a .accessor)) (a .buf .now) (a .t)
           (start .pre)
-          (at-at .at .ensures) _ _ _ (rw (at-text .text .ensures) at ((at-write-accessor .write-accessor .ensures) nodes x at
+          (at-at .at .ensures) _ _ _ (rw (at-text .text .ensures) at (at-write-accessor .write-accessor .ensures .0 nodes x at
           e h)) _ (at-refusal .refusal .given .1),
       refl,
     )
@@ -45,7 +45,7 @@ returns-2 c =
     let a = start .args in (
       λ nodes x at e h.
           own-long (accessorText (sheetOf (textAt (rows (a .s .now))) nodes) at (a .accessor)) (a .buf .now) (a .t) (start .pre)
-          (at-at .at .ensures) _ _ _ (rw (at-text .text .ensures) at ((at-write-accessor .write-accessor .ensures) nodes x at
+          (at-at .at .ensures) _ _ _ (rw (at-text .text .ensures) at (at-write-accessor .write-accessor .ensures .0 nodes x at
           e h)) _ _ (room start)
           (at-enum-told .enum-told .given .1) (at-fill .fill .ensures) (at-fill2 .fill2 .ensures) (c .if1 .taken),
       refl,
@@ -73,13 +73,17 @@ returns-3 c =
     let a = start .args in (
       λ nodes x at e h.
           own-text (accessorText (sheetOf (textAt (rows (a .s .now))) nodes) at (a .accessor)) (a .buf .now) (a .t) (start .pre)
-          (at-at .at .ensures) _ _ _ (rw (at-text .text .ensures) at ((at-write-accessor .write-accessor .ensures) nodes x at
+          (at-at .at .ensures) _ _ _ (rw (at-text .text .ensures) at (at-write-accessor .write-accessor .ensures .0 nodes x at
           e h)) _ _ (room start)
           (at-enum-told .enum-told .given .1) (at-fill .fill .ensures) (at-fill2 .fill2 .ensures) _ _ _ (at-if1 .if1 .left)
-          (rw (at-text .text .ensures) at ((at-write-accessor2 .write-accessor2 .ensures) nodes x at e h)) (c .at2 .ensures),
-      rw (← at-fill2 .fill2 .ensures) (before-kept (a .buf .now)
-          (at-write-accessor2 .write-accessor2 .last .1 .1 .1 .1 .1 .1 .1 .0) (at-fill2 .fill2 .result)
-          (omega (arith, at-fill2 .fill2 .ensures, start .pre))),
+          (rw (at-text .text .ensures) at (at-write-accessor2 .write-accessor2 .ensures .0 nodes x at e h)) (c .at2 .ensures),
+      (
+        rw (← at-fill2 .fill2 .ensures) (before-kept (a .buf .now)
+            (at-write-accessor2 .write-accessor2 .last .1 .1 .1 .1 .1 .1 .1 .0) (at-fill2 .fill2 .result)
+            (omega (arith, at-fill2 .fill2 .ensures, start .pre))),
+        rw (c .at2 .ensures) (omega (arith, at-fill2 .fill2 .ensures)),
+        rw (c .at2 .ensures) (omega (arith, at-fill2 .fill2 .ensures, start .pre, at-if1 .if1 .left)),
+      ),
     )
 
 pub answer-found-spec : {M : Type 1} → statement M

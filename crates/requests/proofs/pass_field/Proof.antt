@@ -1,8 +1,7 @@
 -- `requests::pass_field` meets its contract: the refusal, or how long the text is. Assumes nothing.
-use Prim.Native.Nat.{_-_, _^_, _<_}
+use Prim.Native.Nat.{_-_, _^_, _≤_, _<_}
 use lib.ListN.{length}
 use native.Mathlib.Omega.{arith}
-use Rattle.text.proofs.Laws.{kept}
 use Rattle.row.specs.Line.{textAt}
 use Rattle.row.specs.Rows.{rows}
 use Rattle.nodes.specs.Index.{sheetOf}
@@ -22,12 +21,14 @@ returns c =
     let at-at = at-write-accessor .before .before in
     let at-text = at-at .before in
     let start = at-text .before .before .before .before in
-    let a = start .args in
-    λ nodes x at e h.
-    pass-refused (accessorText (sheetOf (textAt (rows (a .s .now))) nodes) at (a .accessor)) (a .buf .now) _
-    (at-at .at .ensures) _
-    (rw (at-text .text .ensures) at ((at-write-accessor .write-accessor .ensures) nodes x at e h)) _
-    (at-refusal .refusal .given .1)
+    let a = start .args in (
+      λ nodes x at e h.
+          pass-refused (accessorText (sheetOf (textAt (rows (a .s .now))) nodes) at (a .accessor)) (a .buf .now) _
+          (at-at .at .ensures) _
+          (rw (at-text .text .ensures) at (at-write-accessor .write-accessor .ensures .0 nodes x at e h)) _
+          (at-refusal .refusal .given .1),
+      tt,
+    )
 
 returns-2 : tie.Need-returns-2
 returns-2 c =
@@ -38,12 +39,15 @@ returns-2 c =
     let at-text = at-at .before in
     let start = at-text .before .before .before .before in
     let a = start .args in
-    λ nodes x at e h.
-    pass-longer (accessorText (sheetOf (textAt (rows (a .s .now))) nodes) at (a .accessor)) (a .buf .now) _
-    (at-at .at .ensures) _
-    (rw (at-text .text .ensures) at ((at-write-accessor .write-accessor .ensures) nodes x at e h)) _ (at-fill .fill .ensures)
-    (room start) (at-enum-told .enum-told .given .1)
-    (omega (arith, c .if1 .taken, at-write-accessor .write-accessor .kept .1 .1 .1 .1 .1 .1 .1 .0))
+    let longer : length (a .buf .now) < at-fill .fill .result =
+    omega (arith, c .if1 .taken, at-write-accessor .write-accessor .kept .1 .1 .1 .1 .1 .1 .1 .0) in (
+      λ nodes x at e h.
+          pass-longer (accessorText (sheetOf (textAt (rows (a .s .now))) nodes) at (a .accessor)) (a .buf .now) _
+          (at-at .at .ensures) _
+          (rw (at-text .text .ensures) at (at-write-accessor .write-accessor .ensures .0 nodes x at e h)) _
+          (at-fill .fill .ensures) (room start) (at-enum-told .enum-told .given .1) longer,
+      longer,
+    )
 
 returns-3 : tie.Need-returns-3
 returns-3 c =
@@ -54,12 +58,15 @@ returns-3 c =
     let at-text = at-at .before in
     let start = at-text .before .before .before .before in
     let a = start .args in
-    λ nodes x at e h.
-    pass-whole (accessorText (sheetOf (textAt (rows (a .s .now))) nodes) at (a .accessor)) (a .buf .now) _
-    (at-at .at .ensures) _
-    (rw (at-text .text .ensures) at ((at-write-accessor .write-accessor .ensures) nodes x at e h)) _ (at-fill .fill .ensures)
-    (room start) (at-enum-told .enum-told .given .1)
-    (omega (arith, c .if1 .left, at-write-accessor .write-accessor .kept .1 .1 .1 .1 .1 .1 .1 .0))
+    let within : at-fill .fill .result ≤ length (a .buf .now) =
+    omega (arith, c .if1 .left, at-write-accessor .write-accessor .kept .1 .1 .1 .1 .1 .1 .1 .0) in (
+      λ nodes x at e h.
+          pass-whole (accessorText (sheetOf (textAt (rows (a .s .now))) nodes) at (a .accessor)) (a .buf .now) _
+          (at-at .at .ensures) _
+          (rw (at-text .text .ensures) at (at-write-accessor .write-accessor .ensures .0 nodes x at e h)) _
+          (at-fill .fill .ensures) (room start) (at-enum-told .enum-told .given .1) within,
+      within,
+    )
 
 pub pass-field-spec : {M : Type 1} → statement M
 pass-field-spec =

@@ -1,4 +1,5 @@
 -- `requests::write_accessor` meets its contract: by what the field is. Assumes nothing.
+use Rattle.text.proofs.Laws.{no-text}
 use borrow.Author.Needs.{needs}
 use Rattle.requests.proofs.write_accessor.Statement.{statement}
 use Rattle.requests.proofs.write_accessor.Tie as tie
@@ -9,18 +10,22 @@ enum-told c = search needs
 returns : tie.Need-returns
 returns c =
     let at-slot-accessor = c .before .before in
-    let at-field = at-slot-accessor .before .before .before in
-    λ nodes x at e h. (at-slot-accessor .slot-accessor .ensures) nodes x at e (rw (at-field .field .given .1) at h)
+    let at-field = at-slot-accessor .before .before .before in (
+      λ nodes x at e h. at-slot-accessor .slot-accessor .ensures .0 nodes x at e (rw (at-field .field .given .1) at h),
+      at-slot-accessor .slot-accessor .ensures .1,
+    )
 
 returns-2 : tie.Need-returns-2
 returns-2 c =
     let at-group-accessor = c .before .before in
-    let at-field2 = at-group-accessor .before .before .before in
-    λ nodes x at e h. (at-group-accessor .group-accessor .ensures) _ _ nodes x at e (rw (at-field2 .field2 .given .1) at h)
+    let at-field2 = at-group-accessor .before .before .before in (
+      λ nodes x at e h. at-group-accessor .group-accessor .ensures .0 _ _ nodes x at e (rw (at-field2 .field2 .given .1) at h),
+      at-group-accessor .group-accessor .ensures .1,
+    )
 
 returns-3 : tie.Need-returns-3
 returns-3 c =
-    λ nodes x at e h. absurd (rw (c .before .enum-told .given .1) at h)
+    (λ nodes x at e h. absurd (rw (c .before .enum-told .given .1) at h), rw (c .refused .ensures .0) no-text)
 
 pub write-accessor-spec : {M : Type 1} → statement M
 write-accessor-spec =

@@ -1,13 +1,13 @@
 -- `row::field_line` meets its contract. A bad line: the column or the text that decides it. The last return: all columns.
 -- Assumes nothing.
 use borrow.Author.Needs.{needs}
-use Rattle.row.specs.Line.{fieldLine}
+use Rattle.row.specs.Line.{lineSaid, fieldLine}
 use Rattle.row.proofs.ColumnLaws.{given-bad, past, no-text, is-text}
 use Rattle.row.proofs.field_line.Statement.{statement}
 use Rattle.row.proofs.field_line.Tie as tie
 
 field : tie.Need-returns-6
-unfolding fieldLine
+unfolding lineSaid fieldLine
 field c =
     let option = c .before .before .before in
     let explicit = option .before .before .before .before in
@@ -20,7 +20,7 @@ field c =
     (rw (is-text (c .before .ends-in-name .ensures) (c .if1 .left))))))
 
 pub field-line-spec : {M : Type 1} → statement M
-unfolding fieldLine
+unfolding lineSaid fieldLine
 field-line-spec =
     tie.close
     (tie.spec

@@ -1,13 +1,13 @@
 -- `row::group_line` meets its contract. A bad line: the column or the text that decides it. The last return: all columns.
 -- Assumes nothing.
 use borrow.Author.Needs.{needs}
-use Rattle.row.specs.Line.{groupLine}
+use Rattle.row.specs.Line.{lineSaid, groupLine}
 use Rattle.row.proofs.ColumnLaws.{given-bad, past, no-text, is-text}
 use Rattle.row.proofs.group_line.Statement.{statement}
 use Rattle.row.proofs.group_line.Tie as tie
 
 group : tie.Need-returns-4
-unfolding groupLine
+unfolding lineSaid groupLine
 group c =
     let discriminant = c .before .before .before in
     let id = discriminant .before .before .before .before in
@@ -16,7 +16,7 @@ group c =
     (rw (is-text (c .before .ends-in-name .ensures) (c .if1 .left))))
 
 pub group-line-spec : {M : Type 1} → statement M
-unfolding groupLine
+unfolding lineSaid groupLine
 group-line-spec =
     tie.close
     (tie.spec

@@ -1,11 +1,13 @@
 -- `row::line_to` meets its contract: what stands in front of the part's last byte is read by its letter. Assumes nothing.
 use borrow.Author.Tests.{eq-eqb, ne-eqb}
 use borrow.Author.Needs.{needs}
+use Rattle.row.specs.Line.{lineSaid}
 use Rattle.row.proofs.Laws.{line-row}
 use Rattle.row.proofs.line_to.Statement.{statement}
 use Rattle.row.proofs.line_to.Tie as tie
 
 returns : tie.Need-returns
+unfolding lineSaid
 returns c =
     let start = c .before .before .before in
     let a = start .args in

@@ -1,13 +1,13 @@
 -- `row::node_line` meets its contract. A bad line: the column or the text that decides it. The last return: all columns.
 -- Assumes nothing.
 use borrow.Author.Needs.{needs}
-use Rattle.row.specs.Line.{nodeLine}
+use Rattle.row.specs.Line.{lineSaid, nodeLine}
 use Rattle.row.proofs.ColumnLaws.{given-bad, past, no-text, is-text}
 use Rattle.row.proofs.node_line.Statement.{statement}
 use Rattle.row.proofs.node_line.Tie as tie
 
 node : tie.Need-returns-9
-unfolding nodeLine
+unfolding lineSaid nodeLine
 node c =
     let tag-offset = c .before .before .before in
     let tag-count = tag-offset .before .before .before .before in
@@ -26,7 +26,7 @@ node c =
     (rw (is-text (c .before .ends-in-graphic .ensures) (c .if1 .left)))))))))
 
 pub node-line-spec : {M : Type 1} → statement M
-unfolding nodeLine
+unfolding lineSaid nodeLine
 node-line-spec =
     tie.close
     (tie.spec

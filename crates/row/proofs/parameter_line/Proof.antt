@@ -1,12 +1,12 @@
 -- `row::parameter_line` meets its contract, by its one test. Assumes nothing.
 use borrow.Author.Needs.{needs}
-use Rattle.row.specs.Line.{parameterLine}
+use Rattle.row.specs.Line.{lineSaid, parameterLine}
 use Rattle.row.proofs.ColumnLaws.{no-text, is-text}
 use Rattle.row.proofs.parameter_line.Statement.{statement}
 use Rattle.row.proofs.parameter_line.Tie as tie
 
 pub parameter-line-spec : {M : Type 1} → statement M
-unfolding parameterLine
+unfolding lineSaid parameterLine
 parameter-line-spec =
     tie.close
     (tie.spec

@@ -1,12 +1,12 @@
 -- `row::read` meets its contract. Each arm knows its letter, and the last that it is none of them. Assumes nothing.
 use borrow.Author.Tests.{ne-eqb}
 use borrow.Author.Needs.{needs}
-use Rattle.row.specs.Line.{reader}
+use Rattle.row.specs.Line.{lineSaid, reader}
 use Rattle.row.proofs.read.Statement.{statement}
 use Rattle.row.proofs.read.Tie as tie
 
 other : tie.Need-returns-11
-unfolding reader
+unfolding lineSaid reader
 other c =
     let ((((((((((_, r), n), p), f), g), t), s), u), v), w) = c .match .rest in
     simp (

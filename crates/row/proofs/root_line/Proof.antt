@@ -1,12 +1,12 @@
 -- `row::root_line` meets its contract, by its one test. Assumes nothing.
 use borrow.Author.Needs.{needs}
-use Rattle.row.specs.Line.{rootLine}
+use Rattle.row.specs.Line.{lineSaid, rootLine}
 use Rattle.row.proofs.ColumnLaws.{no-text, is-text}
 use Rattle.row.proofs.root_line.Statement.{statement}
 use Rattle.row.proofs.root_line.Tie as tie
 
 pub root-line-spec : {M : Type 1} → statement M
-unfolding rootLine
+unfolding lineSaid rootLine
 root-line-spec =
     tie.close
     (tie.spec

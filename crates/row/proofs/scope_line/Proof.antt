@@ -2,13 +2,13 @@
 -- length. The last return: all columns. Assumes nothing.
 use borrow.Author.Tests.{eq-eqb, ne-eqb}
 use borrow.Author.Needs.{needs}
-use Rattle.row.specs.Line.{scopeLine}
+use Rattle.row.specs.Line.{lineSaid, scopeLine}
 use Rattle.row.proofs.ColumnLaws.{given-bad, past}
 use Rattle.row.proofs.scope_line.Statement.{statement}
 use Rattle.row.proofs.scope_line.Tie as tie
 
 no-count : tie.Need-returns-3
-unfolding scopeLine
+unfolding lineSaid scopeLine
 no-count c =
     let bind = c .before .before .before .before .before in
     simp (
@@ -21,7 +21,7 @@ no-count c =
     )
 
 scope : tie.Need-returns-5
-unfolding scopeLine
+unfolding lineSaid scopeLine
 scope c =
     let count = c .before .before in
     let bind = count .before .before .before .before .before in
@@ -33,7 +33,7 @@ scope c =
     (rw (eq-eqb _ _ (c .if1 .left))))))
 
 pub scope-line-spec : {M : Type 1} → statement M
-unfolding scopeLine
+unfolding lineSaid scopeLine
 scope-line-spec =
     tie.close
     (tie.spec

@@ -1,6 +1,10 @@
 -- `row::text` meets its contract: the row at the position ends where `row_end` says. Assumes nothing.
-use Rattle.row.proofs.Laws.{row-bounds, text-out}
+use mathlib.Core.Path.{ap, _∙_}
 use borrow.Author.Needs.{needs}
+use Rattle.row.specs.Span.{spanned}
+use Rattle.row.specs.declared.Span.{Span}
+use Rattle.row.proofs.Laws.{row-bounds, text-out}
+use Rattle.row.proofs.SpanLaws.{to-text}
 use Rattle.row.proofs.text.Statement.{statement}
 use Rattle.row.proofs.text.Tie as tie
 
@@ -22,7 +26,11 @@ returns-2 : tie.Need-returns-2
 returns-2 c =
     let at-span-to = c .before in
     let at-row-end = at-span-to .before in
-    (at-span-to .span-to .ensures .1) (at-row-end .row-end .ensures)
+    let at-if1 = at-row-end .before in
+    let a = at-if1 .before .before .args in
+    let b = row-bounds (a .s .now) (a .at) _ (at-if1 .if1 .left) (at-row-end .row-end .ensures) in
+    ap (λ (p : Span). spanned (a .s .now) p) (at-span-to .span-to .ensures .1)
+    ∙ to-text (a .s .now) (a .at) _ (b .0) (b .1) (at-row-end .row-end .ensures)
 
 pub text-spec : {M : Type 1} → statement M
 text-spec =

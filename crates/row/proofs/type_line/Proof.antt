@@ -2,20 +2,20 @@
 -- length. The last return: all columns. Assumes nothing.
 use borrow.Author.Tests.{eq-eqb, ne-eqb}
 use borrow.Author.Needs.{needs}
-use Rattle.row.specs.Line.{typeLine}
+use Rattle.row.specs.Line.{lineSaid, typeLine}
 use Rattle.row.proofs.ColumnLaws.{given-bad, past}
 use Rattle.row.proofs.type_line.Statement.{statement}
 use Rattle.row.proofs.type_line.Tie as tie
 
 no-a : tie.Need-returns-2
-unfolding typeLine
+unfolding lineSaid typeLine
 no-a c =
     let kind = c .before .before .before .before .before in
     past _ (kind .before .before .column .ensures) (kind .kind .given .1)
     (rw (← c .before .before .before .most-a .ensures, ← c .before .before .column2 .ensures, c .enum-told2 .given .1))
 
 no-b : tie.Need-returns-3
-unfolding typeLine
+unfolding lineSaid typeLine
 no-b c =
     let a = c .before .before .before .before .before in
     let kind = a .before .before .before .before .before in
@@ -25,7 +25,7 @@ no-b c =
     (rw (← c .before .before .before .most-b .ensures, ← c .before .before .column3 .ensures, c .enum-told3 .given .1))))
 
 no-c : tie.Need-returns-4
-unfolding typeLine
+unfolding lineSaid typeLine
 no-c c =
     let a = c .before .before .before .before .before .before .before .before .before .before in
     let kind = a .before .before .before .before .before in
@@ -40,7 +40,7 @@ no-c c =
     ))))
 
 type : tie.Need-returns-6
-unfolding typeLine
+unfolding lineSaid typeLine
 type c =
     let p = c .before .before in
     let b = p .before .before .before .before .before in
@@ -55,7 +55,7 @@ type c =
     (rw (eq-eqb _ _ (c .if1 .left))))))))
 
 pub type-line-spec : {M : Type 1} → statement M
-unfolding typeLine
+unfolding lineSaid typeLine
 type-line-spec =
     tie.close
     (tie.spec

@@ -2,20 +2,20 @@
 -- length. The last return: all columns. Assumes nothing.
 use borrow.Author.Tests.{eq-eqb, ne-eqb}
 use borrow.Author.Needs.{needs}
-use Rattle.row.specs.Line.{valueLine}
+use Rattle.row.specs.Line.{lineSaid, valueLine}
 use Rattle.row.proofs.ColumnLaws.{given-bad, past}
 use Rattle.row.proofs.value_line.Statement.{statement}
 use Rattle.row.proofs.value_line.Tie as tie
 
 no-bits : tie.Need-returns-2
-unfolding valueLine
+unfolding lineSaid valueLine
 no-bits c =
     let kind = c .before .before .before .before .before in
     past _ (kind .before .before .column .ensures) (kind .kind .given .1)
     (rw (← c .before .before .before .most-bits .ensures, ← c .before .before .column2 .ensures, c .enum-told2 .given .1))
 
 value : tie.Need-returns-4
-unfolding valueLine
+unfolding lineSaid valueLine
 value c =
     let bits = c .before .before in
     let kind = bits .before .before .before .before .before in
@@ -25,7 +25,7 @@ value c =
     (rw (eq-eqb _ _ (c .if1 .left)))))
 
 pub value-line-spec : {M : Type 1} → statement M
-unfolding valueLine
+unfolding lineSaid valueLine
 value-line-spec =
     tie.close
     (tie.spec

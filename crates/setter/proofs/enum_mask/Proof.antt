@@ -1,16 +1,12 @@
--- `setter::enum_mask` meets its contract: by whether the default is explicit. Assumes nothing.
-use mathlib.Core.Path.{refl}
-use Rattle.setter.proofs.ArmLaws.{mask-none, mask-some}
+-- `setter::enum_mask` meets its contract: by whether the default is explicit, and an Enum. Assumes nothing.
+use borrow.Author.Tests.{eq-eqb, ne-eqb}
 use Rattle.setter.proofs.enum_mask.Statement.{statement}
 use Rattle.setter.proofs.enum_mask.Tie as tie
 
-returns : tie.Need-returns
-returns c =
-    λ sl is. mask-some sl _ is _ refl (c .if1 .taken)
-
-returns-2 : tie.Need-returns-2
-returns-2 c =
-    λ sl is. mask-none sl _ is _ refl (c .if1 .left)
-
 pub enum-mask-spec : {M : Type 1} → statement M
-enum-mask-spec = tie.close (tie.spec returns returns-2)
+enum-mask-spec =
+    tie.close
+    (tie.spec
+    (λ c. simp (eq-eqb _ _ (c .if1 .taken)))
+    (λ c. simp (ne-eqb _ _ (c .before .before .if1 .left), eq-eqb _ _ (c .if2 .taken)))
+    (λ c. simp (ne-eqb _ _ (c .before .before .if1 .left), ne-eqb _ _ (c .if2 .left))))

@@ -1,11 +1,12 @@
 -- `setter::enum_setter` meets its contract: the setter around the module, with the default's mask. Assumes nothing.
 use mathlib.Core.Path.{refl, ap, _∙_}
-use Rattle.text.proofs.Laws.{_⨾_, kept}
+use mathlib.Core.Option.{Option}
+use Prim.Native.Nat.{ℕ}
+use Rattle.text.proofs.Laws.{_⨾_, kept, some-text, _⨟_}
 use Rattle.names.specs.Names.{nameOf}
 use Rattle.nodes.specs.Index.{sheetOf}
 use Rattle.calls.specs.Mask.{maskText}
-use Rattle.codegen_types.specs.Written.{firstOf}
-use Rattle.codegen_types.specs.declared.Refusal.{Refusal}
+use Rattle.codegen_types.specs.Written.{refusalNumber, firstOf}
 use Rattle.setter.proofs.ArmLaws.{enum-here}
 use borrow.Author.Needs.{needs}
 use Rattle.setter.proofs.enum_setter.Statement.{statement}
@@ -34,14 +35,17 @@ returns c =
     let c4 = c5 .before .before .before .before in
     let c3 = c4 .before .before .before .before .before .before in
     let c2 = c3 .before .before .before .before in
-    let c1 = c2 .before .before .before .before .before in
-    λ root ns ix f h k. enum-here (c1 .args .s .now) (c1 .args .slot) f h (sheetOf root ns) (c1 .args .tag)
-    (nameOf (c1 .args .name)) (c3 .qualified-module .result) (maskText (c7 .enum-mask .result)) k
-    (c2 .set-open .ensures) (c3 .qualified-module .ensures root ns ix)
-    (c4 .bytes .ensures ⨾ c5 .tag-line .ensures ⨾ c6 .bytes2 .ensures ⨾ c8 .set-data-field .ensures ⨾ c9 .bytes3 .ensures)
-    (c7 .enum-mask .ensures (f .slot) (h .slot)) refl
-    (c .first .ensures ∙ ap (λ (x : Refusal). firstOf (c3 .qualified-module .result .refusal) x)
-    (c10 .enum-refusal .ensures (f .slot) (h .slot)))
+    let c1 = c2 .before .before .before .before .before in (
+      λ root ns ix f h k. enum-here (c1 .args .s .now) (c1 .args .slot) f h (sheetOf root ns) (c1 .args .tag)
+          (nameOf (c1 .args .name)) (c3 .qualified-module .result) (maskText (c7 .enum-mask .result)) k
+          (c2 .set-open .ensures) (c3 .qualified-module .ensures .0 root ns ix)
+          (c4 .bytes .ensures ⨾ c5 .tag-line .ensures ⨾ c6 .bytes2 .ensures ⨾ c8 .set-data-field .ensures ⨾ c9 .bytes3 .ensures)
+          (c7 .enum-mask .ensures) refl
+          (c .first .ensures ∙ ap (λ (x : Option ℕ). firstOf (refusalNumber (c3 .qualified-module .result .refusal)) x)
+          (c10 .enum-refusal .ensures)),
+      some-text (c2 .set-open .ensures) ⨟ c3 .qualified-module .ensures .1 ⨟ some-text
+          (c4 .bytes .ensures ⨾ c5 .tag-line .ensures ⨾ c6 .bytes2 .ensures ⨾ c8 .set-data-field .ensures ⨾ c9 .bytes3 .ensures),
+    )
 
 pub enum-setter-spec : {M : Type 1} → statement M
 enum-setter-spec =

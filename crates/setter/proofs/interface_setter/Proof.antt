@@ -2,7 +2,7 @@
 use mathlib.Core.Path.{refl, _∙_}
 use mathlib.Core.List.{_++_}
 use Rattle.text.specs.Bytes.{ascii}
-use Rattle.text.proofs.Laws.{_⨾_, kept}
+use Rattle.text.proofs.Laws.{_⨾_, kept, some-text, _⨟_}
 use Rattle.names.specs.Names.{nameOf}
 use Rattle.nodes.specs.Index.{sheetOf}
 use Rattle.setter_code.specs.Parts.{tagLine}
@@ -33,11 +33,16 @@ returns c =
     let c4 = c5 .before .before .before .before in
     let c3 = c4 .before .before .before .before .before .before in
     let c2 = c3 .before .before .before .before in
-    let c1 = c2 .before .before .before .before .before .before in
-    λ ns ix f h k. interface-here (c1 .args .s .now) (c1 .args .slot) f h (sheetOf (c1 .args .root .now) ns) (c1 .args .tag)
-    (nameOf (c1 .args .name)) (c3 .type-string .result) k (c2 .set-open .ensures) (c3 .type-string .ensures ns ix)
-    (retext (capability-line (ascii ")  {\n" ++ tagLine (c1 .args .tag) (c1 .args .slot .discriminant)) (c1 .args .slot .offset))
-    (c4 .bytes .ensures ⨾ c5 .tag-line .ensures ⨾ c6 .bytes2 .ensures ⨾ c7 .number .ensures ⨾ c8 .bytes3 .ensures)) refl refl
+    let c1 = c2 .before .before .before .before .before .before in (
+      λ ns ix f h k. interface-here (c1 .args .s .now) (c1 .args .slot) f h (sheetOf (c1 .args .root .now) ns) (c1 .args .tag)
+          (nameOf (c1 .args .name)) (c3 .type-string .result) k (c2 .set-open .ensures) (c3 .type-string .ensures .0 ns ix)
+          (retext
+          (capability-line (ascii ")  {\n" ++ tagLine (c1 .args .tag) (c1 .args .slot .discriminant)) (c1 .args .slot .offset))
+          (c4 .bytes .ensures ⨾ c5 .tag-line .ensures ⨾ c6 .bytes2 .ensures ⨾ c7 .number .ensures ⨾ c8 .bytes3 .ensures))
+          refl refl,
+      some-text (c2 .set-open .ensures) ⨟ c3 .type-string .ensures .1 ⨟ some-text
+          (c4 .bytes .ensures ⨾ c5 .tag-line .ensures ⨾ c6 .bytes2 .ensures ⨾ c7 .number .ensures ⨾ c8 .bytes3 .ensures),
+    )
 
 pub interface-setter-spec : {M : Type 1} → statement M
 interface-setter-spec =

@@ -13,9 +13,11 @@ returns c =
     let c4 = c5 .before .before in
     let c3 = c4 .before in
     let c2 = c3 .before in
-    let c1 = c2 .before .before .before .before .before in
-    λ ns ix. on-several (rows (drop (c1 .args .at) (c1 .args .s .now))) (sheetOf (c1 .args .root .now) ns) _ _
-    (c2 .element-kind .ensures) (c3 .several-inputs .ensures) _ _ _ _ (c4 .if1 .taken) (c5 .setter-input .ensures ns ix)
+    let c1 = c2 .before .before .before .before .before in (
+      λ ns ix. on-several (rows (drop (c1 .args .at) (c1 .args .s .now))) (sheetOf (c1 .args .root .now) ns) _ _
+          (c2 .element-kind .ensures) (c3 .several-inputs .ensures) _ _ _ _ (c4 .if1 .taken) (c5 .setter-input .ensures .0 ns ix),
+      c5 .setter-input .ensures .1,
+    )
 
 returns-2 : tie.Need-returns-2
 returns-2 c =
@@ -23,9 +25,11 @@ returns-2 c =
     let c4 = c5 .before .before in
     let c3 = c4 .before in
     let c2 = c3 .before in
-    let c1 = c2 .before .before .before .before .before in
-    λ ns ix. on-one-input (rows (drop (c1 .args .at) (c1 .args .s .now))) (sheetOf (c1 .args .root .now) ns) _ _
-    (c2 .element-kind .ensures) (c3 .several-inputs .ensures) _ _ _ _ (c4 .if1 .left) (c5 .reader-type .ensures ns ix)
+    let c1 = c2 .before .before .before .before .before in (
+      λ ns ix. on-one-input (rows (drop (c1 .args .at) (c1 .args .s .now))) (sheetOf (c1 .args .root .now) ns) _ _
+          (c2 .element-kind .ensures) (c3 .several-inputs .ensures) _ _ _ _ (c4 .if1 .left) (c5 .reader-type .ensures .0 ns ix),
+      c5 .reader-type .ensures .1,
+    )
 
 pub list-reader-spec : {M : Type 1} → statement M
 list-reader-spec =

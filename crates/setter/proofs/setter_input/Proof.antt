@@ -1,7 +1,7 @@
 -- `setter::setter_input` meets its contract: the type's text between its parts. Assumes nothing.
 use mathlib.Core.Path.{refl}
 use lib.ListN.{drop}
-use Rattle.text.proofs.Laws.{_⨾_}
+use Rattle.text.proofs.Laws.{_⨾_, some-text, _⨟_}
 use Rattle.row.specs.Rows.{rows}
 use Rattle.tree.specs.Read.{readType}
 use Rattle.nodes.specs.Index.{sheetOf}
@@ -17,10 +17,13 @@ returns c =
     let c4 = c5 .before .before .before .before in
     let c3 = c4 .before .before .before .before .before in
     let c2 = c3 .before .before .before .before in
-    let c1 = c2 .before .before .before .before .before .before .before in
-    λ ns ix. on-input (readType 16 (rows (drop (c1 .args .at) (c1 .args .s .now)))) (sheetOf (c1 .args .root .now) ns)
-    (c5 .type-string .result) (c2 .bytes .ensures ⨾ c3 .bytes2 .ensures ⨾ c4 .bytes3 .ensures)
-    (c5 .type-string .ensures ns ix) (c6 .bytes4 .ensures) refl refl
+    let c1 = c2 .before .before .before .before .before .before .before in (
+      λ ns ix. on-input (readType 16 (rows (drop (c1 .args .at) (c1 .args .s .now)))) (sheetOf (c1 .args .root .now) ns)
+          (c5 .type-string .result) _ (c2 .bytes .ensures ⨾ c3 .bytes2 .ensures ⨾ c4 .bytes3 .ensures)
+          (c5 .type-string .ensures .0 ns ix) (c6 .bytes4 .ensures) refl refl,
+      some-text (c2 .bytes .ensures ⨾ c3 .bytes2 .ensures ⨾ c4 .bytes3 .ensures) ⨟ c5 .type-string .ensures .1
+          ⨟ some-text (c6 .bytes4 .ensures),
+    )
 
 pub setter-input-spec : {M : Type 1} → statement M
 setter-input-spec =

@@ -1,5 +1,6 @@
 -- `setter::setter_of` meets its contract: the arm of the slot's kind. Assumes nothing.
 use mathlib.Core.Path.{_≡_}
+use Rattle.text.proofs.Laws.{some-text}
 use Rattle.names.specs.Names.{nameOf}
 use Rattle.nodes.specs.Index.{sheetOf}
 use Rattle.tree.specs.Tree as tree
@@ -20,14 +21,43 @@ any-kind c sl h =
 any-pointer : tie.Need-returns
 any-pointer c =
     let w = c .before .before .before in let m = w .before .before in let e = m .before .before in
-    let a = e .before .before .before .before .before .before .args in
-    λ ns ix f h. any-here (sheetOf (a .root .now) ns) (f .slot) (a .slot) (h .slot) (a .tag) (nameOf (a .name))
-    (a .slot .discriminant) (any-kind e (f .slot) (h .slot)) (m .if2 .taken) (w .any-pointer .ensures) (c .whole .ensures)
+    let a = e .before .before .before .before .before .before .args in (
+      λ ns ix f h. any-here (sheetOf (a .root .now) ns) (f .slot) (a .slot) (h .slot) (a .tag) (nameOf (a .name))
+          (a .slot .discriminant) (any-kind e (f .slot) (h .slot)) (m .if2 .taken) (w .any-pointer .ensures) (c .whole .ensures),
+      rw (c .whole .ensures .0) (some-text (w .any-pointer .ensures)),
+    )
 
 parameter : tie.Need-returns-7
 parameter c =
-    let w = c .before .before in let m = w .before .before in
-    λ ns ix f h. w .parameter-setter .ensures ns ix f h (any-kind (m .before .before) (f .slot) (h .slot)) (m .if2 .left)
+    let w = c .before .before in let m = w .before .before in (
+      λ ns ix f h. w .parameter-setter .ensures .0 ns ix f h (any-kind (m .before .before) (f .slot) (h .slot)) (m .if2 .left),
+      w .parameter-setter .ensures .1,
+    )
+
+list : tie.Need-returns-2
+list c =
+    let w = c .before .before in
+    (λ ns ix f h. w .list-setter .ensures .0 ns ix f h (w .before .before .match .keys1), w .list-setter .ensures .1)
+
+enum : tie.Need-returns-3
+enum c =
+    let w = c .before .before in
+    (λ ns ix f h. w .enum-setter .ensures .0 _ ns ix f h (w .before .before .match .keys2), w .enum-setter .ensures .1)
+
+struct : tie.Need-returns-4
+struct c =
+    let w = c .before .before in
+    (λ ns ix f h. w .struct-setter .ensures .0 ns ix f h (w .before .before .match .keys3), w .struct-setter .ensures .1)
+
+interface : tie.Need-returns-5
+interface c =
+    let w = c .before .before in
+    (λ ns ix f h. w .interface-setter .ensures .0 ns ix f h (w .before .before .match .keys4), w .interface-setter .ensures .1)
+
+plain : tie.Need-returns-6
+plain c =
+    let w = c .before .before in
+    (λ ns ix f h. w .plain-setter .ensures .0 ns (f .slot) (h .slot) (w .before .before .if1 .taken), w .plain-setter .ensures .1)
 
 pub setter-of-spec : {M : Type 1} → statement M
 setter-of-spec =
@@ -44,15 +74,14 @@ setter-of-spec =
     any-pointer
     (λ c κs. search needs)
     (λ c. search needs)
-    (λ c ns ix f h. c .before .before .list-setter .ensures ns ix f h (c .before .before .before .before .match .keys1))
+    list
     (λ c. search needs)
-    (λ c ns ix f h. c .before .before .enum-setter .ensures _ ns ix f h (c .before .before .before .before .match .keys2))
+    enum
     (λ c. search needs)
-    (λ c ns ix f h. c .before .before .struct-setter .ensures ns ix f h (c .before .before .before .before .match .keys3))
+    struct
     (λ c. search needs)
-    (λ c ns ix f h. c .before .before .interface-setter .ensures ns ix f h (c .before .before .before .before .match .keys4))
+    interface
     (λ c. search needs)
-    (λ c ns ix f h.
-    c .before .before .plain-setter .ensures ns (f .slot) (h .slot) (c .before .before .before .before .if1 .taken))
+    plain
     (λ c. search needs)
     parameter)

@@ -1,13 +1,12 @@
--- `setter_code::boolean` meets its contract: its parts, one after the other, with the mask that is given. Assumes nothing.
-use Rattle.names.specs.Names.{nameOf}
-use Rattle.setter_code.specs.Parts.{tagLine}
-use Rattle.setter_code.proofs.Laws.{retext}
-use mathlib.Core.Path.{_∙_}
+-- `setter_code::boolean` meets its contract: its parts, one after the other. Assumes nothing.
 use Rattle.text.specs.Bytes.{ascii}
 use Rattle.text.proofs.Laws.{_⨾_, kept}
+use Rattle.names.specs.Names.{nameOf}
 use Rattle.calls.specs.Calls.{setBoolField}
 use Rattle.codegen.specs.Default.{value, primDefault}
-use Rattle.setter_code.proofs.Laws.{masked-text, bool-open}
+use Rattle.codegen.specs.Mask.{maskOr}
+use Rattle.setter_code.specs.Parts.{tagLine}
+use Rattle.setter_code.proofs.Laws.{only-text, bool-open, retext}
 use borrow.Author.Needs.{needs}
 use Rattle.setter_code.proofs.boolean.Statement.{statement}
 use Rattle.setter_code.proofs.boolean.Tie as tie
@@ -20,8 +19,9 @@ same-length c =
     let c3 = c4 .before .before .before .before .before in
     let c2 = c3 .before .before .before .before in
     let c1 = c2 .before .before .before .before .before in
-    kept (c6 .bytes3 .ensures) ∙ (c5 .set-bool .kept .1 .1 .1 .1 .0) ∙ kept
-    (c1 .set-open .ensures ⨾ c2 .bytes .ensures ⨾ c3 .tag-line .ensures ⨾ c4 .bytes2 .ensures)
+    kept
+    (c1 .set-open .ensures ⨾ c2 .bytes .ensures ⨾ c3 .tag-line .ensures ⨾ c4 .bytes2 .ensures ⨾ c5 .set-bool .ensures
+    ⨾ c6 .bytes3 .ensures)
 
 returns : tie.Need-returns
 returns c =
@@ -32,11 +32,12 @@ returns c =
     let c3 = c4 .before .before .before .before in
     let c2 = c3 .before .before .before .before .before in
     let c1 = c2 .before .before .before in
-    λ root. masked-text root (c1 .args .tag) (nameOf (c1 .args .name)) (c1 .args .slot .discriminant) (ascii "bool")
-    (setBoolField (c1 .args .slot .offset) (ascii "value"))
-    (primDefault (value (c1 .args .slot .default) (c1 .args .slot .bits)))
-    (retext (bool-open (nameOf (c1 .args .name)) (tagLine (c1 .args .tag) (c1 .args .slot .discriminant))) (c2 .set-open .ensures
-    ⨾ c3 .bytes .ensures ⨾ c4 .tag-line .ensures ⨾ c5 .bytes2 .ensures)) (c6 .set-bool .ensures) (c7 .bytes3 .ensures)
+    let slot = c1 .args .slot in
+    λ root. retext (only-text root (c1 .args .tag) (nameOf (c1 .args .name)) (slot .discriminant)
+    (setBoolField (slot .offset) (ascii "value") (maskOr (primDefault (value (slot .default) (slot .bits))))) (ascii "bool"))
+    (retext (bool-open (nameOf (c1 .args .name)) (tagLine (c1 .args .tag) (slot .discriminant)))
+    (c2 .set-open .ensures ⨾ c3 .bytes .ensures ⨾ c4 .tag-line .ensures ⨾ c5 .bytes2 .ensures)
+    ⨾ c6 .set-bool .ensures ⨾ c7 .bytes3 .ensures)
 
 pub boolean-spec : {M : Type 1} → statement M
 boolean-spec =

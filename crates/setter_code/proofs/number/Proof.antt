@@ -1,12 +1,12 @@
--- `setter_code::number` meets its contract: its parts, one after the other, with the mask that is given. Assumes nothing.
-use Rattle.names.specs.Names.{nameOf}
-use mathlib.Core.Path.{_∙_}
+-- `setter_code::number` meets its contract: its parts, one after the other. Assumes nothing.
 use Rattle.text.specs.Bytes.{ascii}
 use Rattle.text.proofs.Laws.{_⨾_, kept}
+use Rattle.names.specs.Names.{nameOf}
 use Rattle.calls.specs.Calls.{setDataField}
-use Rattle.codegen.specs.Default.{value, primDefault}
 use Rattle.codegen_types.specs.Primitive.{primitiveText}
-use Rattle.setter_code.proofs.Laws.{masked-text}
+use Rattle.codegen.specs.Default.{value, primDefault}
+use Rattle.codegen.specs.Mask.{maskOr}
+use Rattle.setter_code.proofs.Laws.{only-text, retext}
 use borrow.Author.Needs.{needs}
 use Rattle.setter_code.proofs.number.Statement.{statement}
 use Rattle.setter_code.proofs.number.Tie as tie
@@ -20,8 +20,9 @@ same-length c =
     let c3 = c4 .before .before .before .before in
     let c2 = c3 .before .before .before .before .before in
     let c1 = c2 .before .before .before .before in
-    kept (c7 .bytes3 .ensures) ∙ (c6 .set-number .kept .1 .1 .1 .1 .1 .0) ∙ kept
-    (c1 .set-open .ensures ⨾ c2 .type-name .ensures ⨾ c3 .bytes .ensures ⨾ c4 .tag-line .ensures ⨾ c5 .bytes2 .ensures)
+    kept
+    (c1 .set-open .ensures ⨾ c2 .type-name .ensures ⨾ c3 .bytes .ensures ⨾ c4 .tag-line .ensures ⨾ c5 .bytes2 .ensures
+    ⨾ c6 .set-number .ensures ⨾ c7 .bytes3 .ensures)
 
 returns : tie.Need-returns
 returns c =
@@ -33,11 +34,12 @@ returns c =
     let c3 = c4 .before .before .before .before .before in
     let c2 = c3 .before .before .before .before in
     let c1 = c2 .before .before .before in
-    λ root. masked-text root (c1 .args .tag) (nameOf (c1 .args .name)) (c1 .args .slot .discriminant)
-    (primitiveText (c1 .args .slot .kind))
-    (setDataField (primitiveText (c1 .args .slot .kind)) (c1 .args .slot .offset) (ascii "value"))
-    (primDefault (value (c1 .args .slot .default) (c1 .args .slot .bits))) (c2 .set-open .ensures ⨾ c3 .type-name .ensures
-    ⨾ c4 .bytes .ensures ⨾ c5 .tag-line .ensures ⨾ c6 .bytes2 .ensures) (c7 .set-number .ensures) (c8 .bytes3 .ensures)
+    let slot = c1 .args .slot in
+    λ root. retext (only-text root (c1 .args .tag) (nameOf (c1 .args .name)) (slot .discriminant)
+    (setDataField (primitiveText (slot .kind)) (slot .offset) (ascii "value")
+    (maskOr (primDefault (value (slot .default) (slot .bits))))) (primitiveText (slot .kind)))
+    (c2 .set-open .ensures ⨾ c3 .type-name .ensures ⨾ c4 .bytes .ensures ⨾ c5 .tag-line .ensures ⨾ c6 .bytes2 .ensures
+    ⨾ c7 .set-number .ensures ⨾ c8 .bytes3 .ensures)
 
 pub number-spec : {M : Type 1} → statement M
 number-spec =

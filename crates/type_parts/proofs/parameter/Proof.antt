@@ -1,7 +1,8 @@
 -- `type_parts::parameter` meets its contract: each return is a law for a node that is looked up, missing or found, with the
--- parameter's name from its P row. Assumes nothing.
+-- parameter's name from its P row; where it is refused nothing is written. Assumes nothing.
 use Rattle.text.specs.Bytes.{Str}
-use Rattle.codegen_types.proofs.WrittenLaws.{none}
+use Rattle.text.proofs.Laws as text-law
+use Rattle.codegen_types.proofs.WrittenLaws.{no-text}
 use Rattle.codegen_types.specs.Written.{Writes}
 use Rattle.codegen_types.specs.Out.{Out}
 use Rattle.nodes.specs.Index.{sheetOf}
@@ -16,21 +17,26 @@ enum-told c = search needs
 returns : tie.Need-returns
 returns c =
     let at-enum-told = c .before in let at-find = at-enum-told .before .before in
-    let at-args = at-find .before .before .before .before .before in
-    λ ns x. parameter-none (at-args .args .s .now) (sheetOf (at-args .args .root .now) ns) (at-args .args .index .now) _ _
-    (at-find .find .ensures) x (λ (o : Out Str). Writes o (at-args .args .buf .now) (at-args .args .t) (at-args .args .buf .now)
-    (c .refused .result)) (at-args .args .leaf) (at-args .args .k) (at-enum-told .enum-told .given .1)
-    (none (c .refused .ensures))
+    let at-args = at-find .before .before .before .before .before in (
+      λ ns x. parameter-none (at-args .args .s .now) (sheetOf (at-args .args .root .now) ns) (at-args .args .index .now) _ _
+          (at-find .find .ensures) x (λ (o : Out Str). Writes o (at-args .args .buf .now) (at-args .args .t)
+          (at-args .args .buf .now) (c .refused .result)) (at-args .args .leaf) (at-args .args .k)
+          (at-enum-told .enum-told .given .1) (no-text (c .refused .ensures .1)),
+      rw (c .refused .ensures .0) text-law.no-text,
+    )
 
 returns-2 : tie.Need-returns-2
 returns-2 c =
     let at-enum-told2 = c .before in let at-parameter = at-enum-told2 .before .before in
     let at-node = at-parameter .before .before in let at-find = at-node .before .before in
-    let at-args = at-find .before .before .before .before .before in
-    λ ns x. parameter-out (at-args .args .s .now) (sheetOf (at-args .args .root .now) ns) (at-args .args .index .now) _ _
-    (at-find .find .ensures) x (λ (o : Out Str). Writes o (at-args .args .buf .now) (at-args .args .t) (at-args .args .buf .now)
-    (c .refused2 .result)) (at-args .args .leaf) (at-args .args .k) (at-node .node .given .0 .0) (at-node .node .given .1) _
-    (at-parameter .parameter .ensures) (at-enum-told2 .enum-told2 .given .1) (none (c .refused2 .ensures))
+    let at-args = at-find .before .before .before .before .before in (
+      λ ns x. parameter-out (at-args .args .s .now) (sheetOf (at-args .args .root .now) ns) (at-args .args .index .now) _ _
+          (at-find .find .ensures) x (λ (o : Out Str). Writes o (at-args .args .buf .now) (at-args .args .t)
+          (at-args .args .buf .now) (c .refused2 .result)) (at-args .args .leaf) (at-args .args .k)
+          (at-node .node .given .0 .0) (at-node .node .given .1) _ (at-parameter .parameter .ensures .0)
+          (at-enum-told2 .enum-told2 .given .1) (no-text (c .refused2 .ensures .1)),
+      rw (c .refused2 .ensures .0) text-law.no-text,
+    )
 
 text-requires : tie.Need-text-requires
 text-requires c κs = search needs
@@ -40,13 +46,15 @@ returns-3 c =
     let at-parameter-text = c .before .before in let at-text = at-parameter-text .before .before in
     let at-place = at-text .before .before in let at-parameter = at-place .before .before in
     let at-node = at-parameter .before .before in let at-find = at-node .before .before in
-    let at-args = at-find .before .before .before .before .before in
-    λ ns x. parameter-at (at-args .args .s .now) (sheetOf (at-args .args .root .now) ns) (at-args .args .index .now) _ _
-    (at-find .find .ensures) x (λ (o : Out Str). Writes o (at-args .args .buf .now) (at-args .args .t)
-    ((at-parameter-text .parameter-text .last .1 .1 .1 .1 .0)) (at-parameter-text .parameter-text .result))
-    (at-args .args .leaf) (at-args .args .k) (at-node .node .given .0 .0) (at-node .node .given .1) _
-    (at-parameter .parameter .ensures) (at-place .place .given .0 .0) (at-place .place .given .1)
-    (rw (at-text .text .ensures) at (at-parameter-text .parameter-text .ensures))
+    let at-args = at-find .before .before .before .before .before in (
+      λ ns x. parameter-at (at-args .args .s .now) (sheetOf (at-args .args .root .now) ns) (at-args .args .index .now) _ _
+          (at-find .find .ensures) x (λ (o : Out Str). Writes o (at-args .args .buf .now) (at-args .args .t)
+          ((at-parameter-text .parameter-text .last .1 .1 .1 .1 .0)) (at-parameter-text .parameter-text .result))
+          (at-args .args .leaf) (at-args .args .k) (at-node .node .given .0 .0) (at-node .node .given .1) _
+          (at-parameter .parameter .ensures .0) (at-place .place .given .0 .0) (at-place .place .given .1)
+          (rw (at-text .text .ensures) at (at-parameter-text .parameter-text .ensures .0)),
+      at-parameter-text .parameter-text .ensures .1,
+    )
 
 pub parameter-spec : {M : Type 1} → statement M
 parameter-spec =

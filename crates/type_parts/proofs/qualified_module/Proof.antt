@@ -1,6 +1,9 @@
--- `type_parts::qualified_module` meets its contract: the node is missing, or its module is the entry's. Assumes nothing.
+-- `type_parts::qualified_module` meets its contract: the node is missing and nothing is written, or its module is the entry's.
+-- Assumes nothing.
 use Rattle.text.specs.Bytes.{Str}
-use Rattle.codegen_types.proofs.WrittenLaws.{written, none}
+use Rattle.text.proofs.Laws as text-law
+use Rattle.text.proofs.Laws.{some-text}
+use Rattle.codegen_types.proofs.WrittenLaws.{written, no-text}
 use Rattle.codegen_types.specs.Written.{Writes}
 use Rattle.codegen_types.specs.Out.{Out}
 use Rattle.nodes.specs.Index.{sheetOf}
@@ -15,20 +18,24 @@ enum-told c = search needs
 returns : tie.Need-returns
 returns c =
     let at-enum-told = c .before in let at-find = at-enum-told .before .before in
-    let at-args = at-find .before .before .before .before in
-    λ root ns x. module-none (at-args .args .s .now) (sheetOf root ns) (at-args .args .index .now) _ _ (at-find .find .ensures)
-    x (λ (o : Out Str). Writes o (at-args .args .buf .now) (at-args .args .t) (at-args .args .buf .now) (c .refused .result))
-    (at-enum-told .enum-told .given .1) (none (c .refused .ensures))
+    let at-args = at-find .before .before .before .before in (
+      λ root ns x. module-none (at-args .args .s .now) (sheetOf root ns) (at-args .args .index .now) _ _ (at-find .find .ensures)
+          x (λ (o : Out Str). Writes o (at-args .args .buf .now) (at-args .args .t) (at-args .args .buf .now)
+          (c .refused .result)) (at-enum-told .enum-told .given .1) (no-text (c .refused .ensures .1)),
+      rw (c .refused .ensures .0) text-law.no-text,
+    )
 
 returns-2 : tie.Need-returns-2
 returns-2 c =
     let at-bytes = c .before .before .before in let at-module = at-bytes .before .before in
     let at-node = at-module .before .before in let at-find = at-node .before .before in
-    let at-args = at-find .before .before .before .before in
-    λ root ns x. module-at (at-args .args .s .now) (sheetOf root ns) (at-args .args .index .now) _ _ (at-find .find .ensures) x
-    (λ (o : Out Str). Writes o (at-args .args .buf .now) (at-args .args .t) ((at-bytes .bytes .last .1 .0)) (c .whole .result))
-    (at-node .node .given .0 .0) (at-node .node .given .1) _ (at-module .«module» .ensures) (written (at-bytes .bytes .ensures)
-    (c .whole .ensures .0) (c .whole .ensures .1))
+    let at-args = at-find .before .before .before .before in (
+      λ root ns x. module-at (at-args .args .s .now) (sheetOf root ns) (at-args .args .index .now) _ _ (at-find .find .ensures) x
+          (λ (o : Out Str). Writes o (at-args .args .buf .now) (at-args .args .t) ((at-bytes .bytes .last .1 .0))
+          (c .whole .result)) (at-node .node .given .0 .0) (at-node .node .given .1) _ (at-module .«module» .ensures .0)
+          (written (at-bytes .bytes .ensures) (c .whole .ensures .0) (c .whole .ensures .1)),
+      rw (c .whole .ensures .0) (some-text (at-bytes .bytes .ensures)),
+    )
 
 pub qualified-module-spec : {M : Type 1} → statement M
 qualified-module-spec =

@@ -1,12 +1,13 @@
 -- `do_branding` and the writers of types, seven functions that call each other, meet their contracts: each return is one law of
 -- Laws.antt. The loop over bindings: whatever the bindings from here on make of what is written, all of them make of the start.
--- The loop over a chain: `Writing` says what is known at each turn. Assumes nothing.
+-- The loop over a chain: `Writing` says what is known at each turn. In any case the texts of the calls, one after the other, are
+-- some text. Assumes nothing.
 use Rattle.type_string.proofs as here
 use here.+do_branding+write_binding+write_binds+write_chain+write_list+write_own+write_type as cycle
 use here.Measures.{μ-do-branding, μ-write-binding, μ-write-binds, μ-write-chain, μ-write-list, μ-write-own, μ-write-type}
 use here.Measures.{do-branding-at, write-binding-at, write-binds-at, write-chain-at, write-list-at, write-own-at, write-type-at}
-use here.Measures.{do-branding-below, write-binding-below, write-binds-below, write-chain-below, write-list-below}
-use here.Measures.{write-own-below, write-type-below}
+use cycle.Proof.Calls.{do-branding-calls, write-binding-calls, write-binds-calls, write-chain-calls, write-list-calls}
+use cycle.Proof.Calls.{write-own-calls, write-type-calls}
 use here.Laws as law
 use here.Laws.{Writing}
 use mathlib.Core.Path.{_≡_, refl, sym}
@@ -15,6 +16,9 @@ use native.Mathlib.Omega.{arith}
 use lib.ListN.{length, drop}
 use lib.Seq.{length-take-le}
 use Rattle.text.specs.Bytes.{Str}
+use Rattle.text.specs.Text.{WroteSome}
+use Rattle.text.proofs.Laws as text-law
+use Rattle.text.proofs.Laws.{some-text, _⨟_}
 use Rattle.row.specs.Rows.{rows}
 use Rattle.tree.specs.Tree.{Node, end, stop}
 use Rattle.tree.specs.Reader.{times, On}
@@ -25,7 +29,7 @@ use Rattle.codegen_types.specs.Out.{Out}
 use Rattle.codegen_types.specs.TypeString.{typeString, bindingsOf, allOf}
 use Rattle.codegen_types.specs.Written.{Writes}
 use Rattle.codegen_types.specs.declared.Leaf.the-variants.{Owned}
-use Rattle.codegen_types.proofs.WrittenLaws.{written, none}
+use Rattle.codegen_types.proofs.WrittenLaws.{written, no-text}
 use Rattle.types.proofs.TypeLaws as read-law
 use Rattle.type_parts.specs.Parts.{Lists}
 use Rattle.type_parts.specs.declared.Argued.{Argued}
@@ -45,113 +49,9 @@ use here.write_own.Reads as write-own
 use cycle.Lts-write_own as write-own-lts
 use here.write_type.Reads as write-type
 use cycle.Lts-write_type as write-type-lts
-use Rattle.codegen_types.proofs as codegen-types
-use Rattle.types.proofs as find
-use Rattle.row.proofs as row
-use Rattle.text.proofs.Text as text
-use Rattle.type_parts.proofs as type-parts
 use cycle.{statement}
 use cycle.Tie.{close}
-
--- ---- what each function takes of those that it calls
-
-abbrev do-branding-calls : ℕ → do-branding-lts.Claims
-do-branding-calls t = (
-  type-parts.qualified_module.Reads.Asked,
-  type-parts.qualified_module.Reads.Learnt,
-  type-parts.opening.Reads.Asked,
-  type-parts.opening.Reads.Learnt,
-  write-chain-below t,
-  write-chain.Post,
-  type-parts.close.Reads.Asked,
-  type-parts.close.Reads.Learnt,
-)
-
-abbrev write-binding-calls : ℕ → write-binding-lts.Claims
-write-binding-calls t = (
-  row.next.Reads.Asked,
-  row.next.Reads.Learnt,
-  type-parts.any_owned.Reads.Asked,
-  type-parts.any_owned.Reads.Learnt,
-  codegen-types.whole.Reads.Asked,
-  codegen-types.whole.Reads.Learnt,
-  find.as_type.Reads.Asked,
-  find.as_type.Reads.Learnt,
-  write-type-below t,
-  write-type.Post,
-)
-
-abbrev write-binds-calls : ℕ → write-binds-lts.Claims
-write-binds-calls t = (
-  text.byte.Reads.Asked,
-  text.byte.Reads.Learnt,
-  write-binding-below t,
-  write-binding.Post,
-  find.past.Reads.Asked,
-  find.past.Reads.Learnt,
-)
-
-abbrev write-chain-calls : ℕ → write-chain-lts.Claims
-write-chain-calls t = (
-  find.chain.Reads.Asked,
-  find.chain.Reads.Learnt,
-  find.scopes.Reads.Asked,
-  find.scopes.Reads.Learnt,
-  write-own-below t,
-  write-own.Post,
-  codegen-types.first.Reads.Asked,
-  codegen-types.first.Reads.Learnt,
-)
-
-abbrev write-list-calls : ℕ → write-list-lts.Claims
-write-list-calls t = (
-  codegen-types.whole.Reads.Asked,
-  codegen-types.whole.Reads.Learnt,
-  find.type_row.Reads.Asked,
-  find.type_row.Reads.Learnt,
-  type-parts.displayed.Reads.Asked,
-  type-parts.displayed.Reads.Learnt,
-  codegen-types.refused.Reads.Asked,
-  codegen-types.refused.Reads.Learnt,
-  type-parts.list_head.Reads.Asked,
-  type-parts.list_head.Reads.Learnt,
-  codegen-types.element_leaf.Reads.Asked,
-  codegen-types.element_leaf.Reads.Learnt,
-  write-type-below t,
-  write-type.Post,
-  text.byte.Reads.Asked,
-  text.byte.Reads.Learnt,
-)
-
-abbrev write-own-calls : ℕ → write-own-lts.Claims
-write-own-calls t = (
-  row.next.Reads.Asked,
-  row.next.Reads.Learnt,
-  type-parts.unbound.Reads.Asked,
-  type-parts.unbound.Reads.Learnt,
-  type-parts.inherited.Reads.Asked,
-  type-parts.inherited.Reads.Learnt,
-  write-binds-below t,
-  write-binds.Post,
-)
-
-abbrev write-type-calls : ℕ → write-type-lts.Claims
-write-type-calls t = (
-  type-parts.plain.Reads.Asked,
-  type-parts.plain.Reads.Learnt,
-  codegen-types.whole.Reads.Asked,
-  codegen-types.whole.Reads.Learnt,
-  write-list-below t,
-  write-list.Post,
-  type-parts.qualified_module.Reads.Asked,
-  type-parts.qualified_module.Reads.Learnt,
-  do-branding-below t,
-  do-branding.Post,
-  type-parts.displayed.Reads.Asked,
-  type-parts.displayed.Reads.Learnt,
-  type-parts.parameter.Reads.Asked,
-  type-parts.parameter.Reads.Learnt,
-)
+mod Calls
 
 -- ---- do_branding
 
@@ -160,50 +60,59 @@ do-branding-returns t c =
     let at-close = c .before .before in let at-write-chain = at-close .before .before .before .before .before in
     let at-opening = at-write-chain .before .before .before .before in
     let at-qualified-module = at-opening .before .before .before .before in
-    let at-args = at-qualified-module .before .before .before .before .before .before in
-    λ ns x. law.brand-on (sheetOf (at-args .args .root .now) ns) (at-args .args .leaf) (at-args .args .brand .id)
-    (times (read.readScope (readType (at-args .args .left))) end (at-args .args .brand .count) (rows
-    (drop (at-args .args .brand .scopes) (at-args .args .s .now)))) (at-write-chain .write-chain .result)
-    ((at-qualified-module .qualified-module .ensures) (at-args .args .root .now) ns x) (at-opening .opening .ensures)
-    ((at-write-chain .write-chain .ensures) ns x) (at-close .close .ensures) refl refl
+    let at-args = at-qualified-module .before .before .before .before .before .before in (
+      λ ns x. law.brand-on (sheetOf (at-args .args .root .now) ns) (at-args .args .leaf) (at-args .args .brand .id)
+          (times (read.readScope (readType (at-args .args .left))) end (at-args .args .brand .count) (rows
+          (drop (at-args .args .brand .scopes) (at-args .args .s .now)))) (at-write-chain .write-chain .result)
+          ((at-qualified-module .qualified-module .ensures .0) (at-args .args .root .now) ns x) (at-opening .opening .ensures)
+          ((at-write-chain .write-chain .ensures .0) ns x) (at-close .close .ensures) refl refl,
+      (at-qualified-module .qualified-module .ensures .1) ⨟ some-text (at-opening .opening .ensures .text)
+          ⨟ (at-write-chain .write-chain .ensures .1) ⨟ some-text (at-close .close .ensures),
+    )
 
 -- ---- write_binding
 
 write-binding-returns : (t : ℕ) → write-binding-lts.Need-returns (write-binding-calls t) (write-binding-at t) write-binding.Post
 write-binding-returns t c =
     let at-if1 = c .before in let at-match = at-if1 .before in let at-next = at-match .before in
-    let at-args = at-next .before .before .before .before .before in
-    λ ns x. law.bind-typed (sheetOf (at-args .args .root .now) ns) _ _ _ (at-next .next .ensures .0) _ _ _ _
-    (at-match .match .keys2) (read-law.type-zero _ _ _ (at-if1 .if1 .taken))
+    let at-args = at-next .before .before .before .before .before in (
+      λ ns x. law.bind-typed (sheetOf (at-args .args .root .now) ns) _ _ _ (at-next .next .ensures .0) _ _ _ _
+          (at-match .match .keys2) (read-law.type-zero _ _ _ (at-if1 .if1 .taken)),
+      rw (c .whole2 .ensures .0) text-law.no-text,
+    )
 
 write-binding-returns-2 : (t : ℕ) → write-binding-lts.Need-returns-2 (write-binding-calls t) (write-binding-at t)
     write-binding.Post
 write-binding-returns-2 t c =
     let at-any-owned = c .before .before .before in let at-enum-told = at-any-owned .before .before in
-    let at-next = at-enum-told .before .before in let at-args = at-next .before .before .before .before .before in
-    λ ns x. law.bind-unbound (sheetOf (at-args .args .root .now) ns) _ _ _ (at-next .next .ensures .0) _ _ _ _
-    (at-enum-told .enum-told .given .1) (written (at-any-owned .any-owned .ensures) (c .whole .ensures .0)
-    (c .whole .ensures .1))
+    let at-next = at-enum-told .before .before in let at-args = at-next .before .before .before .before .before in (
+      λ ns x. law.bind-unbound (sheetOf (at-args .args .root .now) ns) _ _ _ (at-next .next .ensures .0) _ _ _ _
+          (at-enum-told .enum-told .given .1) (written (at-any-owned .any-owned .ensures) (c .whole .ensures .0)
+          (c .whole .ensures .1)),
+      rw (c .whole .ensures .0) (some-text (at-any-owned .any-owned .ensures)),
+    )
 
 write-binding-returns-3 : (t : ℕ) → write-binding-lts.Need-returns-3 (write-binding-calls t) (write-binding-at t)
     write-binding.Post
 write-binding-returns-3 t c =
     let at-write-type = c .before .before in let at-as-type = at-write-type .before .before in
     let at-if1 = at-as-type .before in let at-match = at-if1 .before in let at-next = at-match .before in
-    let at-args = at-next .before .before .before .before .before in
-    λ ns x. law.bind-typed (sheetOf (at-args .args .root .now) ns) _ _ _ (at-next .next .ensures .0) _ _ _ _
-    (at-match .match .keys2) (read-law.type-row (at-args .args .s .now) (at-args .args .at) (at-as-type .as-type .result) _
-    (λ ty. Writes (typeString ty (sheetOf (at-args .args .root .now) ns) Owned) (at-args .args .buf .now) (at-args .args .t)
-    (at-write-type .write-type .last .1 .1 .1 .1 .1 .1 .1 .0) (at-write-type .write-type .result))
-    (read-law.row-at (at-args .args .s .now) (at-args .args .at) (at-next .next .result .next) (at-next .next .result .line)
-    (at-as-type .as-type .result) (at-next .next .ensures .0) (at-next .next .ensures .1) (at-as-type .as-type .ensures))
-    (at-if1 .if1 .left) ((at-write-type .write-type .ensures) ns x))
+    let at-args = at-next .before .before .before .before .before in (
+      λ ns x. law.bind-typed (sheetOf (at-args .args .root .now) ns) _ _ _ (at-next .next .ensures .0) _ _ _ _
+          (at-match .match .keys2) (read-law.type-row (at-args .args .s .now) (at-args .args .at) (at-as-type .as-type .result) _
+          (λ ty. Writes (typeString ty (sheetOf (at-args .args .root .now) ns) Owned) (at-args .args .buf .now) (at-args .args .t)
+          (at-write-type .write-type .last .1 .1 .1 .1 .1 .1 .1 .0) (at-write-type .write-type .result))
+          (read-law.row-at (at-args .args .s .now) (at-args .args .at) (at-next .next .result .next) _
+          (at-as-type .as-type .result) (at-next .next .ensures .0) (at-next .next .ensures .1) (at-as-type .as-type .ensures))
+          (at-if1 .if1 .left) ((at-write-type .write-type .ensures .0) ns x)),
+      at-write-type .write-type .ensures .1,
+    )
 
 -- ---- write_binds
 
 abbrev write-binds-Inv-loop : write-binds-lts.InvT-loop
 write-binds-Inv-loop root s index from count left buf₀ at₀ n₀ p₀ buf at n p = (length buf ≡ length buf₀) ×
-    ((ns : List Node) → Indexed s ns index → (l′ : List ℕ) (r : Argued)
+    WroteSome buf₀ (p₀ .text) buf (p .text) × ((ns : List Node) → Indexed s ns index → (l′ : List ℕ) (r : Argued)
     → On (times (readBinding (readType left)) stop n (rows (drop at s)))
     (λ bs. Lists (allOf (bindingsOf bs (sheetOf root ns))) buf p l′ r)
     → On (times (readBinding (readType left)) stop count (rows (drop from s)))
@@ -214,29 +123,33 @@ write-binds-μ-loop root s index from count left buf₀ at₀ n₀ p₀ buf at n
 
 write-binds-loop-holds : (t : ℕ) → write-binds-lts.Need-loop-holds (write-binds-calls t) (write-binds-at t) write-binds.Post
     write-binds-Inv-loop write-binds-μ-loop
-write-binds-loop-holds t c = (refl, λ ns x l′ r h. h)
+write-binds-loop-holds t c = (refl, text-law.no-text, λ ns x l′ r h. h)
 
 write-binds-returns : (t : ℕ) → write-binds-lts.Need-returns (write-binds-calls t) (write-binds-at t) write-binds.Post
     write-binds-Inv-loop write-binds-μ-loop
 write-binds-returns t c =
     let at-write-binding = c .before .before .before .before .before in
     let at-byte = at-write-binding .before .before .before .before in let at-test = at-byte .before .before .before in
-    let at-loop = at-test .before in let at-args = at-loop .before .before .before .before .before in
-    λ ns x. (at-loop .loop .inv .1) ns x _ _ (law.binds-stop (sheetOf (at-args .args .root .now) ns) (at-args .args .left)
-    (at-loop .loop .n) _ _ (at-test .loop-test .taken) refl _ _ _ _ _ _ (at-byte .byte .ensures)
-    ((at-write-binding .write-binding .ensures) ns x) _ _ _ (c .enum-told2 .given .1) refl)
+    let at-loop = at-test .before in let at-args = at-loop .before .before .before .before .before in (
+      λ ns x. (at-loop .loop .inv .2) ns x _ _ (law.binds-stop (sheetOf (at-args .args .root .now) ns) (at-args .args .left)
+          (at-loop .loop .n) _ _ (at-test .loop-test .taken) refl _ _ _ _ _ _ (at-byte .byte .ensures)
+          ((at-write-binding .write-binding .ensures .0) ns x) _ _ _ (c .enum-told2 .given .1) refl),
+      (at-loop .loop .inv .1) ⨟ some-text (at-byte .byte .ensures) ⨟ (at-write-binding .write-binding .ensures .1),
+    )
 
 write-binds-returns-2 : (t : ℕ) → write-binds-lts.Need-returns-2 (write-binds-calls t) (write-binds-at t) write-binds.Post
     write-binds-Inv-loop write-binds-μ-loop
 write-binds-returns-2 t c =
     let at-enum-told = c .before in let at-write-binding = at-enum-told .before .before .before .before .before in
     let at-byte = at-write-binding .before .before .before .before in let at-test = at-byte .before .before .before in
-    let at-loop = at-test .before in let at-args = at-loop .before .before .before .before .before in
-    λ ns x. (at-loop .loop .inv .1) ns x _ _ (law.binds-on (sheetOf (at-args .args .root .now) ns) (at-args .args .left)
-    (at-loop .loop .n) _ _ (at-test .loop-test .taken) refl _ _ _ _ _ _ (at-byte .byte .ensures)
-    ((at-write-binding .write-binding .ensures) ns x) _ _ (at-enum-told .enum-told .given .1)
-    (law.binds-none (sheetOf (at-args .args .root .now) ns) _ ((at-loop .loop .n) - 1) _ _ _ _ (omega (arith, (c .if1 .taken)))
-    (at-enum-told .enum-told .given .1)))
+    let at-loop = at-test .before in let at-args = at-loop .before .before .before .before .before in (
+      λ ns x. (at-loop .loop .inv .2) ns x _ _ (law.binds-on (sheetOf (at-args .args .root .now) ns) (at-args .args .left)
+          (at-loop .loop .n) _ _ (at-test .loop-test .taken) refl _ _ _ _ _ _ (at-byte .byte .ensures)
+          ((at-write-binding .write-binding .ensures .0) ns x) _ _ (at-enum-told .enum-told .given .1)
+          (law.binds-none (sheetOf (at-args .args .root .now) ns) _ ((at-loop .loop .n) - 1) _ _ _ _
+          (omega (arith, (c .if1 .taken))) (at-enum-told .enum-told .given .1))),
+      (at-loop .loop .inv .1) ⨟ some-text (at-byte .byte .ensures) ⨟ (at-write-binding .write-binding .ensures .1),
+    )
 
 write-binds-loop-again : (t : ℕ) → write-binds-lts.Need-loop-again (write-binds-calls t) (write-binds-at t) write-binds.Post
     write-binds-Inv-loop write-binds-μ-loop
@@ -246,25 +159,29 @@ write-binds-loop-again t c =
     let at-byte = at-buf .before in let at-test = at-byte .before .before .before in let at-loop = at-test .before in
     let at-args = at-loop .before .before .before .before .before in (
       omega (arith, (at-buf2 .buf2 .given), (at-buf .buf .given)),
-      λ ns x l′ r h. (at-loop .loop .inv .1) ns x l′ r
+      (at-loop .loop .inv .1) ⨟ some-text (at-byte .byte .ensures) ⨟ (at-write-binding .write-binding .ensures .1),
+      λ ns x l′ r h. (at-loop .loop .inv .2) ns x l′ r
           (law.binds-on (sheetOf (at-args .args .root .now) ns) (at-args .args .left) (at-loop .loop .n) _ _
           (at-test .loop-test .taken) (c .past .ensures) _ _ _ _ _ _ (at-byte .byte .ensures)
-          ((at-write-binding .write-binding .ensures) ns x) l′ r (at-enum-told .enum-told .given .1) h),
+          ((at-write-binding .write-binding .ensures .0) ns x) l′ r (at-enum-told .enum-told .given .1) h),
     )
 
 write-binds-returns-3 : (t : ℕ) → write-binds-lts.Need-returns-3 (write-binds-calls t) (write-binds-at t) write-binds.Post
     write-binds-Inv-loop write-binds-μ-loop
 write-binds-returns-3 t c =
-    let at-loop = c .before in let at-args = at-loop .before .before .before .before .before in
-    λ ns x. (at-loop .loop .inv .1) ns x _ _ (law.binds-none (sheetOf (at-args .args .root .now) ns) _ _ _ _ _ _
-    (c .loop-test .left) refl)
+    let at-loop = c .before in let at-args = at-loop .before .before .before .before .before in (
+      λ ns x. (at-loop .loop .inv .2) ns x _ _ (law.binds-none (sheetOf (at-args .args .root .now) ns) _ _ _ _ _ _
+          (c .loop-test .left) refl),
+      at-loop .loop .inv .1,
+    )
 
 -- ---- write_chain
 
 abbrev write-chain-Inv-loop : write-chain-lts.InvT-loop
 write-chain-Inv-loop root s index left buf₀ chain count scopes k₀ p₀ refusal₀ buf k p refusal =
     (k ≤ chain .count) × (chain .count ≤ 16) × (length (chain .params) ≡ 16) × (length (chain .counts) ≡ 16)
-    × (length buf ≡ length buf₀) × Writing root s index left buf₀ p₀ chain scopes buf p refusal k
+    × (length buf ≡ length buf₀) × WroteSome buf₀ (p₀ .text) buf (p .text)
+    × Writing root s index left buf₀ p₀ chain scopes buf p refusal k
 
 abbrev write-chain-μ-loop : write-chain-lts.MeasureT-loop
 write-chain-μ-loop root s index left buf₀ chain count scopes k₀ p₀ refusal₀ buf k p refusal = k
@@ -287,7 +204,7 @@ write-chain-loop-holds : (t : ℕ) → write-chain-lts.Need-loop-holds (write-ch
 write-chain-loop-holds t c =
     let at-chain = c .before .before .before in let at-args = at-chain .before .before .before .before .before in
     let h = (at-chain .chain .ensures) (at-args .args .s .now) in
-    (omega arith, h .few, h .params-size, h .counts-size, refl, law.writing-start _ _ _ _ _ _ _ _)
+    (omega arith, h .few, h .params-size, h .counts-size, refl, text-law.no-text, law.writing-start _ _ _ _ _ _ _ _)
 
 write-chain-loop-again : (t : ℕ) → write-chain-lts.Need-loop-again (write-chain-calls t) (write-chain-at t) write-chain.Post
     write-chain-Inv-loop write-chain-μ-loop
@@ -299,7 +216,8 @@ write-chain-loop-again t c =
       i .2,
       i .3,
       omega arith,
-      law.writing-next _ _ _ _ _ _ _ _ _ _ _ _ (i .5) (omega arith) (i .0) _ _ (at-write-own .write-own .ensures) _
+      (i .5) ⨟ (at-write-own .write-own .ensures .1),
+      law.writing-next _ _ _ _ _ _ _ _ _ _ _ _ (i .6) (omega arith) (i .0) _ _ (at-write-own .write-own .ensures .0) _
           (c .first .ensures),
     )
 
@@ -307,41 +225,51 @@ write-chain-returns : (t : ℕ) → write-chain-lts.Need-returns (write-chain-ca
     write-chain-Inv-loop write-chain-μ-loop
 write-chain-returns t c =
     let at-loop = c .before in let at-scopes = at-loop .before in let at-chain = at-scopes .before .before .before in
-    let at-args = at-chain .before .before .before .before .before in
-    law.writing-end _ _ _ _ _ _ _ _ _ _ _ _ (at-loop .loop .inv .5) (c .loop-test .left) (at-args .args .brand)
-    ((at-chain .chain .ensures) (at-args .args .s .now)) (at-scopes .scopes .ensures)
+    let at-args = at-chain .before .before .before .before .before in (
+      law.writing-end _ _ _ _ _ _ _ _ _ _ _ _ (at-loop .loop .inv .6) (c .loop-test .left) (at-args .args .brand)
+          ((at-chain .chain .ensures) (at-args .args .s .now)) (at-scopes .scopes .ensures),
+      at-loop .loop .inv .5,
+    )
 
 -- ---- write_list
 
 write-list-returns : (t : ℕ) → write-list-lts.Need-returns (write-list-calls t) (write-list-at t) write-list.Post
-write-list-returns t c = let at-if1 = c .before in λ ns x. read-law.type-zero _ _ _ (at-if1 .if1 .taken)
+write-list-returns t c =
+    let at-if1 = c .before in
+    (λ ns x. read-law.type-zero _ _ _ (at-if1 .if1 .taken), rw (c .whole .ensures .0) text-law.no-text)
 
 write-list-returns-2 : (t : ℕ) → write-list-lts.Need-returns-2 (write-list-calls t) (write-list-at t) write-list.Post
 write-list-returns-2 t c =
     let at-displayed = c .before .before .before in let at-if2 = at-displayed .before .before .before in
     let at-type-row = at-if2 .before in let at-if1 = at-type-row .before in
-    let at-args = at-if1 .before .before .before .before .before in
-    λ ns x. read-law.type-row (at-args .args .s .now) _ _ _ _ (at-type-row .type-row .ensures) (at-if1 .if1 .left)
-    (law.list-text (sheetOf (at-args .args .root .now) ns) (at-args .args .leaf) _ _ _ _ _ _ (at-if2 .if2 .taken)
-    (written (at-displayed .displayed .ensures) (c .whole2 .ensures .0) (c .whole2 .ensures .1)))
+    let at-args = at-if1 .before .before .before .before .before in (
+      λ ns x. read-law.type-row (at-args .args .s .now) _ _ _ _ (at-type-row .type-row .ensures) (at-if1 .if1 .left)
+          (law.list-text (sheetOf (at-args .args .root .now) ns) (at-args .args .leaf) _ _ _ _ _ _ (at-if2 .if2 .taken)
+          (written (at-displayed .displayed .ensures) (c .whole2 .ensures .0) (c .whole2 .ensures .1))),
+      rw (c .whole2 .ensures .0) (some-text (at-displayed .displayed .ensures)),
+    )
 
 write-list-returns-3 : (t : ℕ) → write-list-lts.Need-returns-3 (write-list-calls t) (write-list-at t) write-list.Post
 write-list-returns-3 t c =
     let at-displayed2 = c .before .before .before in let at-if3 = at-displayed2 .before .before .before in
     let at-if2 = at-if3 .before in let at-type-row = at-if2 .before in let at-if1 = at-type-row .before in
-    let at-args = at-if1 .before .before .before .before .before in
-    λ ns x. read-law.type-row (at-args .args .s .now) _ _ _ _ (at-type-row .type-row .ensures) (at-if1 .if1 .left)
-    (law.list-data (sheetOf (at-args .args .root .now) ns) (at-args .args .leaf) _ _ _ _ _ _ (at-if2 .if2 .left)
-    (at-if3 .if3 .taken) (written (at-displayed2 .displayed2 .ensures) (c .whole3 .ensures .0) (c .whole3 .ensures .1)))
+    let at-args = at-if1 .before .before .before .before .before in (
+      λ ns x. read-law.type-row (at-args .args .s .now) _ _ _ _ (at-type-row .type-row .ensures) (at-if1 .if1 .left)
+          (law.list-data (sheetOf (at-args .args .root .now) ns) (at-args .args .leaf) _ _ _ _ _ _ (at-if2 .if2 .left)
+          (at-if3 .if3 .taken) (written (at-displayed2 .displayed2 .ensures) (c .whole3 .ensures .0) (c .whole3 .ensures .1))),
+      rw (c .whole3 .ensures .0) (some-text (at-displayed2 .displayed2 .ensures)),
+    )
 
 write-list-returns-4 : (t : ℕ) → write-list-lts.Need-returns-4 (write-list-calls t) (write-list-at t) write-list.Post
 write-list-returns-4 t c =
     let at-if4 = c .before in let at-type-row = at-if4 .before .before .before in let at-if1 = at-type-row .before in
-    let at-args = at-if1 .before .before .before .before .before in
-    λ ns x. read-law.type-row (at-args .args .s .now) _ _ _ _ (at-type-row .type-row .ensures) (at-if1 .if1 .left)
-    (read-law.list-of-any (sheetOf (at-args .args .root .now) ns) (at-args .args .leaf) _ _ _ _ _ _
-    (λ (o : Out Str). Writes o (at-args .args .buf .now) (at-args .args .t) (at-args .args .buf .now) (c .refused .result))
-    (at-if4 .if4 .taken) (none (c .refused .ensures)))
+    let at-args = at-if1 .before .before .before .before .before in (
+      λ ns x. read-law.type-row (at-args .args .s .now) _ _ _ _ (at-type-row .type-row .ensures) (at-if1 .if1 .left)
+          (read-law.list-of-any (sheetOf (at-args .args .root .now) ns) (at-args .args .leaf) _ _ _ _ _ _
+          (λ (o : Out Str). Writes o (at-args .args .buf .now) (at-args .args .t) (at-args .args .buf .now) (c .refused .result))
+          (at-if4 .if4 .taken) (no-text (c .refused .ensures .1))),
+      rw (c .refused .ensures .0) text-law.no-text,
+    )
 
 write-list-returns-5 : (t : ℕ) → write-list-lts.Need-returns-5 (write-list-calls t) (write-list-at t) write-list.Post
 write-list-returns-5 t c =
@@ -349,44 +277,55 @@ write-list-returns-5 t c =
     let at-element-leaf = at-write-type .before .before in let at-list-head = at-element-leaf .before .before .before in
     let at-if4 = at-list-head .before .before in let at-if3 = at-if4 .before in let at-if2 = at-if3 .before in
     let at-type-row = at-if2 .before in let at-if1 = at-type-row .before in
-    let at-args = at-if1 .before .before .before .before .before in
-    λ ns x. read-law.type-row (at-args .args .s .now) _ _ _ _ (at-type-row .type-row .ensures) (at-if1 .if1 .left)
-    (law.list-inner (sheetOf (at-args .args .root .now) ns) (at-args .args .leaf) _ _ _ _ _ _ _ (at-if2 .if2 .left)
-    (at-if3 .if3 .left) (at-if4 .if4 .left) (at-element-leaf .element-leaf .ensures) (at-list-head .list-head .ensures)
-    ((at-write-type .write-type .ensures) ns x) (at-byte .byte .ensures) refl refl)
+    let at-args = at-if1 .before .before .before .before .before in (
+      λ ns x. read-law.type-row (at-args .args .s .now) _ _ _ _ (at-type-row .type-row .ensures) (at-if1 .if1 .left)
+          (law.list-inner (sheetOf (at-args .args .root .now) ns) (at-args .args .leaf) _ _ _ _ _ _ _ (at-if2 .if2 .left)
+          (at-if3 .if3 .left) (at-if4 .if4 .left) (at-element-leaf .element-leaf .ensures) (at-list-head .list-head .ensures)
+          ((at-write-type .write-type .ensures .0) ns x) (at-byte .byte .ensures) refl refl),
+      some-text (at-list-head .list-head .ensures) ⨟ (at-write-type .write-type .ensures .1) ⨟ some-text (at-byte .byte .ensures),
+    )
 
 -- ---- write_own
 
 write-own-returns : (t : ℕ) → write-own-lts.Need-returns (write-own-calls t) (write-own-at t) write-own.Post
 write-own-returns t c =
     let at-unbound = c .before .before in let at-match = at-unbound .before .before in let at-next = at-match .before in
-    let at-args = at-next .before .before .before .before .before in
-    λ ns x o h count. law.own-other (at-args .args .left) (sheetOf (at-args .args .root .now) ns) _ _ _
-    (at-next .next .ensures .0) _ count _ _ _ _ o h (at-match .match .keys2) (at-unbound .unbound .ensures) refl
+    let at-args = at-next .before .before .before .before .before in (
+      λ ns x o h count. law.own-other (at-args .args .left) (sheetOf (at-args .args .root .now) ns) _ _ _
+          (at-next .next .ensures .0) _ count _ _ _ _ o h (at-match .match .keys2) (at-unbound .unbound .ensures) refl,
+      some-text (at-unbound .unbound .ensures .text),
+    )
 
 write-own-returns-2 : (t : ℕ) → write-own-lts.Need-returns-2 (write-own-calls t) (write-own-at t) write-own.Post
 write-own-returns-2 t c =
     let at-inherited = c .before .before in let at-if1 = at-inherited .before .before in let at-line = at-if1 .before .before in
-    let at-next = at-line .before .before in let at-args = at-next .before .before .before .before .before in
-    λ ns x o h count. law.own-inherit (at-args .args .left) (sheetOf (at-args .args .root .now) ns) _ _ _
-    (at-next .next .ensures .0) _ count _ _ _ _ o h _ _ _ (at-line .line .given .1) (at-if1 .if1 .taken)
-    (at-inherited .inherited .ensures) refl
+    let at-next = at-line .before .before in let at-args = at-next .before .before .before .before .before in (
+      λ ns x o h count. law.own-inherit (at-args .args .left) (sheetOf (at-args .args .root .now) ns) _ _ _
+          (at-next .next .ensures .0) _ count _ _ _ _ o h _ _ _ (at-line .line .given .1) (at-if1 .if1 .taken)
+          (at-inherited .inherited .ensures) refl,
+      some-text (at-inherited .inherited .ensures .text),
+    )
 
 write-own-returns-3 : (t : ℕ) → write-own-lts.Need-returns-3 (write-own-calls t) (write-own-at t) write-own.Post
 write-own-returns-3 t c =
     let at-if1 = c .before .before in let at-line = at-if1 .before .before in let at-next = at-line .before .before in
-    let at-args = at-next .before .before .before .before .before in
-    λ ns x o h count. law.own-8 (at-args .args .left) (sheetOf (at-args .args .root .now) ns) _ _ _ (at-next .next .ensures .0)
-    _ count _ _ _ _ o h _ _ _ (at-line .line .given .1) _ (at-next .next .ensures .1) (at-if1 .if1 .left) (c .if2 .taken) refl
+    let at-args = at-next .before .before .before .before .before in (
+      λ ns x o h count. law.own-8 (at-args .args .left) (sheetOf (at-args .args .root .now) ns) _ _ _ (at-next .next .ensures .0)
+          _ count _ _ _ _ o h _ _ _ (at-line .line .given .1) _ (at-next .next .ensures .1) (at-if1 .if1 .left) (c .if2 .taken)
+          refl,
+      text-law.no-text,
+    )
 
 write-own-returns-4 : (t : ℕ) → write-own-lts.Need-returns-4 (write-own-calls t) (write-own-at t) write-own.Post
 write-own-returns-4 t c =
     let at-write-binds = c .before .before in let at-if2 = at-write-binds .before .before in
     let at-if1 = at-if2 .before .before in let at-line = at-if1 .before .before in let at-next = at-line .before .before in
-    let at-args = at-next .before .before .before .before .before in
-    λ ns x o h count. law.own-binds (at-args .args .left) (sheetOf (at-args .args .root .now) ns) _ _ _
-    (at-next .next .ensures .0) _ count _ _ _ _ o h _ _ _ (at-line .line .given .1) _ (at-next .next .ensures .1)
-    (at-if1 .if1 .left) (at-if2 .if2 .left) ((at-write-binds .write-binds .ensures) ns x)
+    let at-args = at-next .before .before .before .before .before in (
+      λ ns x o h count. law.own-binds (at-args .args .left) (sheetOf (at-args .args .root .now) ns) _ _ _
+          (at-next .next .ensures .0) _ count _ _ _ _ o h _ _ _ (at-line .line .given .1) _ (at-next .next .ensures .1)
+          (at-if1 .if1 .left) (at-if2 .if2 .left) ((at-write-binds .write-binds .ensures .0) ns x),
+      at-write-binds .write-binds .ensures .1,
+    )
 
 -- ---- write_type
 
@@ -394,58 +333,71 @@ write-type-returns : (t : ℕ) → write-type-lts.Need-returns (write-type-calls
 unfolding typeString
 write-type-returns t c =
     let at-plain = c .before .before .before in let at-if1 = at-plain .before .before in
-    let at-args = at-if1 .before .before .before .before .before in
-    λ ns x. read-law.type-plain _ _ _ _ _ _ (λ ty. Writes (typeString ty (sheetOf (at-args .args .root .now) ns)
-    (at-args .args .leaf)) (at-args .args .buf .now) (at-args .args .t) (at-plain .plain .last .1 .1 .1 .1 .0)
-    (c .whole .result)) (at-if1 .if1 .taken) (written (at-plain .plain .ensures) (c .whole .ensures .0) (c .whole .ensures .1))
+    let at-args = at-if1 .before .before .before .before .before in (
+      λ ns x. read-law.type-plain _ _ _ _ _ _ (λ ty. Writes (typeString ty (sheetOf (at-args .args .root .now) ns)
+          (at-args .args .leaf)) (at-args .args .buf .now) (at-args .args .t) (at-plain .plain .last .1 .1 .1 .1 .0)
+          (c .whole .result)) (at-if1 .if1 .taken)
+          (written (at-plain .plain .ensures) (c .whole .ensures .0) (c .whole .ensures .1)),
+      rw (c .whole .ensures .0) (some-text (at-plain .plain .ensures)),
+    )
 
 write-type-returns-2 : (t : ℕ) → write-type-lts.Need-returns-2 (write-type-calls t) (write-type-at t) write-type.Post
 write-type-returns-2 t c =
     let at-write-list = c .before .before in let at-if2 = at-write-list .before .before in
-    let at-args = at-if2 .before .before .before .before .before .before in
-    λ ns x. read-law.type-list _ _ _ _ _ _ (λ ty. Writes (typeString ty (sheetOf (at-args .args .root .now) ns)
-    (at-args .args .leaf)) (at-args .args .buf .now) (at-args .args .t)
-    (at-write-list .write-list .last .1 .1 .1 .1 .1 .1 .1 .0) (at-write-list .write-list .result)) (at-if2 .if2 .taken)
-    ((at-write-list .write-list .ensures) ns x)
+    let at-args = at-if2 .before .before .before .before .before .before in (
+      λ ns x. read-law.type-list _ _ _ _ _ _ (λ ty. Writes (typeString ty (sheetOf (at-args .args .root .now) ns)
+          (at-args .args .leaf)) (at-args .args .buf .now) (at-args .args .t)
+          (at-write-list .write-list .last .1 .1 .1 .1 .1 .1 .1 .0) (at-write-list .write-list .result)) (at-if2 .if2 .taken)
+          ((at-write-list .write-list .ensures .0) ns x),
+      at-write-list .write-list .ensures .1,
+    )
 
 write-type-returns-3 : (t : ℕ) → write-type-lts.Need-returns-3 (write-type-calls t) (write-type-at t) write-type.Post
 write-type-returns-3 t c =
     let at-qualified-module = c .before .before in let at-if3 = at-qualified-module .before .before in
-    let at-args = at-if3 .before .before .before .before .before .before .before in
-    λ ns x. read-law.type-enum (sheetOf (at-args .args .root .now) ns) (at-args .args .leaf) _ _ _ _ _ _
-    (λ (o : Out Str). Writes o (at-args .args .buf .now) (at-args .args .t)
-    (at-qualified-module .qualified-module .last .1 .1 .1 .1 .0) (at-qualified-module .qualified-module .result))
-    (at-if3 .if3 .taken) ((at-qualified-module .qualified-module .ensures) (at-args .args .root .now) ns x)
+    let at-args = at-if3 .before .before .before .before .before .before .before in (
+      λ ns x. read-law.type-enum (sheetOf (at-args .args .root .now) ns) (at-args .args .leaf) _ _ _ _ _ _
+          (λ (o : Out Str). Writes o (at-args .args .buf .now) (at-args .args .t)
+          (at-qualified-module .qualified-module .last .1 .1 .1 .1 .0) (at-qualified-module .qualified-module .result))
+          (at-if3 .if3 .taken) ((at-qualified-module .qualified-module .ensures .0) (at-args .args .root .now) ns x),
+      at-qualified-module .qualified-module .ensures .1,
+    )
 
 write-type-returns-4 : (t : ℕ) → write-type-lts.Need-returns-4 (write-type-calls t) (write-type-at t) write-type.Post
 write-type-returns-4 t c =
     let at-do-branding = c .before .before in let at-if4 = at-do-branding .before .before in let at-if3 = at-if4 .before in
     let at-if2 = at-if3 .before in let at-if1 = at-if2 .before in
-    let at-args = at-if1 .before .before .before .before .before in
-    λ ns x. read-law.type-branded (sheetOf (at-args .args .root .now) ns) (at-args .args .leaf) _ _ _ _ _ _
-    (λ (o : Out Str). Writes o (at-args .args .buf .now) (at-args .args .t)
-    (at-do-branding .do-branding .last .1 .1 .1 .1 .1 .1 .1 .0) (at-do-branding .do-branding .result)) (at-if1 .if1 .left)
-    (at-if2 .if2 .left) (at-if3 .if3 .left) (at-if4 .if4 .taken) ((at-do-branding .do-branding .ensures) ns x)
+    let at-args = at-if1 .before .before .before .before .before in (
+      λ ns x. read-law.type-branded (sheetOf (at-args .args .root .now) ns) (at-args .args .leaf) _ _ _ _ _ _
+          (λ (o : Out Str). Writes o (at-args .args .buf .now) (at-args .args .t)
+          (at-do-branding .do-branding .last .1 .1 .1 .1 .1 .1 .1 .0) (at-do-branding .do-branding .result)) (at-if1 .if1 .left)
+          (at-if2 .if2 .left) (at-if3 .if3 .left) (at-if4 .if4 .taken) ((at-do-branding .do-branding .ensures .0) ns x),
+      at-do-branding .do-branding .ensures .1,
+    )
 
 write-type-returns-5 : (t : ℕ) → write-type-lts.Need-returns-5 (write-type-calls t) (write-type-at t) write-type.Post
 unfolding typeString
 write-type-returns-5 t c =
     let at-displayed = c .before .before .before in let at-if5 = at-displayed .before .before .before in
     let at-if4 = at-if5 .before .before in
-    let at-args = at-if4 .before .before .before .before .before .before .before .before in
-    λ ns x. read-law.type-any (sheetOf (at-args .args .root .now) ns) (at-args .args .leaf) _ _ _ _ _ _
-    (λ (o : Out Str). Writes o (at-args .args .buf .now) (at-args .args .t) (at-displayed .displayed .last .1 .1 .1 .1 .0)
-    (c .whole2 .result)) (at-if4 .if4 .left) (at-if5 .if5 .taken) (written (at-displayed .displayed .ensures)
-    (c .whole2 .ensures .0) (c .whole2 .ensures .1))
+    let at-args = at-if4 .before .before .before .before .before .before .before .before in (
+      λ ns x. read-law.type-any (sheetOf (at-args .args .root .now) ns) (at-args .args .leaf) _ _ _ _ _ _
+          (λ (o : Out Str). Writes o (at-args .args .buf .now) (at-args .args .t) (at-displayed .displayed .last .1 .1 .1 .1 .0)
+          (c .whole2 .result)) (at-if4 .if4 .left) (at-if5 .if5 .taken) (written (at-displayed .displayed .ensures)
+          (c .whole2 .ensures .0) (c .whole2 .ensures .1)),
+      rw (c .whole2 .ensures .0) (some-text (at-displayed .displayed .ensures)),
+    )
 
 write-type-returns-6 : (t : ℕ) → write-type-lts.Need-returns-6 (write-type-calls t) (write-type-at t) write-type.Post
 write-type-returns-6 t c =
     let at-parameter = c .before .before in let at-if5 = at-parameter .before .before in let at-if4 = at-if5 .before .before in
-    let at-args = at-if4 .before .before .before .before .before .before .before .before in
-    λ ns x. read-law.type-parameter (sheetOf (at-args .args .root .now) ns) (at-args .args .leaf) _ _ _ _ _ _
-    (λ (o : Out Str). Writes o (at-args .args .buf .now) (at-args .args .t)
-    (at-parameter .parameter .last .1 .1 .1 .1 .1 .1 .1 .0) (at-parameter .parameter .result)) (at-if4 .if4 .left)
-    (at-if5 .if5 .left) ((at-parameter .parameter .ensures) ns x)
+    let at-args = at-if4 .before .before .before .before .before .before .before .before in (
+      λ ns x. read-law.type-parameter (sheetOf (at-args .args .root .now) ns) (at-args .args .leaf) _ _ _ _ _ _
+          (λ (o : Out Str). Writes o (at-args .args .buf .now) (at-args .args .t)
+          (at-parameter .parameter .last .1 .1 .1 .1 .1 .1 .1 .0) (at-parameter .parameter .result)) (at-if4 .if4 .left)
+          (at-if5 .if5 .left) ((at-parameter .parameter .ensures .0) ns x),
+      at-parameter .parameter .ensures .1,
+    )
 
 -- ---- the cycle
 

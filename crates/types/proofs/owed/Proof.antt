@@ -1,6 +1,7 @@
 -- `types::owed` meets its contract: the row's letter and what each test showed decide the tests of the definition; rows that
 -- are no type and no scope owe nothing. Assumes nothing.
 use mathlib.Core.Path.{sym}
+use Rattle.row.specs.Line.{lineSaid}
 use Rattle.types.proofs.Laws.{owed-none}
 use Rattle.types.specs.Find.{owed}
 use borrow.Author.Tests.{eq-eqb, ne-eqb, lt-ltb, le-ltb}
@@ -9,7 +10,7 @@ use Rattle.types.proofs.owed.Statement.{statement}
 use Rattle.types.proofs.owed.Tie as tie
 
 returns : tie.Need-returns
-unfolding owed
+unfolding lineSaid owed
 returns c =
     simp (
       c .before .before .line .given .1,
@@ -17,7 +18,7 @@ returns c =
     )
 
 returns-2 : tie.Need-returns-2
-unfolding owed
+unfolding lineSaid owed
 returns-2 c =
     simp (
       c .before .before .before .line .given .1,
@@ -26,7 +27,7 @@ returns-2 c =
     )
 
 returns-3 : tie.Need-returns-3
-unfolding owed
+unfolding lineSaid owed
 returns-3 c =
     simp (
       c .before .before .before .before .line .given .1,
@@ -36,7 +37,7 @@ returns-3 c =
     )
 
 returns-4 : tie.Need-returns-4
-unfolding owed
+unfolding lineSaid owed
 returns-4 c =
     simp (
       c .before .before .line2 .given .1,
@@ -44,7 +45,7 @@ returns-4 c =
     )
 
 returns-5 : tie.Need-returns-5
-unfolding owed
+unfolding lineSaid owed
 returns-5 c =
     simp (
       c .before .before .before .before .line .given .1,
@@ -54,7 +55,7 @@ returns-5 c =
     )
 
 returns-6 : tie.Need-returns-6
-unfolding owed
+unfolding lineSaid owed
 returns-6 c =
     simp (
       c .before .before .line2 .given .1,
@@ -62,7 +63,6 @@ returns-6 c =
     )
 
 returns-7 : tie.Need-returns-7
-unfolding owed
 returns-7 c = sym (owed-none (c .before .args .line) (c .match .keys3))
 
 pub owed-spec : {M : Type 1} → statement M

@@ -1,6 +1,6 @@
 -- `zeroing::zero_fields_of_group`, which calls itself, meets its contract: the levels left fall, and the rows left fall in its
 -- loop. Whatever the fields from here on add to the lines so far, all of them add to the start; the first refusal that is met
--- ends it. Assumes nothing.
+-- ends it. In any case each turn writes behind the one before. Assumes nothing.
 use native.Mathlib.Omega.{arith}
 use Prim.Native.Nat.{_+_, _-_, _≤_, ℕ, _<_}
 use mathlib.Core.List.{List}
@@ -15,6 +15,8 @@ use Rattle.nodes.specs.Index.{Indexed, sheetOf}
 use Rattle.tree.specs.Tree.{Node}
 use Rattle.row.specs.Rows.{rows}
 use Rattle.text.specs.Bytes.{Str}
+use Rattle.text.specs.Text.{WroteSome}
+use Rattle.text.proofs.Laws.{some-text, no-text, _⨟_}
 use Rattle.zeroing.proofs.TurnLaws.{Going, going-first, going-end, going-slot, going-group, going-stop}
 use Rattle.zeroing.proofs.GroupLaws.{none-left, group-missing, no-struct, group-adds}
 use Rattle.zeroing.proofs.FieldLaws.{slot-fewer, group-fewer, count-fits, count-more}
@@ -71,6 +73,7 @@ zero-fields-of-group-Inv-loop s index id left buf₀ offsets₀ types₀ p₀ fi
     × ((root : Str) (ns : List Node) → Indexed s ns index → (tags offset : ℕ)
     → Going (zeroFieldsOfGroup (sheetOf root ns) (left - 1)) tags offset (rows (drop first s)) buf₀ p₀ (rows (drop at s)) count
     offsets types buf p)
+    × WroteSome buf₀ (p₀ .text) buf (p .text)
 
 abbrev zero-fields-of-group-μ-loop : zero-fields-of-group-lts.MeasureT-loop
 zero-fields-of-group-μ-loop s index id left buf₀ offsets₀ types₀ p₀ first at₀ count₀ buf offsets types p at count =
@@ -79,18 +82,22 @@ zero-fields-of-group-μ-loop s index id left buf₀ offsets₀ types₀ p₀ fir
 zero-fields-of-group-returns : (t : ℕ) → zero-fields-of-group-lts.Need-returns (zero-fields-of-group-calls t)
     (zero-fields-of-group-at t) zero-fields-of-group.Post zero-fields-of-group-Inv-loop zero-fields-of-group-μ-loop
 zero-fields-of-group-returns t c =
-    let start = c .before .before .before .before .before in
-    λ root ns x. rw (none-left (sheetOf root ns) (start .args .left) (start .args .id) (c .before .if1 .taken))
-    (c .refused .ensures)
+    let start = c .before .before .before .before .before in (
+      λ root ns x. rw (none-left (sheetOf root ns) (start .args .left) (start .args .id) (c .before .if1 .taken))
+          (c .refused .ensures .1),
+      rw (c .refused .ensures .0) no-text,
+    )
 
 zero-fields-of-group-returns-2 : (t : ℕ) → zero-fields-of-group-lts.Need-returns-2 (zero-fields-of-group-calls t)
     (zero-fields-of-group-at t) zero-fields-of-group.Post zero-fields-of-group-Inv-loop zero-fields-of-group-μ-loop
 zero-fields-of-group-returns-2 t c =
     let at-find = c .before .before .before in
     let at-if1 = at-find .before in
-    let a = at-if1 .before .before .before .before .args in
-    λ root ns x. rw (group-missing (a .s .now) (sheetOf root ns) (a .index .now) (a .left) (a .id) (at-if1 .if1 .left) _
-    (at-find .find .ensures) x (c .before .enum-told .given .1)) (c .refused2 .ensures)
+    let a = at-if1 .before .before .before .before .args in (
+      λ root ns x. rw (group-missing (a .s .now) (sheetOf root ns) (a .index .now) (a .left) (a .id) (at-if1 .if1 .left) _
+          (at-find .find .ensures) x (c .before .enum-told .given .1)) (c .refused2 .ensures .1),
+      rw (c .refused2 .ensures .0) no-text,
+    )
 
 zero-fields-of-group-returns-3 : (t : ℕ) → zero-fields-of-group-lts.Need-returns-3 (zero-fields-of-group-calls t)
     (zero-fields-of-group-at t) zero-fields-of-group.Post zero-fields-of-group-Inv-loop zero-fields-of-group-μ-loop
@@ -99,9 +106,11 @@ zero-fields-of-group-returns-3 t c =
     let at-node = at-if2 .before .before .before in
     let at-find = at-node .before .before in
     let at-if1 = at-find .before in
-    let a = at-if1 .before .before .before .before .args in
-    λ root ns x. rw (no-struct (a .s .now) (sheetOf root ns) (a .index .now) (a .left) (a .id) (at-if1 .if1 .left) _
-    (at-find .find .ensures) x _ (at-node .node .given .1) (at-if2 .if2 .taken)) (c .refused3 .ensures)
+    let a = at-if1 .before .before .before .before .args in (
+      λ root ns x. rw (no-struct (a .s .now) (sheetOf root ns) (a .index .now) (a .left) (a .id) (at-if1 .if1 .left) _
+          (at-find .find .ensures) x _ (at-node .node .given .1) (at-if2 .if2 .taken)) (c .refused3 .ensures .1),
+      rw (c .refused3 .ensures .0) no-text,
+    )
 
 zero-fields-of-group-loop-holds : (t : ℕ) → zero-fields-of-group-lts.Need-loop-holds (zero-fields-of-group-calls t)
     (zero-fields-of-group-at t) zero-fields-of-group.Post zero-fields-of-group-Inv-loop zero-fields-of-group-μ-loop
@@ -114,6 +123,7 @@ zero-fields-of-group-loop-holds t c =
       at-tag-line .tag-line .ensures .refusal ∙ start .pre .1,
       omega arith,
       λ root ns x tags offset. going-first _ tags offset _ 307 _ _,
+      no-text,
     )
 
 zero-fields-of-group-add-count : (t : ℕ) → zero-fields-of-group-lts.Need-add-count (zero-fields-of-group-calls t)
@@ -163,7 +173,8 @@ zero-fields-of-group-loop-again t c =
       count-more (a .s .now) first (at-loop .loop .count) _ _ (at-loop .loop .inv .4) fewer,
       λ root ns x tags offset. going-slot _ _ _ _ _ _ _ _ _ _ _ _ (at-loop .loop .inv .5 root ns x tags offset) (a .s .now)
           (at-read .read .result) (at-read .read .ensures .0) _ (at-f .f .given .1) _ _ _ _
-          (at-zero-slot .zero-slot .ensures .1),
+          (at-zero-slot .zero-slot .ensures .1 .0),
+      at-loop .loop .inv .6 ⨟ at-zero-slot .zero-slot .ensures .1 .1,
     )
 
 zero-fields-of-group-zero-fields-of-group-requires : (t : ℕ)
@@ -188,12 +199,15 @@ zero-fields-of-group-returns-4 t c =
     let node = at-node .node .given .0 .0 in
     let at-find = at-node .before .before in
     let at-if1 = at-find .before in
-    let a = at-if1 .before .before .before .before .args in
-    λ root ns x. group-adds (a .s .now) (sheetOf root ns) (a .index .now) (a .left) (a .id) (at-if1 .if1 .left) _
-    (at-find .find .ensures) x _ (at-node .node .given .1) (at-if2 .if2 .left) _ _ _ _ _ _ (at-tag-line .tag-line .ensures)
-    (going-stop _ _ _ _ _ _ _ _ _ _ _ _ (at-loop .loop .inv .5 root ns x (node .«tag_count») (node .«tag_offset»)) (a .s .now)
-    (at-read .read .result) (at-read .read .ensures .0) _ (at-f .f2 .given .1) _ _
-    (at-inner .zero-fields-of-group .ensures root ns x) _ (at-loop .loop .inv .3) (c .enum-told2 .given .1))
+    let a = at-if1 .before .before .before .before .args in (
+      λ root ns x. group-adds (a .s .now) (sheetOf root ns) (a .index .now) (a .left) (a .id) (at-if1 .if1 .left) _
+          (at-find .find .ensures) x _ (at-node .node .given .1) (at-if2 .if2 .left) _ _ _ _ _ _
+          (at-tag-line .tag-line .ensures)
+          (going-stop _ _ _ _ _ _ _ _ _ _ _ _ (at-loop .loop .inv .5 root ns x (node .«tag_count») (node .«tag_offset»))
+          (a .s .now) (at-read .read .result) (at-read .read .ensures .0) _ (at-f .f2 .given .1) _ _
+          (at-inner .zero-fields-of-group .ensures .0 root ns x) _ (at-loop .loop .inv .3) (c .enum-told2 .given .1)),
+      some-text (at-tag-line .tag-line .ensures .text) ⨟ at-loop .loop .inv .6 ⨟ at-inner .zero-fields-of-group .ensures .1,
+    )
 
 zero-fields-of-group-add-count-2 : (t : ℕ) → zero-fields-of-group-lts.Need-add-count-2 (zero-fields-of-group-calls t)
     (zero-fields-of-group-at t) zero-fields-of-group.Post zero-fields-of-group-Inv-loop zero-fields-of-group-μ-loop
@@ -242,7 +256,8 @@ zero-fields-of-group-loop-again-2 t c =
       count-more (a .s .now) first (at-loop .loop .count) _ _ (at-loop .loop .inv .4) fewer,
       λ root ns x tags offset. going-group _ _ _ _ _ _ _ _ _ _ _ _ (at-loop .loop .inv .5 root ns x tags offset) (a .s .now)
           (at-read .read .result) (at-read .read .ensures .0) _ (at-f .f2 .given .1) _ _
-          (at-inner .zero-fields-of-group .ensures root ns x) (c .enum-told3 .given .1),
+          (at-inner .zero-fields-of-group .ensures .0 root ns x) (c .enum-told3 .given .1),
+      at-loop .loop .inv .6 ⨟ at-inner .zero-fields-of-group .ensures .1,
     )
 
 zero-fields-of-group-returns-5 : (t : ℕ) → zero-fields-of-group-lts.Need-returns-5 (zero-fields-of-group-calls t)
@@ -256,11 +271,14 @@ zero-fields-of-group-returns-5 t c =
     let node = at-node .node .given .0 .0 in
     let at-find = at-node .before .before in
     let at-if1 = at-find .before in
-    let a = at-if1 .before .before .before .before .args in
-    λ root ns x. group-adds (a .s .now) (sheetOf root ns) (a .index .now) (a .left) (a .id) (at-if1 .if1 .left) _
-    (at-find .find .ensures) x _ (at-node .node .given .1) (at-if2 .if2 .left) _ _ _ _ _ _ (at-tag-line .tag-line .ensures)
-    (going-end _ _ _ _ _ _ _ _ _ _ _ _ (at-loop .loop .inv .5 root ns x (node .«tag_count») (node .«tag_offset»)) (a .s .now)
-    (at-read .read .result) (at-read .read .ensures .0) (c .enum-told4 .given .1))
+    let a = at-if1 .before .before .before .before .args in (
+      λ root ns x. group-adds (a .s .now) (sheetOf root ns) (a .index .now) (a .left) (a .id) (at-if1 .if1 .left) _
+          (at-find .find .ensures) x _ (at-node .node .given .1) (at-if2 .if2 .left) _ _ _ _ _ _
+          (at-tag-line .tag-line .ensures)
+          (going-end _ _ _ _ _ _ _ _ _ _ _ _ (at-loop .loop .inv .5 root ns x (node .«tag_count») (node .«tag_offset»))
+          (a .s .now) (at-read .read .result) (at-read .read .ensures .0) (c .enum-told4 .given .1)),
+      some-text (at-tag-line .tag-line .ensures .text) ⨟ at-loop .loop .inv .6,
+    )
 
 pub +zero-fields-of-group-spec : {M : Type 1} → statement M
 +zero-fields-of-group-spec = close μ-zero-fields-of-group λ t. zero-fields-of-group-lts.spec (zero-fields-of-group-calls t)

@@ -2,6 +2,7 @@
 use mathlib.Core.Path.{refl, sym, _∙_}
 use lib.ListN.{take}
 use borrow.Author.Needs.{needs}
+use Rattle.text.proofs.Laws.{some-text, no-text}
 use Rattle.zeroing.specs.Lines.{repeats}
 use Rattle.zeroing.proofs.GroupLaws.{line-void}
 use Rattle.zeroing.proofs.TableLaws.{kept-void}
@@ -14,9 +15,12 @@ returns c =
     let a = at-line-type .before .before .before .before .before .args in
     let void = sym (at-line-type .line-type .ensures) ∙ c .if1 .taken in (
       refl,
-      λ fs h k. (
-        line-void _ (a .slot .offset) (repeats _ (a .slot .offset) (take (a .count) fs)) _ _ void,
-        kept-void _ _ (take (a .count) fs) k _ _ void,
+      (
+        λ fs h k. (
+          line-void _ (a .slot .offset) (repeats _ (a .slot .offset) (take (a .count) fs)) _ _ void,
+          kept-void _ _ (take (a .count) fs) k _ _ void,
+        ),
+        no-text,
       ),
     )
 
@@ -27,9 +31,12 @@ returns-2 c =
     let at-line-type = at-is-known .before .before .before .before in
     let typ = at-line-type .line-type .ensures in (
       at-next-line .next-line .ensures .refusal,
-      λ fs h k.
-          let known = at-is-known .is-known .ensures fs h k in
-          (rw (← typ, ← known .again) (at-next-line .next-line .ensures), rw (← typ) (known .kept)),
+      (
+        λ fs h k.
+            let known = at-is-known .is-known .ensures fs h k in
+            (rw (← typ, ← known .again) (at-next-line .next-line .ensures), rw (← typ) (known .kept)),
+        some-text (at-next-line .next-line .ensures .text),
+      ),
     )
 
 pub zero-slot-spec : {M : Type 1} → statement M

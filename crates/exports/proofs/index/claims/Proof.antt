@@ -2,7 +2,7 @@
 -- Assumes nothing.
 use mathlib.Core.Path.{_≡_, refl}
 use Rattle.tree.specs.Read.{admitted}
-use Rattle.sheet.specs.Admission.{verdict}
+use Rattle.sheet.specs.Admission.{answerNumbers, refusalIn}
 use Rattle.sheet.specs.declared.Answer.{Answer}
 use Rattle.sheet.specs.declared.Answer.the-variants as answer
 use Rattle.requests.proofs.SheetLaws.{of-sheet}
@@ -12,7 +12,7 @@ use Rattle.exports.proofs.index.claims.Tie as tie
 
 same-answers : SameAnswersHold
 same-answers s index sh e indexed id request l fill l′ fill′ number line h =
-    let told : answer.Sheet ≡ verdict (admitted s) = rw e in
+    let told : answerNumbers answer.Sheet ≡ refusalIn (admitted s) = rw e in
     of-sheet s answer.Sheet index told (λ a. Asked l fill (ask a id request) l′ fill′ number line) refl indexed
     (λ nodes d. h nodes d)
 

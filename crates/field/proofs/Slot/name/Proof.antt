@@ -6,7 +6,7 @@ use Rattle.field.proofs.Slot.name.Statement.{statement}
 use Rattle.field.proofs.Slot.name.Tie as tie
 
 returns : tie.Need-returns
-returns c = λ f h. (c .text-before .ensures) (h .after) ∙ h .name
+returns c = (λ f h. c .text-before .ensures .0 (h .after) ∙ h .name, c .text-before .ensures .1)
 
 pub name-spec : {M : Type 1} → statement M
 name-spec = tie.close (tie.spec (λ c κs. search needs) returns)

@@ -1,0 +1,4 @@
+pub mod Laws
+pub mod ShortLaws
+pub mod RowLaws
+pub mod SheetLaws

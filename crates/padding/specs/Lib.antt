@@ -1,0 +1,4 @@
+pub mod Padded
+pub mod Short
+pub mod Claims
+pub mod Examples
