@@ -4,7 +4,8 @@
  *
  * A record is a data section of bytes, and a list of pointers, of which each is a byte: 0 for null. A Bool's offset counts
  * bits, a number's counts its own widths, a pointer's counts pointers. A width is 1, 2, 4 or 8 bytes; of any other nothing
- * is found or set. A mask is joined by exclusive or, on both ways.
+ * is found or set. A mask is joined by exclusive or, on both ways. A get finds zero bits where they are not wholly inside the
+ * section, and joins its mask to them.
  *
  * A caller may pass anything, as long as an address is good for what it is lent for: so many bytes where a length stands
  * beside it, one value elsewhere. What is written to overlaps nothing else that is passed.
@@ -20,11 +21,11 @@
 extern "C" {
 #endif
 
-/* A Bool: true, and its bit in *value; or false past the section, and *value stays. */
-bool kitlubas_get_bool(const uint8_t *section, size_t section_len, uint32_t offset, uint64_t *value);
+/* A Bool. */
+bool kitlubas_get_bool(const uint8_t *section, size_t section_len, uint32_t offset);
 
 /* The same, with a mask. */
-bool kitlubas_get_bool_mask(const uint8_t *section, size_t section_len, uint32_t offset, bool mask, uint64_t *value);
+bool kitlubas_get_bool_mask(const uint8_t *section, size_t section_len, uint32_t offset, bool mask);
 
 /* Sets a Bool: true; or false past the section, which is then as it was. */
 bool kitlubas_set_bool(uint8_t *section, size_t section_len, uint32_t offset, bool value);
@@ -32,25 +33,25 @@ bool kitlubas_set_bool(uint8_t *section, size_t section_len, uint32_t offset, bo
 /* The same, with a mask. */
 bool kitlubas_set_bool_mask(uint8_t *section, size_t section_len, uint32_t offset, bool value, bool mask);
 
-/* A number or an enum: true, and its bits in *value; or false past the section, and *value stays. */
+/* A number or an enum: true, and its bits in *value; or false where the width is none, and *value stays. */
 bool kitlubas_get_data(const uint8_t *section, size_t section_len, uint32_t width, uint32_t offset, uint64_t *value);
 
 /* The same, with a mask. */
 bool kitlubas_get_data_mask(const uint8_t *section, size_t section_len, uint32_t width, uint32_t offset, uint64_t mask,
                             uint64_t *value);
 
-/* Sets a number or an enum by its bits: true; or false past the section, which is then as it was. */
+/* Sets a number or an enum by its bits: true; or false where the width is none or past the section, which is then as it was. */
 bool kitlubas_set_data(uint8_t *section, size_t section_len, uint32_t width, uint32_t offset, uint64_t value);
 
 /* The same, with a mask. */
 bool kitlubas_set_data_mask(uint8_t *section, size_t section_len, uint32_t width, uint32_t offset, uint64_t value,
                             uint64_t mask);
 
-/* Whether the tag at an offset of 16 bits has this number: 0 no, 1 yes, 2 past the section. */
-uint8_t kitlubas_tag_is(const uint8_t *section, size_t section_len, uint32_t offset, uint16_t member);
+/* Whether the tag at an offset of 16 bits has this number; past the section it is 0. */
+bool kitlubas_tag_is(const uint8_t *section, size_t section_len, uint32_t offset, uint16_t member);
 
-/* Whether a pointer is null: 0 no, 1 yes, 2 past the pointers. */
-uint8_t kitlubas_is_pointer_null(const uint8_t *pointers, size_t pointers_len, uint32_t offset);
+/* Whether a pointer is null; past the pointers it is. */
+bool kitlubas_is_pointer_null(const uint8_t *pointers, size_t pointers_len, uint32_t offset);
 
 /* Makes a pointer null: true; or false past the pointers, which are then as they were. */
 bool kitlubas_clear(uint8_t *pointers, size_t pointers_len, uint32_t offset);

@@ -28,9 +28,9 @@ pub fn get(pair: &Pair, known: &KnownSlot, expected: Option<u64>, tally: &mut Ta
     let answers = answers(pair, known);
     for (&answer, get) in answers.iter().zip(&known.gets) {
         let meant = get.run(&pair.section);
-        let right = meant == Some(answer) && expected.unwrap_or(answer) == answer;
+        let right = meant == answer && expected.unwrap_or(answer) == answer;
         let name = known.slot.name;
-        tally.count(right, || format!("{name} reads {answer}, its text means {meant:?}, and {expected:?} is expected"));
+        tally.count(right, || format!("{name} reads {answer}, its text means {meant}, and {expected:?} is expected"));
     }
     answers
 }
@@ -51,15 +51,20 @@ pub fn set_and_get(pair: &mut Pair, known: &KnownSlot, random: &mut Random, tall
     }
 }
 
-/// The reader's getters on a record that was written out and read again, or that is too short for some slots: there the
-/// runtime gives the default, and the meaning has no value.
+/// The reader's getters on a record that was written out and read again, or that is too short for some slots: what is not
+/// wholly inside reads as exactly the default.
 pub fn get_from_reader(reader: StructReader<'_>, family: &KnownFamily, tally: &mut Tally) {
     let section = reader.get_data_section_as_blob();
     for known in family.nodes.iter().flat_map(|node| &node.slots) {
         for (getter, get) in known.slot.readers.iter().zip(&known.gets) {
             let (answer, meant) = ((getter.run)(reader), get.run(section));
-            let expected = meant.unwrap_or(known.slot.default);
-            tally.count(answer == expected, || format!("{} reads {answer}, not {expected}", known.slot.name));
+            let expected = if get.place.is_inside(section) { meant } else { known.slot.default };
+            tally.past += u64::from(!get.place.is_inside(section));
+            tally.split += u64::from(get.place.is_split(section));
+            let name = known.slot.name;
+            tally.count(answer == meant && answer == expected, || {
+                format!("{name} reads {answer}, its text means {meant}, and {expected} is expected")
+            });
         }
     }
 }

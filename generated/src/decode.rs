@@ -1,8 +1,9 @@
 //! Messages that the generated setters write, read by Cap'n Proto's own tool: `capnp decode` with the schema bed.capnp.
 
-use crate::known::{KnownFamily, KnownGroup, KnownNode};
+use crate::known::{KnownFamily, KnownGroup, KnownNode, KnownSlot};
 use crate::pair::record;
 use crate::random::Random;
+use crate::record as library;
 use crate::slots::Slot;
 use crate::tally::Tally;
 use capnp::private::layout::StructBuilder;
@@ -42,6 +43,61 @@ pub fn compare(family: &KnownFamily, count: usize, random: &mut Random) -> Tally
         compare_message(line, message, &mut tally);
     }
     tally
+}
+
+/// Has the data bytes of such messages decoded after they were cut, without pointers: every field is what its getter's text
+/// means on these bytes, which is the default where it is not wholly inside, and a union has the member of its tag.
+pub fn compare_cut(family: &KnownFamily, count: usize, random: &mut Random) -> Tally {
+    let mut tally = Tally::default();
+    let (mut bytes, mut sections) = (Vec::new(), Vec::new());
+    for _ in 0..count {
+        let mut message = message::Builder::new_default();
+        let whole = record(&mut message, family.family.data, family.family.pointers);
+        write(whole, family, random);
+        let words = random.below(family.family.data as u64) as usize;
+        let section = whole.into_reader().get_data_section_as_blob()[..words * 8].to_vec();
+        let mut message = message::Builder::new_default();
+        let cut = record(&mut message, words as u16, 0);
+        for (at, byte) in section.iter().enumerate() {
+            cut.set_data_field::<u8>(at, *byte);
+        }
+        sections.push(section);
+        serialize::write_message(&mut bytes, &message).expect("a message can be written to memory");
+    }
+    let decoded = decode(bytes);
+    let lines: Vec<&str> = decoded.lines().collect();
+    tally.count(lines.len() == count, || format!("{} messages of {count} were decoded", lines.len()));
+    for (line, section) in lines.into_iter().zip(&sections) {
+        compare_section(line, family, section, &mut tally);
+    }
+    tally
+}
+
+fn compare_section(line: &str, family: &KnownFamily, section: &[u8], tally: &mut Tally) {
+    let mut fields = BTreeMap::new();
+    let rest = read_struct(line, "", &mut fields);
+    let is_member = |(offset, member)| library::tag_is(section, offset, member);
+    for node in &family.nodes {
+        for known in node.slots.iter().filter(|known| known.slot.tag.is_none_or(is_member)) {
+            let text = fields.remove(&format!("{}{}", node.node.path, known.slot.name)).unwrap_or_default();
+            compare_cut_slot(text, known, section, tally);
+        }
+        // A pointer that is absent is decoded only as the member of its union.
+        for slot in node.node.pointers.iter().filter(|slot| slot.tag.is_some_and(is_member)) {
+            let text = fields.remove(&format!("{}{}", node.node.path, slot.name)).unwrap_or_default();
+            tally.count(text == (slot.default)(), || format!("{}: {text} decoded of an absent pointer", slot.name));
+        }
+    }
+    tally.count(rest == Some("") && fields.is_empty(), || format!("decoded with other fields: {line}"));
+}
+
+fn compare_cut_slot(text: &str, known: &KnownSlot, section: &[u8], tally: &mut Tally) {
+    let (slot, get) = (known.slot, known.gets.first());
+    let meant = get.map_or(0, |get| get.run(section));
+    let is_past = get.is_some_and(|get| !get.place.is_inside(section));
+    let right = is_text_of(slot.kind, text, meant) && (!is_past || meant == slot.default);
+    tally.past += u64::from(is_past);
+    tally.count(right, || format!("{}: {text} decoded, its getter's text means {meant}", slot.name));
 }
 
 /// Sets every field that is in no union, and of each union one; then zeroes the groups of a message in four.
@@ -108,24 +164,30 @@ fn compare_message(line: &str, message: &Message, tally: &mut Tally) {
         match written {
             Written::Shown(shown) => tally.count(text == shown, || format!("{name}: {text} decoded, {shown} written")),
             Written::Data(slot, value) => compare_value(name, text, slot, *value, tally),
-            Written::Zeroed(slot) => tally.count(bits(slot.kind, text) == Some(slot.default), || {
+            Written::Zeroed(slot) => tally.count(is_text_of(slot.kind, text, slot.default), || {
                 format!("{name}: {text} decoded after its group was zeroed")
             }),
         }
     }
 }
 
-/// A decoded value is the one that was written, but for the two exceptions. The text of a NaN does not say which it is.
+/// A decoded value is the one that was written, but for the two exceptions.
 fn compare_value(name: &str, text: &str, slot: &Slot, written: u64, tally: &mut Tally) {
     let expected = slot.expected(written);
-    if text == "nan" {
-        return tally.count(is_nan(slot.kind, expected), || format!("{name}: nan decoded, {written} written"));
-    }
-    let decoded = if has_these_digits(slot.kind, text, expected) { Some(expected) } else { bits(slot.kind, text) };
-    tally.count(decoded == Some(expected), || format!("{name}: {text} decoded, {written} written"));
-    if let (Some(decoded), true) = (decoded, slot.kind != 0) {
+    let is_expected = is_text_of(slot.kind, text, expected);
+    tally.count(is_expected, || format!("{name}: {text} decoded, {written} written"));
+    let decoded = if is_expected { Some(expected) } else { bits(slot.kind, text) };
+    if let (Some(decoded), true) = (decoded, slot.kind != 0 && text != "nan") {
         tally.read(slot, written, decoded);
     }
+}
+
+/// Whether these bits are decoded as this text. The text of a NaN does not say which it is.
+fn is_text_of(kind: u64, text: &str, expected: u64) -> bool {
+    if text == "nan" {
+        return is_nan(kind, expected);
+    }
+    has_these_digits(kind, text, expected) || bits(kind, text) == Some(expected)
 }
 
 /// The tool writes a Float32 with 8 digits at most, which do not always tell it from its neighbours.

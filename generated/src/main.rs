@@ -1,11 +1,15 @@
 //! Runs the accessors that Kitlubas wrote, compiled against the Cap'n Proto runtime for Rust, on records in real
 //! messages, and the meaning of their texts on a copy of the records' bytes, and compares every answer, every data byte
-//! and every pointer after each operation. Then has messages that the setters wrote decoded by Cap'n Proto's own tool.
+//! and every pointer after each operation. Then has messages that the setters wrote, whole and cut, decoded by Cap'n
+//! Proto's own tool.
 //!
 //!     generated [operations [seed]]
 
 mod data;
 mod decode;
+#[rustfmt::skip]
+#[path = "../../runtime/src/elements.rs"]
+mod elements;
 mod enums;
 mod known;
 mod meaning;
@@ -32,6 +36,7 @@ mod accessors {
     include!(concat!(env!("OUT_DIR"), "/accessors.rs"));
 }
 
+use capnp::private::layout::StructReader;
 use known::KnownFamily;
 use pair::{AnyReader, Pair};
 use random::Random;
@@ -54,6 +59,7 @@ fn main() {
         let mut tally = Tally::default();
         while tally.operations < operations / families.len() as u64 {
             work(family, &mut random, &mut tally);
+            read_short(family, &mut random, &mut tally);
         }
         tally.print(family.family.name);
         all.add(&tally);
@@ -61,6 +67,9 @@ fn main() {
     for family in families.iter().filter(|family| family.family.name.starts_with("bed")) {
         let tally = decode::compare(family, MESSAGES, &mut random);
         tally.print(&format!("{}, {MESSAGES} messages decoded", family.family.name));
+        all.add(&tally);
+        let tally = decode::compare_cut(family, MESSAGES, &mut random);
+        tally.print(&format!("{}, {MESSAGES} cut messages decoded", family.family.name));
         all.add(&tally);
     }
     all.print("all");
@@ -83,8 +92,7 @@ fn print_family(family: &KnownFamily) {
     );
 }
 
-/// One record of a family: random steps, then its reader's getters on the message read again, and on a record that is
-/// too short.
+/// One record of a family: random steps, then its reader's accessors on the message read again.
 fn work(family: &KnownFamily, random: &mut Random, tally: &mut Tally) {
     let (data, pointers) = (family.family.data, family.family.pointers);
     let mut message = capnp::message::Builder::new_default();
@@ -102,12 +110,36 @@ fn work(family: &KnownFamily, random: &mut Random, tally: &mut Tally) {
     tally.count(reader.get_data_section_as_blob() == section, || "the message read again is another".into());
     data::get_from_reader(reader, family, tally);
     pointers::get_from_reader(reader, family, &flags, &owners, tally);
+}
 
+/// The reader's accessors on records that end before some slots: one of fewer words and pointers, and those of a list of
+/// numbers or texts, which may end in the middle of a slot.
+fn read_short(family: &KnownFamily, random: &mut Random, tally: &mut Tally) {
+    let (data, pointers) = (family.family.data as u64, family.family.pointers as u64);
     let mut message = capnp::message::Builder::new_default();
     let mut caps = Vec::new();
-    let short = pair::record(&mut message, random.below(data as u64) as u16, 0);
-    let short = Pair::new(short, &mut caps, random);
-    data::get_from_reader(short.record.into_reader(), family, tally);
+    let record = pair::record(&mut message, random.below(data) as u16, random.below(pointers + 1) as u16);
+    let mut pair = Pair::new(record, &mut caps, random);
+    pair.set_some(random);
+    read(pair.record.into_reader(), family, &pair.pointers, tally);
+
+    let mut message = capnp::message::Builder::new_default();
+    let filled = elements::fill(&mut message, random);
+    for (reader, element) in elements::records(&message).into_iter().zip(&filled) {
+        let is_same = reader.get_data_section_as_blob() == element.section;
+        tally.count(is_same, || "a list's element read as a record has other bytes".into());
+        read(reader, family, &element.pointers, tally);
+    }
+}
+
+/// The reader's accessors on a record whose pointers were set through no slot.
+fn read(reader: StructReader<'_>, family: &KnownFamily, flags: &[u8], tally: &mut Tally) {
+    let mut owners = vec![None; family.family.pointers as usize];
+    for (owner, _) in owners.iter_mut().zip(flags).filter(|(_, flag)| **flag != 0) {
+        *owner = Some(("", String::new()));
+    }
+    data::get_from_reader(reader, family, tally);
+    pointers::get_from_reader(reader, family, flags, &owners, tally);
 }
 
 fn step(pair: &mut Pair, family: &KnownFamily, owners: &mut pointers::Owners, random: &mut Random, tally: &mut Tally) {

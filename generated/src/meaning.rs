@@ -10,6 +10,26 @@ pub enum Place {
     Data { width: u32, offset: u32 },
 }
 
+impl Place {
+    /// Its bytes, from the first to the one behind the last.
+    fn bytes(self) -> (u64, u64) {
+        let (width, at) = match self {
+            Place::Bool(offset) => (1, u64::from(offset) / 8),
+            Place::Data { width, offset } => (u64::from(width), u64::from(offset) * u64::from(width)),
+        };
+        (at, at + width)
+    }
+
+    pub fn is_inside(self, section: &[u8]) -> bool {
+        self.bytes().1 <= section.len() as u64
+    }
+
+    /// Whether the section has some of its bytes, and not all.
+    pub fn is_split(self, section: &[u8]) -> bool {
+        !self.is_inside(section) && self.bytes().0 < section.len() as u64
+    }
+}
+
 /// What is set: the accessor's `value`, or a constant.
 #[derive(Clone, Copy, Debug, PartialEq)]
 pub enum Arg {
@@ -36,6 +56,14 @@ pub struct Get {
 pub struct Has {
     pub tag: Option<(u32, u16)>,
     pub pointer: u32,
+}
+
+impl Has {
+    /// Whether the record has its pointer and, in a union, its tag.
+    pub fn is_inside(self, section: &[u8], pointers: &[u8]) -> bool {
+        let has_tag = |(offset, _)| Place::Data { width: 2, offset }.is_inside(section);
+        self.tag.is_none_or(has_tag) && (self.pointer as usize) < pointers.len()
+    }
 }
 
 // ---- reading
@@ -313,22 +341,20 @@ fn set(place: Place, bits: u64, mask: Option<u64>, section: &mut [u8]) -> bool {
 }
 
 impl Get {
-    /// The value, where the section holds it.
-    pub fn run(self, section: &[u8]) -> Option<u64> {
+    /// The value: what is not wholly inside the section reads as zero bits, under the mask.
+    pub fn run(self, section: &[u8]) -> u64 {
         match self.place {
-            Place::Bool(offset) => record::get_bool(section, offset, self.mask.map(|m| m != 0)),
-            Place::Data { width, offset } => record::get_data(section, width, offset, self.mask),
+            Place::Bool(offset) => record::get_bool(section, offset, self.mask.map(|m| m != 0)) as u64,
+            Place::Data { width, offset } => {
+                record::get_data(section, width, offset, self.mask).expect("a numeric type has this width")
+            }
         }
     }
 }
 
 impl Has {
-    pub fn run(self, section: &[u8], pointers: &[u8]) -> Option<bool> {
-        if let Some((offset, member)) = self.tag {
-            if !record::tag_is(section, offset, member)? {
-                return Some(false);
-            }
-        }
-        record::is_pointer_null(pointers, self.pointer).map(|null| !null)
+    pub fn run(self, section: &[u8], pointers: &[u8]) -> bool {
+        self.tag.is_none_or(|(offset, member)| record::tag_is(section, offset, member))
+            && !record::is_pointer_null(pointers, self.pointer)
     }
 }

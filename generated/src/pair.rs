@@ -53,6 +53,14 @@ impl<'a> Pair<'a> {
         Pair { record, section, pointers }
     }
 
+    /// Sets some of the pointers, to a text.
+    pub fn set_some(&mut self, random: &mut Random) {
+        for (at, flag) in self.pointers.iter_mut().enumerate().filter(|_| random.below(2) == 1) {
+            self.record.get_pointer_field(at).set_text("bed");
+            *flag = 1;
+        }
+    }
+
     pub fn is_null(&self, pointer: usize) -> bool {
         self.record.get_pointer_field(pointer).is_null()
     }

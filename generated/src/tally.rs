@@ -20,6 +20,11 @@ pub struct Tally {
     pub other: u64,
     /// Those that the theorem excepts.
     pub excepted: u64,
+    /// Reads of slots that are not wholly inside their record, and those of them of which some bytes are there.
+    pub past: u64,
+    pub split: u64,
+    /// Hasers whose pointer or tag is not inside their record.
+    pub past_hasers: u64,
 }
 
 impl Tally {
@@ -56,6 +61,9 @@ impl Tally {
         self.combined += part.combined;
         self.other += part.other;
         self.excepted += part.excepted;
+        self.past += part.past;
+        self.split += part.split;
+        self.past_hasers += part.past_hasers;
     }
 
     /// Whether nothing differed, and the exceptions are those of the theorem and no others.
@@ -70,6 +78,12 @@ impl Tally {
                 "    {} values read after they were set: {} with the sign flipped (float default -0.0), {} combined with the \
                  default (enum without its flag), {} else not as written; the theorem says {}",
                 self.reads, self.flipped, self.combined, self.other, self.excepted
+            );
+        }
+        if self.past + self.past_hasers > 0 {
+            println!(
+                "    past the end: {} reads, of which {} found the first bytes of their slot, and {} hasers",
+                self.past, self.split, self.past_hasers
             );
         }
     }

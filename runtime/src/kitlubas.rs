@@ -2,14 +2,8 @@
 // of rust/ hold these declarations against it.
 mod raw {
     extern "C" {
-        pub fn kitlubas_get_bool(section: *const u8, section_len: usize, offset: u32, value: *mut u64) -> bool;
-        pub fn kitlubas_get_bool_mask(
-            section: *const u8,
-            section_len: usize,
-            offset: u32,
-            mask: bool,
-            value: *mut u64,
-        ) -> bool;
+        pub fn kitlubas_get_bool(section: *const u8, section_len: usize, offset: u32) -> bool;
+        pub fn kitlubas_get_bool_mask(section: *const u8, section_len: usize, offset: u32, mask: bool) -> bool;
         pub fn kitlubas_set_bool(section: *mut u8, section_len: usize, offset: u32, value: bool) -> bool;
         pub fn kitlubas_set_bool_mask(
             section: *mut u8,
@@ -42,37 +36,19 @@ mod raw {
             value: u64,
             mask: u64,
         ) -> bool;
-        pub fn kitlubas_tag_is(section: *const u8, section_len: usize, offset: u32, member: u16) -> u8;
-        pub fn kitlubas_is_pointer_null(pointers: *const u8, pointers_len: usize, offset: u32) -> u8;
+        pub fn kitlubas_tag_is(section: *const u8, section_len: usize, offset: u32, member: u16) -> bool;
+        pub fn kitlubas_is_pointer_null(pointers: *const u8, pointers_len: usize, offset: u32) -> bool;
         pub fn kitlubas_clear(pointers: *mut u8, pointers_len: usize, offset: u32) -> bool;
     }
 }
 
-fn found(value: u64, there: bool) -> Option<u64> {
-    if there {
-        Some(value)
-    } else {
-        None
-    }
-}
-
-fn tested(answer: u8) -> Option<bool> {
-    match answer {
-        0 => Some(false),
-        1 => Some(true),
-        _ => None,
-    }
-}
-
-pub fn get_bool(section: &[u8], offset: u32, mask: Option<bool>) -> Option<u64> {
-    let mut value = 0;
-    let there = unsafe {
+pub fn get_bool(section: &[u8], offset: u32, mask: Option<bool>) -> bool {
+    unsafe {
         match mask {
-            None => raw::kitlubas_get_bool(section.as_ptr(), section.len(), offset, &mut value),
-            Some(m) => raw::kitlubas_get_bool_mask(section.as_ptr(), section.len(), offset, m, &mut value),
+            None => raw::kitlubas_get_bool(section.as_ptr(), section.len(), offset),
+            Some(m) => raw::kitlubas_get_bool_mask(section.as_ptr(), section.len(), offset, m),
         }
-    };
-    found(value, there)
+    }
 }
 
 pub fn set_bool(section: &mut [u8], offset: u32, value: bool, mask: Option<bool>) -> bool {
@@ -84,15 +60,20 @@ pub fn set_bool(section: &mut [u8], offset: u32, value: bool, mask: Option<bool>
     }
 }
 
+// None where a number has no such width.
 pub fn get_data(section: &[u8], width: u32, offset: u32, mask: Option<u64>) -> Option<u64> {
     let mut value = 0;
-    let there = unsafe {
+    let is_width = unsafe {
         match mask {
             None => raw::kitlubas_get_data(section.as_ptr(), section.len(), width, offset, &mut value),
             Some(m) => raw::kitlubas_get_data_mask(section.as_ptr(), section.len(), width, offset, m, &mut value),
         }
     };
-    found(value, there)
+    if is_width {
+        Some(value)
+    } else {
+        None
+    }
 }
 
 pub fn set_data(section: &mut [u8], width: u32, offset: u32, value: u64, mask: Option<u64>) -> bool {
@@ -104,12 +85,12 @@ pub fn set_data(section: &mut [u8], width: u32, offset: u32, value: u64, mask: O
     }
 }
 
-pub fn tag_is(section: &[u8], offset: u32, member: u16) -> Option<bool> {
-    tested(unsafe { raw::kitlubas_tag_is(section.as_ptr(), section.len(), offset, member) })
+pub fn tag_is(section: &[u8], offset: u32, member: u16) -> bool {
+    unsafe { raw::kitlubas_tag_is(section.as_ptr(), section.len(), offset, member) }
 }
 
-pub fn is_pointer_null(pointers: &[u8], offset: u32) -> Option<bool> {
-    tested(unsafe { raw::kitlubas_is_pointer_null(pointers.as_ptr(), pointers.len(), offset) })
+pub fn is_pointer_null(pointers: &[u8], offset: u32) -> bool {
+    unsafe { raw::kitlubas_is_pointer_null(pointers.as_ptr(), pointers.len(), offset) }
 }
 
 pub fn clear(pointers: &mut [u8], offset: u32) -> bool {

@@ -3,11 +3,41 @@
 //
 //     runtime [operations [seed]]
 mod accessors;
+mod elements;
+mod gets;
 mod kitlubas;
 mod random;
 
-use accessors::{Builder, Kind, KINDS};
+use accessors::{Builder, Kind, Reader, KINDS};
+use elements::Element;
+use gets::{Get, Place};
 use random::Random;
+
+// Operations on one record, and on one element of a list.
+const STEPS: u64 = 200;
+const GETS: u64 = 16;
+
+#[derive(Default)]
+struct Tally {
+    records: u64,
+    operations: u64,
+    different: u64,
+    // Gets and tests that are not wholly inside, and those of them that begin inside.
+    past: u64,
+    split: u64,
+}
+
+impl Tally {
+    fn count(&mut self, is_right: bool) {
+        self.operations += 1;
+        self.different += !is_right as u64;
+    }
+
+    fn place(&mut self, place: Place) {
+        self.past += (place != Place::Inside) as u64;
+        self.split += (place == Place::Split) as u64;
+    }
+}
 
 // A record in a message, and its copy: data bytes, and a byte for each pointer.
 struct Pair<'a> {
@@ -36,42 +66,30 @@ impl<'a> Pair<'a> {
             && self.pointers.iter().enumerate().all(|(i, flag)| self.record.is_null(i) == (*flag == 0))
     }
 
-    // One operation on both. Past the section the runtime's reader gives the default, where the library finds nothing;
-    // the runtime's builder has no such test, so that there the library alone is asked, and must change nothing.
-    fn step(&mut self, random: &mut Random) -> bool {
-        match random.below(8) {
-            0 => self.get_bool(random),
-            1 => self.set_bool(random),
-            2 | 3 => self.get_data(random),
-            4 | 5 => self.set_data(random),
-            6 => self.tag_is(random),
-            _ => self.pointer(random),
-        }
+    // One operation on both. The runtime's builder has no test of the length: past the end it is not asked, and the library must
+    // refuse to set, and change nothing.
+    fn step(&mut self, random: &mut Random, tally: &mut Tally) {
+        let is_right = match random.below(16) {
+            0..=7 => self.get(random, tally),
+            8 | 9 => self.set_bool(random),
+            10..=13 => self.set_data(random),
+            14 => self.clear(random),
+            _ => self.at_no_width(random),
+        };
+        tally.count(is_right && self.same());
     }
 
-    fn bit_offset(&self, random: &mut Random) -> u32 {
-        random.below(self.section.len() as u64 * 8 + 9) as u32
-    }
-
-    fn element_offset(&self, width: u32, random: &mut Random) -> u32 {
-        random.below(self.section.len() as u64 / width as u64 + 2) as u32
-    }
-
-    fn get_bool(&mut self, random: &mut Random) -> bool {
-        let offset = self.bit_offset(random);
-        let (m, masks) = (random.below(2) == 1, random.below(2));
-        let mask = if masks == 0 { None } else { Some(m) };
-        let ours = kitlubas::get_bool(&self.section, offset, mask);
-        let reader = self.record.as_reader().get_bool(offset as usize, mask);
-        if offset as usize / 8 < self.section.len() {
-            ours == Some(reader as u64) && self.record.get_bool(offset as usize, mask) == reader
-        } else {
-            ours.is_none() && reader == mask.unwrap_or(false)
-        }
+    fn get(&self, random: &mut Random, tally: &mut Tally) -> bool {
+        let get = Get::any(&self.section, &self.pointers, random);
+        let place = get.place(&self.section, &self.pointers);
+        tally.place(place);
+        let reader = self.record.as_reader();
+        let of_builder = || get.of_builder(self.record) == get.of_reader(reader);
+        get.agrees(reader, &self.section, &self.pointers) && (place != Place::Inside || of_builder())
     }
 
     fn set_bool(&mut self, random: &mut Random) -> bool {
-        let offset = self.bit_offset(random);
+        let offset = gets::offset(self.section.len() * 8 + 7, random);
         let value = random.below(2) == 1;
         let m = random.below(2) == 1;
         let mask = random.maybe(m);
@@ -82,61 +100,71 @@ impl<'a> Pair<'a> {
         kitlubas::set_bool(&mut self.section, offset, value, mask) == inside
     }
 
-    fn get_data(&mut self, random: &mut Random) -> bool {
-        let kind = KINDS[random.below(KINDS.len() as u64) as usize];
-        let offset = self.element_offset(kind.width(), random);
-        let m = random.bits(kind.width());
-        let mask = random.maybe(m);
-        let ours = kitlubas::get_data(&self.section, kind.width(), offset, mask);
-        let reader = self.record.as_reader().get_data(kind, offset as usize, mask);
-        if (offset + 1) * kind.width() <= self.section.len() as u32 {
-            ours == Some(reader) && self.record.get_data(kind, offset as usize, mask) == reader
-        } else {
-            ours.is_none() && reader == mask.unwrap_or(0)
-        }
-    }
-
     fn set_data(&mut self, random: &mut Random) -> bool {
         let kind = KINDS[random.below(KINDS.len() as u64) as usize];
-        let offset = self.element_offset(kind.width(), random);
+        let width = kind.width() as usize;
+        let offset = gets::offset(self.section.len() / width, random);
         let value = random.bits(kind.width());
         let m = random.bits(kind.width());
         let mask = random.maybe(m);
-        let inside = (offset + 1) * kind.width() <= self.section.len() as u32;
+        let inside = (offset as usize + 1) * width <= self.section.len();
         if inside {
             self.record.set_data(kind, offset as usize, value, mask);
         }
         kitlubas::set_data(&mut self.section, kind.width(), offset, value, mask) == inside
     }
 
-    fn tag_is(&mut self, random: &mut Random) -> bool {
-        let offset = self.element_offset(2, random);
-        let tag = self.record.as_reader().get_data(Kind::Uint16, offset as usize, None) as u16;
-        let member = if random.below(2) == 0 { tag } else { random.bits(2) as u16 };
-        let ours = kitlubas::tag_is(&self.section, offset, member);
-        if (offset + 1) * 2 <= self.section.len() as u32 {
-            ours == Some(tag == member)
-        } else {
-            ours.is_none()
+    fn clear(&mut self, random: &mut Random) -> bool {
+        let offset = gets::offset(self.pointers.len(), random);
+        let inside = (offset as usize) < self.pointers.len();
+        if inside {
+            self.record.clear(offset as usize);
         }
+        kitlubas::clear(&mut self.pointers, offset) == inside
     }
 
-    fn pointer(&mut self, random: &mut Random) -> bool {
-        let offset = random.below(self.pointers.len() as u64 + 2) as u32;
-        let inside = (offset as usize) < self.pointers.len();
-        if random.below(3) == 0 {
-            if inside {
-                self.record.clear(offset as usize);
-            }
-            return kitlubas::clear(&mut self.pointers, offset) == inside;
-        }
-        let ours = kitlubas::is_pointer_null(&self.pointers, offset);
-        let reader = self.record.as_reader().is_null(offset as usize);
-        if inside {
-            ours == Some(reader) && self.record.is_null(offset as usize) == reader
-        } else {
-            ours.is_none() && reader
-        }
+    // The library refuses a width that no number has; the runtime has no such call.
+    fn at_no_width(&mut self, random: &mut Random) -> bool {
+        let width = [0, 3, 5, 6, 7, 9, 16, u32::MAX][random.below(8) as usize];
+        let (offset, m) = (random.below(4) as u32, random.next());
+        let mask = random.maybe(m);
+        kitlubas::get_data(&self.section, width, offset, mask).is_none()
+            && !kitlubas::set_data(&mut self.section, width, offset, m, mask)
+    }
+}
+
+// Gets and tests of an element, whose bytes are those that the list was filled with.
+fn read_element(record: Reader, element: &Element, random: &mut Random, tally: &mut Tally) {
+    tally.records += 1;
+    if record.reader.get_data_section_as_blob() != &element.section[..] {
+        tally.different += 1;
+    }
+    for _ in 0..GETS {
+        let get = Get::any(&element.section, &element.pointers, random);
+        tally.place(get.place(&element.section, &element.pointers));
+        tally.count(get.agrees(record, &element.section, &element.pointers));
+    }
+}
+
+// A record of whole words, and a list whose elements are read as records.
+fn work(random: &mut Random, tally: &mut Tally) {
+    let (words, pointers) = (random.below(9) as usize, random.below(9) as usize);
+    let mut message = capnp::message::Builder::new_default();
+    let root: capnp::any_pointer::Builder = message.init_root();
+    let record: Builder = root.initn_as((words as u32) << 16 | pointers as u32);
+    let mut pair = Pair::new(record, words, pointers, random);
+    tally.records += 1;
+    if !pair.same() {
+        tally.different += 1;
+    }
+    for _ in 0..STEPS {
+        pair.step(random, tally);
+    }
+
+    let mut message = capnp::message::Builder::new_default();
+    let filled = elements::fill(&mut message, random);
+    for (reader, element) in elements::records(&message).into_iter().zip(&filled) {
+        read_element(Reader { reader }, element, random, tally);
     }
 }
 
@@ -145,27 +173,13 @@ fn main() {
     let operations: u64 = args.next().map_or(2_000_000, |a| a.parse().expect("a number of operations"));
     let seed: u64 = args.next().map_or(1, |a| a.parse().expect("a seed"));
     let mut random = Random::new(seed);
-    let (mut done, mut different, mut records) = (0, 0, 0);
-    while done < operations {
-        let (words, pointers) = (random.below(9) as usize, random.below(9) as usize);
-        let mut message = capnp::message::Builder::new_default();
-        let root: capnp::any_pointer::Builder = message.init_root();
-        let record: Builder = root.initn_as((words as u32) << 16 | pointers as u32);
-        let mut pair = Pair::new(record, words, pointers, &mut random);
-        records += 1;
-        if !pair.same() {
-            different += 1;
-        }
-        for _ in 0..200 {
-            let right = pair.step(&mut random);
-            if !right || !pair.same() {
-                different += 1;
-            }
-            done += 1;
-        }
+    let mut tally = Tally::default();
+    while tally.operations < operations {
+        work(&mut random, &mut tally);
     }
-    println!("{} operations on {} records, {} different", done, records, different);
-    if different != 0 {
+    println!("{} gets and tests not wholly inside, of which {} begin inside", tally.past, tally.split);
+    println!("{} operations on {} records, {} different", tally.operations, tally.records, tally.different);
+    if tally.different != 0 {
         std::process::exit(1);
     }
 }

@@ -64,7 +64,7 @@ module _ {s : Str} {id place : ℕ} (a : SlotAt s id place) (k : Kind) (h : kind
 
   -- what the text of a getter's request answers
   pub get-alone : (isReader isFn : Bool) (g : Str) → getterRequest (a .tree) (a .field .name) (a .slot) isReader isFn ≡ ok g
-      → (r : Record) → runGetter g r ≡ get (placeAt a k) (a .slot .default .bits) r
+      → (r : Record) → runGetter g r ≡ some (get (placeAt a k) (a .slot .default .bits) r)
   get-alone isReader isFn g is r =
       let d = a .slot .default .bits in
       let e = isExplicit (a .slot) in
@@ -72,7 +72,7 @@ module _ {s : Str} {id place : ℕ} (a : SlotAt s id place) (k : Kind) (h : kind
       ap (λ (x : Str). runGetter x r) (getter .text)
       ∙ setting.get-holds (getter .typ) isReader k (a .slot .offset) (getMask k d e) r (getter .one-line .is)
       (get-fits k d e (own-fits (sym (getter .same-kind))))
-      ∙ ap (λ (m : ℕ). get (placeAt a k) m r) (get-mask-bits k d e)
+      ∙ ap (λ (m : ℕ). some (get (placeAt a k) m r)) (get-mask-bits k d e)
 
   -- what the text of a setter's request leaves, where the default is of the slot's kind
   pub set-alone : OwnDefault a → (w : Str)

@@ -14,7 +14,8 @@ use Rattle.record.specs.Lines.{Tag}
 use Rattle.record.specs.Masks.{setMask}
 use Rattle.record.specs.Record.{Record}
 use Rattle.record.specs.Types.{tagPlace}
-use Rattle.record.proofs.RecordLaws.{put-held}
+use Rattle.record.specs.declared.PointerOffset.{PointerOffset}
+use Rattle.record.proofs.RecordLaws.{get-past, put-held, null-past}
 use Rattle.meaning.specs.Claims.{TagHolds, voidLeaves}
 use Rattle.meaning.specs.Meaning.{runSetter, runHaser}
 use Rattle.meaning.proofs.HaserLaws as meaning
@@ -24,11 +25,11 @@ use Rattle.requests.specs.Requests.{accessorText, gives, outcome}
 use Rattle.requests.specs.declared.Accessor.{Accessor}
 use Rattle.requests.specs.declared.Accessor.the-variants.{Getter, Setter, Haser}
 use Rattle.agreement.specs.Slots.{isExplicit, Ran, SlotAt, slotKind, tagAt, placeAt, setterMask}
-use Rattle.agreement.specs.Claims.{GetHolds, OwnDefaultHolds, SetCase, SetHolds, SetMeansHolds, SetGetHolds, VoidHolds}
-use Rattle.agreement.specs.Claims.{VoidMeansHolds, VoidSetHolds, HaserHolds, NoHaserHolds}
+use Rattle.agreement.specs.Claims.{GetHolds, DefaultHolds, OwnDefaultHolds, SetCase, SetHolds, SetMeansHolds, SetGetHolds}
+use Rattle.agreement.specs.Claims.{VoidHolds, VoidMeansHolds, VoidSetHolds, HaserHolds, HaserPastHolds, NoHaserHolds}
 use Rattle.agreement.proofs.AnsweredLaws.{ran-generated}
 use Rattle.agreement.proofs.GetterLaws.{own-default}
-use Rattle.agreement.proofs.HaserLaws.{openingOf, whole-opening, haser-given, no-haser}
+use Rattle.agreement.proofs.HaserLaws.{openingOf, whole-opening, haser-given, no-haser, has-absent}
 use Rattle.agreement.proofs.OutLaws.{ok-is}
 use Rattle.agreement.proofs.AloneLaws.{set-fits, tag-fits-at, own-fits, get-alone, set-alone}
 use Rattle.agreement.proofs.SetterLaws.{GivenVoid, void-given}
@@ -76,6 +77,14 @@ pub own-default-holds : OwnDefaultHolds
 own-default-holds s id place a isReader isFn g x =
     sym (own-default (a .tree) (a .field .name) (a .slot) isReader isFn g (getter-text a isReader isFn g x))
 
+-- the default has the slot's width, so that zero bits under it read as the default
+pub default-holds : DefaultHolds
+default-holds s id place a k isReader isFn g r h x past =
+    let fits = own-fits a k h (own-default-holds s id place a isReader isFn g x) in
+    let n = slot-size k (a .slot .offset) in
+    get-holds s id place a k isReader isFn g r h x
+    ∙ ap some (get-past (placeAt a k) (a .slot .default .bits) r (rw n fits) past)
+
 pub set-holds : SetHolds
 set-holds s id place a k w v r c =
     set-alone a k (c .has-bits) (c .own-default) w (setter-text a w (c .setter)) v r
@@ -105,7 +114,7 @@ set-get-holds s id place a k w isReader isFn g v r c =
       runs = run .1;
       answers =
           get-holds s id place a k isReader isFn g (run .0) (c .has-bits) (c .getter)
-          ∙ x .reads d (rw n fits)
+          ∙ ap some (x .reads d (rw n fits))
           ∙ ap (λ (m : ℕ). some (bitXor (bitXor v (setterMask a k)) m)) (sym (get-mask-bits k d e))
           ∙ ap some (expected-holds k d e v fits (c .value));
       same = x .same;
@@ -154,6 +163,11 @@ haser-holds s id place a isReader h r p hs =
     ap (λ (x : Str). runHaser x r) text
     ∙ meaning.haser-holds (openingOf to name d (a .slot) isReader) isReader (tagAt a) (a .slot .offset) r
     (whole-opening to name d (a .slot) isReader (b .named) .is)
+
+pub haser-past-holds : HaserPastHolds
+haser-past-holds s id place a isReader h r p hs past =
+    let i : PointerOffset = record { 0 = a .slot .offset } in
+    haser-holds s id place a isReader h r p hs ∙ ap some (has-absent (tagAt a) i r (null-past i r past))
 
 pub no-haser-holds : NoHaserHolds
 no-haser-holds s id place a isReader h p hs =

@@ -9,7 +9,7 @@ use Rattle.text.specs.Bytes.{Str, unit}
 use Rattle.text.specs.declared.Text.{Text}
 use Rattle.tree.specs.Read.{admitted}
 use Rattle.codegen_types.specs.TypeString.{isPointer}
-use Rattle.record.specs.Record.{Record, get, Covers, Holds, Same}
+use Rattle.record.specs.Record.{Record, get, Covers, Holds, HoldsPointer, Same}
 use Rattle.record.specs.Types.{Kind, slotBits, kindOf}
 use Rattle.meaning.specs.Claims.{TagHolds, TagHas, TagClear, TagIs, setterLeaves, voidLeaves, hasAnswer}
 use Rattle.meaning.specs.Meaning.{runSetter, runGetter, runHaser}
@@ -40,13 +40,20 @@ RanHolds =
 
 -- ---- a getter alone
 
--- on every record, of any length: the bits of the slot exclusive or those of its V line, and no value exactly where the section
--- does not hold them all
+-- on every record, of any length: the bits of the slot, or zero bits where the section does not hold them all, exclusive or those
+-- of its V line
 abbrev pub GetHolds : Type 0
 GetHolds =
     (s : Str) (id place : ℕ) (a : SlotAt s id place) (k : Kind) (isReader isFn : Bool) (g : Str) (r : Record)
     → kindOf (slotKind a) ≡ some k → Ran s id place (Getter isReader isFn) g
-    → runGetter g r ≡ get (placeAt a k) (a .slot .default .bits) r
+    → runGetter g r ≡ some (get (placeAt a k) (a .slot .default .bits) r)
+
+-- exactly the default on every record whose section does not hold the slot whole
+abbrev pub DefaultHolds : Type 0
+DefaultHolds =
+    (s : Str) (id place : ℕ) (a : SlotAt s id place) (k : Kind) (isReader isFn : Bool) (g : Str) (r : Record)
+    → kindOf (slotKind a) ≡ some k → Ran s id place (Getter isReader isFn) g → (Holds (placeAt a k) r → ⊥)
+    → runGetter g r ≡ some (a .slot .default .bits)
 
 -- a slot with a getter has a V line of its T line's kind
 abbrev pub OwnDefaultHolds : Type 0
@@ -140,12 +147,20 @@ VoidSetHolds =
 
 -- ---- hasers
 
--- of a pointer slot: false where the tag is another number, else whether the pointer is not null
+-- of a pointer slot, on every record: false where the tag is another number, else whether the pointer is not null; past the end
+-- a tag is 0 and a pointer null
 abbrev pub HaserHolds : Type 0
 HaserHolds =
     (s : Str) (id place : ℕ) (a : SlotAt s id place) (isReader : Bool) (h : Str) (r : Record)
     → isPointer (a .slot .ty) ≡ true → Ran s id place (Haser isReader) h
-    → runHaser h r ≡ hasAnswer (tagAt a) (record { 0 = a .slot .offset }) r
+    → runHaser h r ≡ some (hasAnswer (tagAt a) (record { 0 = a .slot .offset }) r)
+
+-- false on every record that does not have the pointer
+abbrev pub HaserPastHolds : Type 0
+HaserPastHolds =
+    (s : Str) (id place : ℕ) (a : SlotAt s id place) (isReader : Bool) (h : Str) (r : Record)
+    → isPointer (a .slot .ty) ≡ true → Ran s id place (Haser isReader) h → (HoldsPointer (record { 0 = a .slot .offset }) r → ⊥)
+    → runHaser h r ≡ some false
 
 -- of any other slot: one newline
 abbrev pub NoHaserHolds : Type 0

@@ -1,7 +1,7 @@
 -- Worked cases of the claims, computed from the bytes of a sheet: isFree with default true, the bed's status with default 2
 -- without and with its flag, a Float32 with default -0.0, and members of a union. Each text is what a run of the entry left in a
--- longer buffer. The record is sixteen bytes 165 and two pointers, of which the first is null; shorter ones have no value, no
--- meaning. Assumes nothing.
+-- longer buffer. The record is sixteen bytes 165 and two pointers, of which the first is null; on shorter ones getters give their
+-- defaults, hasers find a tag of 0 and null pointers, and setters have no meaning. Assumes nothing.
 use Prim.Native.Nat.{ℕ, _+_, _^_, _<_}
 use Prim.Native.String.{String}
 use mathlib.Core.Path.{_≡_, refl, sym, ap, _∙_}
@@ -100,12 +100,15 @@ planned = slotWith (enum 8 end) 1 1 2
 abbrev heat : Slot
 heat = slotWith (plain 10) 1 1 2147483648
 
--- the members of a union with its tag at 4: a Uint8, a Text, a Void
+-- the members of a union with its tag at 4: a Uint8, two Texts at one pointer, a Void
 abbrev nights : Slot
 nights = slotWith (plain 6) 0 0 0
 
 abbrev guest : Slot
 guest = slotWith (plain 12) 1 0 0
+
+abbrev visitor : Slot
+visitor = slotWith (plain 12) 1 0 0
 
 abbrev vacant : Slot
 vacant = slotWith (plain 0) 0 0 0
@@ -115,7 +118,7 @@ abbrev odd : Slot
 odd = slotOf (plain 1) 5 1 2 3 []
 
 abbrev bed : Node
-bed = node 7 "bed" 3 4 (
+bed = node 7 "bed" 4 4 (
     namedField "isFree" 65535 (slot isFree)
     ∷ namedField "status" 65535 (slot status)
     ∷ namedField "planned" 65535 (slot planned)
@@ -124,6 +127,7 @@ bed = node 7 "bed" 3 4 (
     ∷ namedField "guest" 42405 (slot guest)
     ∷ namedField "vacant" 2 (slot vacant)
     ∷ namedField "odd" 65535 (slot odd)
+    ∷ namedField "visitor" 0 (slot visitor)
     ∷ [])
 
 -- with the enum
@@ -239,12 +243,21 @@ member =
     "    self.builder.set_data_field::<u16>(4, 1);\n    self.builder.set_data_field::<u8>(0, value);\n")
     (ascii "u8\nself.reader.get_data_field::<u8>(0)\n") 9 9
 
--- it meets the conditions of set and get, and the value is read that the claim says
+-- a record without bytes, and one without pointers
+abbrev noBytes : Record
+noBytes = record { bits = []; pointers = some16 .pointers }
+
+abbrev noPointers : Record
+noPointers = record { bits = some16 .bits; pointers = [] }
+
+-- it meets the conditions of set and get, and the value is read that the claim says; on a record without bytes, its default
 pub record Worked (x : Example) : Type 0 where
   pub at : SlotAt bytes 7 (x .place)
   pub case : Case at (x .kind) (x .setter) true false (x .getter) (x .writes) some16
   pub reads : expectedAt at (x .kind) (x .writes) ≡ x .reads
   pub runs : bindO (runSetter (x .setter) (x .writes) some16) (runGetter (x .getter)) ≡ some (x .reads)
+  pub past : Holds (placeAt at (x .kind)) noBytes → ⊥
+  pub default : runGetter (x .getter) noBytes ≡ some (x .slot .default .bits)
 
 -- each of some examples is worked
 pub data All : List Example → Type 0 where
@@ -265,8 +278,9 @@ module _ (x : Example) (e : fieldAt (tree .nodes) 7 (x .place) ≡ ok (bed, x .f
       → TagClear (tagAt here) (placeAt here (x .kind))
       → expectedAt here (x .kind) (x .writes) ≡ x .reads
       → bindO (runSetter (x .setter) (x .writes) some16) (runGetter (x .getter)) ≡ some (x .reads)
+      → (Holds (placeAt here (x .kind)) noBytes → ⊥) → runGetter (x .getter) noBytes ≡ some (x .slot .default .bits)
       → Worked x
-  worked k s g p q v l t c r u = record {
+  worked k s g p q v l t c r u n d = record {
     at = here;
     case = record {
       has-bits = k;
@@ -279,6 +293,8 @@ module _ (x : Example) (e : fieldAt (tree .nodes) 7 (x .place) ≡ ok (bed, x .f
     };
     reads = r;
     runs = u;
+    past = n;
+    default = d;
   }
 
 -- all of them
@@ -288,13 +304,15 @@ unfolding fieldAt byId nth accessorText same isAscii taken snakeFrom camelToSnak
     toLines flatMap join stringify decimal signed kindOf found stored getBits putBits typeName truth getMaskOf setMaskOf
     dataArg boolArg writes gets getsIn runOp runLine runLines runSetter runGetter text.answerOf text.bufferOf text.placed
 all-worked =
-    add (worked (free 1) refl refl refl refl refl refl refl (omega arith) (omega arith) tt tt refl refl)
-    (add (worked (free 0) refl refl refl refl refl refl refl (omega arith) (omega arith) tt tt refl refl)
-    (add (worked noFlag refl refl refl refl refl refl refl (omega arith) (omega arith) tt tt refl refl)
-    (add (worked withFlag refl refl refl refl refl refl refl (omega arith) (omega arith) tt tt refl refl)
-    (add (worked negativeZero refl refl refl refl refl refl refl (omega arith) (omega arith) tt tt refl refl)
+    add (worked (free 1) refl refl refl refl refl refl refl (omega arith) (omega arith) tt tt refl refl (λ h. omega arith) refl)
+    (add (worked (free 0) refl refl refl refl refl refl refl (omega arith) (omega arith) tt tt refl refl (λ h. omega arith) refl)
+    (add (worked noFlag refl refl refl refl refl refl refl (omega arith) (omega arith) tt tt refl refl (λ h. omega arith) refl)
+    (add (worked withFlag refl refl refl refl refl refl refl (omega arith) (omega arith) tt tt refl refl (λ h. omega arith) refl)
     (add
-    (worked member refl refl refl refl refl refl refl (omega arith) (omega arith) (omega arith) (λ b h g. omega arith) refl refl)
+    (worked negativeZero refl refl refl refl refl refl refl (omega arith) (omega arith) tt tt refl refl (λ h. omega arith) refl)
+    (add
+    (worked member refl refl refl refl refl refl refl (omega arith) (omega arith) (omega arith) (λ b h g. omega arith) refl refl
+    (λ h. omega arith) refl)
     nil)))))
 
 -- ---- a getter alone, a setter alone
@@ -304,19 +322,40 @@ pub freeAt : SlotAt bytes 7 0
 unfolding fieldAt byId nth
 freeAt = slotAt 0 (namedField "isFree" 65535 (slot isFree)) isFree refl refl
 
--- three bits
+-- three bits, and a fourth that is set
 abbrev threeBits : Record
 threeBits = record { bits = true ∷ false ∷ true ∷ []; pointers = [] }
 
--- The getter of isFree gives its bit, 0 in a byte 165, exclusive or its default true; on a record that does not reach to its bit
--- it has no value.
+abbrev fourBits : Record
+fourBits = record { bits = threeBits .bits ++ (true ∷ []); pointers = [] }
+
+-- The getter of isFree gives its bit, 1 of the four and 0 in a byte 165, exclusive or its default true; on a record that does not
+-- reach to its bit it gives the default.
 pub free-read :
     (kindOf (slotKind freeAt) ≡ some bool) × Ran bytes 7 0 (Getter true false) (free 1 .getter)
-    × (runGetter (free 1 .getter) some16 ≡ some 1) × (get (placeAt freeAt bool) 1 some16 ≡ some 1)
-    × (runGetter (free 1 .getter) threeBits ≡ none) × (get (placeAt freeAt bool) 1 threeBits ≡ none)
+    × (runGetter (free 1 .getter) some16 ≡ some 1) × (get (placeAt freeAt bool) 1 some16 ≡ 1)
+    × (runGetter (free 1 .getter) fourBits ≡ some 0) × (get (placeAt freeAt bool) 1 fourBits ≡ 0)
+    × (runGetter (free 1 .getter) threeBits ≡ some 1) × (get (placeAt freeAt bool) 1 threeBits ≡ 1)
 unfolding freeAt fieldAt byId nth accessorText typeString getBoolField getterMask getterText getterRequest toLines flatMap join
     stringify decimal kindOf found getBits typeName truth getMaskOf gets getsIn runGetter text.answerOf text.bufferOf text.placed
-free-read = (refl, ran-bytes 0 (Getter true false) (free 1 .getter) refl refl, refl, refl, refl, refl)
+free-read = (refl, ran-bytes 0 (Getter true false) (free 1 .getter) refl refl, refl, refl, refl, refl, refl, refl)
+
+-- status at its place
+pub statusAt : SlotAt bytes 7 1
+unfolding fieldAt byId nth
+statusAt = slotAt 1 (namedField "status" 65535 (slot status)) status refl refl
+
+-- three bytes, of which the last is the first of the status
+abbrev threeBytes : Record
+threeBytes = record { bits = sectionBits (replicate 3 165); pointers = [] }
+
+-- Its two bytes are read under its default 2. Where the section holds one of them alone, that byte does not count and the default
+-- is read.
+pub status-read :
+    (runGetter statusGetter some16 ≡ some 42407) × (Holds (placeAt statusAt kinds.enum) threeBytes → ⊥)
+    × (runGetter statusGetter threeBytes ≡ some 2) × (get (placeAt statusAt kinds.enum) 2 threeBytes ≡ 2)
+unfolding statusAt found getBits typeName truth getMaskOf gets getsIn runGetter
+status-read = (refl, (λ h. omega arith), refl, refl)
 
 -- nights, a member of the union, at its place
 pub nightsAt : SlotAt bytes 7 4
@@ -383,19 +422,38 @@ unfolding fieldAt byId nth accessorText isAscii taken snakeFrom camelToSnakeCase
     text.answerOf text.bufferOf text.placed
 vacant-worked = (refl, ran-bytes 6 Setter vacantSetter refl refl, omega arith, refl)
 
-abbrev guestHaser : Str
-guestHaser =
-    ascii "#[inline]\npub fn has_guest(&self) -> bool {\n"
-    ++ ascii "    if self.reader.get_data_field::<u16>(4) != 42405 { return false; }\n"
+-- a haser of the second pointer, by what stands after `has_` and the tag's number
+abbrev haserWith : String → String → Str
+haserWith name n =
+    ascii "#[inline]\npub fn has_" ++ ascii name ++ ascii "(&self) -> bool {\n"
+    ++ ascii "    if self.reader.get_data_field::<u16>(4) != " ++ ascii n ++ ascii " { return false; }\n"
     ++ ascii "    !self.reader.get_pointer_field(1).is_null()\n}\n"
 
--- a pointer in the union, whose tag is 42405 = 165 * 257: the second pointer is not null
+abbrev guestHaser : Str
+guestHaser = haserWith "guest" "42405"
+
+-- A pointer in the union, whose tag is 42405 = 165 * 257: the second pointer is not null. Past the pointers it is null, and a tag
+-- past the bytes is 0, so another.
 pub guest-worked :
     (isPointer (guest .ty) ≡ true) × Ran bytes 7 5 (Haser true) guestHaser × (runHaser guestHaser some16 ≡ some true)
+    × (runHaser guestHaser noPointers ≡ some false) × (runHaser guestHaser noBytes ≡ some false)
 unfolding fieldAt byId nth accessorText isAscii taken snakeFrom camelToSnakeCase notNull tagTest generateHaser haserRequest
     toLines flatMap join stringify decimal found getBits nullFlag typeName tests testsOf runTests runHaser text.answerOf
     text.bufferOf text.placed
-guest-worked = (refl, ran-bytes 5 (Haser true) guestHaser refl refl, refl)
+guest-worked = (refl, ran-bytes 5 (Haser true) guestHaser refl refl, refl, refl, refl)
+
+abbrev visitorHaser : Str
+visitorHaser = haserWith "visitor" "0"
+
+-- A member of the union with the number 0, which is not the tag's where there is one. A tag past the bytes is 0, so the pointer
+-- decides, and past the pointers it is null.
+pub visitor-worked :
+    (isPointer (visitor .ty) ≡ true) × Ran bytes 7 8 (Haser true) visitorHaser × (runHaser visitorHaser some16 ≡ some false)
+    × (runHaser visitorHaser noBytes ≡ some true) × (runHaser visitorHaser threeBytes ≡ some false)
+unfolding fieldAt byId nth accessorText isAscii taken snakeFrom camelToSnakeCase notNull tagTest generateHaser haserRequest
+    toLines flatMap join stringify decimal found getBits nullFlag typeName tests testsOf runTests runHaser text.answerOf
+    text.bufferOf text.placed
+visitor-worked = (refl, ran-bytes 8 (Haser true) visitorHaser refl refl, refl, refl, refl)
 
 -- the haser of a Bool is one newline
 pub no-haser-worked : (isPointer (isFree .ty) ≡ false) × Ran bytes 7 0 (Haser true) (unit 10)

@@ -2,6 +2,7 @@
 -- that is left say what they read there. Assumes nothing.
 use mathlib.Core.Path.{_≡_, sym, ap, _∙_}
 use mathlib.Core.Bool.{false}
+use mathlib.Core.Option.{some}
 use Prim.Native.Nat.{ℕ}
 use Rattle.text.specs.Bytes.{Str}
 use Rattle.codegen_types.specs.Out.{ok}
@@ -13,11 +14,11 @@ use Rattle.agreement.specs.Slots.{Ran, tagAt}
 use Rattle.agreement.proofs.AnsweredLaws.{ran-generated}
 use Rattle.agreement.proofs.ClaimLaws.{given-ok, getter-text, haser-holds}
 use Rattle.agreement.proofs.GetterLaws.{getter-given}
+use Rattle.agreement.proofs.HaserLaws.{has-absent}
 use Rattle.agreement.proofs.AloneLaws.{own-fits}
 use Rattle.agreement.proofs.SheetLaws.{bounds}
 use Rattle.agreement_zeroing.specs.Zeroing.{GroupAt, ZeroingHolds}
 use Rattle.agreement_zeroing.proofs.LeftLaws.{run-of, left, runs, lengths, bits-same, pointers-same, default-read, absent}
-use Rattle.agreement_zeroing.proofs.LeftLaws.{has-not}
 
 -- the text that is given is that of `zero_fields_of_group`
 zeroing-text : {s : Str} {id place : ℕ} (a : GroupAt s id place) (w : Str) → Ran s id place Zeroing w
@@ -41,8 +42,8 @@ zeroing-holds s id place a w e r long =
           ap (λ (y : Str). runGetter y (left c)) (x .text)
           ∙ default-read c i place b k e (own-fits b k e (sym (x .same-kind))) false (x .typ) (x .one-line .is) isReader;
       absent = absent c;
-      hasers = λ i place b e isReader h is reads.
-          haser-holds s _ place b isReader h (left c) e is ∙ has-not c i place b e (tagAt b) reads;
+      hasers = λ i place b e isReader h is.
+          haser-holds s _ place b isReader h (left c) e is ∙ ap some (has-absent (tagAt b) _ (left c) (absent c i place b e));
       lengths = lengths c;
       bits-same = bits-same c;
       pointers-same = pointers-same c;

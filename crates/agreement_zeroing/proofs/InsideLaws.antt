@@ -1,14 +1,12 @@
 -- The line of each slot of a group, and of the groups inside it, is due of the group. By induction on how it stands inside.
 -- Assumes nothing.
 use mathlib.Core.Path.{_≡_, refl, ap, _∙_}
-use mathlib.Core.Bool.{Bool, true, false}
 use mathlib.Core.Logic.{inl, inr}
 use mathlib.Core.Option.{Option, none, some}
 use mathlib.Core.List.{List, [], _∷_}
 use Prim.Native.Nat.{ℕ, zero, suc}
 use native.Mathlib.Omega.{arith}
-use lib.Dec.{eqb}
-use Rattle.text.specs.Bytes.{Str, cond}
+use Rattle.text.specs.Bytes.{Str}
 use Rattle.tree.specs.Tree.{Field, Node, Sheet}
 use Rattle.tree.specs.Read.{sheet, admitted}
 use Rattle.codegen_types.specs.Out.{ok, _then_}

@@ -1,15 +1,14 @@
 -- The record that a group's zeroing leaves: what crate meaning claims of its zeros, for each slot inside the group. Assumes
 -- nothing.
-use mathlib.Core.Path.{_≡_, refl, ap, _∙_}
+use mathlib.Core.Path.{_≡_, ap, _∙_}
 use mathlib.Core.Bool.{Bool, true, false}
 use mathlib.Core.Logic.{_⊎_, inl, inr}
-use mathlib.Core.Option.{Option, none, some}
+use mathlib.Core.Option.{some}
 use mathlib.Core.List.{[]}
 use Prim.Native.Nat.{ℕ, _^_, _<_}
 use native.Mathlib.Omega.{arith}
-use lib.Dec.{eqb}
 use lib.ListN.{length, getD}
-use Rattle.text.specs.Bytes.{Str, cond}
+use Rattle.text.specs.Bytes.{Str}
 use Rattle.text.specs.Lines.{FormattedTexts, Branch, toLines, stringify}
 use Rattle.tree.specs.Tree.{kind, Sheet}
 use Rattle.tree.specs.Read.{sheet, admitted}
@@ -18,18 +17,18 @@ use Rattle.codegen_types.specs.TypeString.{isPointer}
 use Rattle.calls.specs.Calls.{clearPointer}
 use Rattle.codegen.specs.Zeroing as codegen
 use Rattle.codegen.specs.Zeroing.{Zeroing, zeroFieldsOfGroup, zeroingRequest}
-use Rattle.record.specs.Lines.{Tag, getLine, getterLines, zeroCall, zeroTexts}
+use Rattle.record.specs.Lines.{getLine, getterLines, zeroCall, zeroTexts}
 use Rattle.record.specs.Masks.{getMask, getMaskText}
 use Rattle.record.specs.Record.{Record, mapO, null}
 use Rattle.record.specs.Types.{Kind, slotBits, kindOf}
 use Rattle.meaning.specs.Claims as meaning
-use Rattle.meaning.specs.Claims.{In, hasAnswer}
+use Rattle.meaning.specs.Claims.{In}
 use Rattle.meaning.specs.Meaning.{whole, runGetter, runZeroing}
 use Rattle.meaning.proofs.MaskLaws.{get-mask-bits}
 use Rattle.meaning.proofs.ZeroLaws.{zeroing-holds}
 use Rattle.agreement.specs.Slots.{SlotAt}
 use Rattle.agreement.proofs.AloneLaws.{get-fits}
-use Rattle.agreement_zeroing.specs.Zeroing.{Inside, EachWrite, LongEnough, SparesBit, SparesPointer, TagReads}
+use Rattle.agreement_zeroing.specs.Zeroing.{Inside, EachWrite, LongEnough, SparesBit, SparesPointer}
 use Rattle.agreement_zeroing.proofs.LineLaws.{slot-line, pointer-line}
 use Rattle.agreement_zeroing.proofs.GroupLaws.{Given, Covers, Due, group-covers}
 use Rattle.agreement_zeroing.proofs.InsideLaws.{due-inside}
@@ -106,15 +105,6 @@ module _ {s : Str} {g : ℕ} {w : Str} {r : Record} (c : Run s g w r) where
         (getMask k d explicit) (get-fits k d explicit fits) typ one isReader
         ∙ ap some (get-mask-bits k d explicit)
 
-    pub absent : isPointer (a .slot .ty) ≡ true → null (record { 0 = a .slot .offset }) left ≡ some true
+    pub absent : isPointer (a .slot .ty) ≡ true → null (record { 0 = a .slot .offset }) left ≡ true
     unfolding left
     absent e = zeroed .absent (a .slot .offset) (among (clearPointer (a .slot .offset)) (pointer-line (a .slot) e))
-
-    pub has-not : isPointer (a .slot .ty) ≡ true → (tag : Option Tag) → TagReads tag left
-        → hasAnswer tag (record { 0 = a .slot .offset }) left ≡ some false
-    has-not e none t = rw (absent e)
-    has-not e (some t) v = rw (v .1, absent e) (either-false (eqb (v .0) (t .1)))
-      where
-        either-false : (b : Bool) → cond {A = Option Bool} b (some false) (some false) ≡ some false
-        either-false true = refl
-        either-false false = refl

@@ -40,17 +40,17 @@ use Rattle.requests.specs.Requests as requests
 use Rattle.requests.specs.Requests.{accessorText, ofField, Outcome, gives, refuses, outcomeOf}
 use Rattle.requests.specs.declared.Accessor.the-variants.{Getter, Haser, Zeroing}
 use Rattle.agreement.specs.Examples.{ran-of}
-use Rattle.agreement.specs.Slots.{Ran, SlotAt, slotKind, tagAt}
+use Rattle.agreement.specs.Slots.{Ran, SlotAt, slotKind}
 use Rattle.record.specs.Record.{Record, found, stored, getBits, putBits, nullFlag, clearFlag}
 use Rattle.record.specs.Types as kinds
 use Rattle.record.specs.Types.{kindOf}
 use Rattle.meaning.specs.Reading.{typeName, truth, getMaskOf, dataArg, boolArg}
 use Rattle.meaning.specs.Meaning.{writes, gets, getsIn, tests, runOp, runLine, runLines, runGetter, runZeroing}
 use Rattle.meaning.specs.Meaning.{testsOf, runTests, runHaser}
-use Rattle.agreement_zeroing.specs.Zeroing.{GroupAt, Inside, here, deeper, LongEnough, TagReads}
+use Rattle.agreement_zeroing.specs.Zeroing.{GroupAt, Inside, here, deeper, LongEnough}
 
 -- A ward has a group bed, and that has a group state. The bed's rank (default 7) and the state's status (default 2) and isFree
--- (default true) share bits; note is a pointer in the bed's union.
+-- (default true) share bits; note is a pointer in the bed's union, and memo one with a tag that no line touches.
 abbrev rank : Field
 rank = loneSlot "rank" (plain 7) 2 0 7
 
@@ -63,6 +63,9 @@ status = loneSlot "status" (enum 4 end) 2 0 2
 abbrev isFree : Field
 isFree = loneSlot "isFree" (plain 1) 35 0 1
 
+abbrev memo : Field
+memo = namedField "memo" 0 (slot (slotWith (plain 12) 1 0 0))
+
 abbrev wardNode : Node
 wardNode = node 1 "ward" 0 0 (namedField "bed" 65535 (group 2) ∷ [])
 
@@ -70,7 +73,7 @@ abbrev bedNode : Node
 bedNode = node 2 "ward::bed" 1 1 (rank ∷ note ∷ namedField "state" 65535 (group 3) ∷ [])
 
 abbrev stateNode : Node
-stateNode = node 3 "ward::bed::state" 0 0 (status ∷ isFree ∷ [])
+stateNode = node 3 "ward::bed::state" 0 9 (status ∷ isFree ∷ memo ∷ [])
 
 abbrev ward : Sheet
 ward = workedSheet (wardNode ∷ bedNode ∷ stateNode ∷ workedNode 4 0 0 0 0 "ward::Status" [] [] ∷ [])
@@ -123,19 +126,20 @@ zeroText =
     ++ ascii "self.builder.reborrow().get_pointer_field(0).clear();\n"
     ++ ascii "self.builder.set_data_field::<u16>(2, 0u16);\n"
     ++ ascii "self.builder.set_bool_field(35, false);\n"
+    ++ ascii "self.builder.reborrow().get_pointer_field(1).clear();\n"
 
 zeroing-ran : Ran wardBytes 1 0 Zeroing zeroText
 unfolding requests.fieldAt byId nth accessorText zeroingRequest zeroFieldsOfGroup zeroFields zeroLine contains types.nodeOf
     same stringify join toLines flatMap decimal setBoolField setDataField clearPointer text.answerOf text.bufferOf text.placed
 zeroing-ran = ran-of wardBytes 1 0 Zeroing zeroText (rw ward-read refl) refl
 
--- six bytes, of which the tag's are zero, and a pointer that is not null
+-- six bytes, of which those of the bed's tag are zero, and two pointers that are not null; the state's tag is past the end
 abbrev before : Record
-before = record { bits = replicate 16 true ++ replicate 16 false ++ replicate 16 true; pointers = true ∷ [] }
+before = record { bits = replicate 16 true ++ replicate 16 false ++ replicate 16 true; pointers = true ∷ true ∷ [] }
 
 long-enough : LongEnough zeroText before
 unfolding typeName truth dataArg boolArg writes
-long-enough = (omega arith, (omega arith, (omega arith, (omega arith, (omega arith, tt)))))
+long-enough = (omega arith, (omega arith, (omega arith, (omega arith, (omega arith, (omega arith, tt))))))
 
 -- a slot with bits in the group inside, and its getter
 statusSlot : SlotAt wardBytes 3 0
@@ -191,16 +195,11 @@ note-ran = (refl, ran-of wardBytes 2 1 (Haser true) noteText (rw ward-read refl)
 -- ---- what is left
 
 abbrev after : Record
-after = record { bits = replicate 16 true ++ replicate 32 false; pointers = false ∷ [] }
+after = record { bits = replicate 16 true ++ replicate 32 false; pointers = false ∷ false ∷ [] }
 
 runs : runZeroing zeroText before ≡ some after
 unfolding found stored putBits clearFlag typeName truth dataArg boolArg writes runOp runLine runLines runZeroing
 runs = refl
-
--- its tag can be read there
-note-tag : TagReads (tagAt noteSlot) after
-unfolding noteSlot found getBits
-note-tag = (0, refl)
 
 -- what a getter's and a haser's text answer on a record
 abbrev reads : Record → Outcome → Option ℕ
@@ -214,6 +213,9 @@ says r (refuses k line) = none
 abbrev get : Record → ℕ → ℕ → Bool → Bool → Option ℕ
 get r id place isReader isFn = reads r (outcomeOf (sheet ward) id (ofField place (Getter isReader isFn)))
 
+abbrev has : Record → ℕ → ℕ → Option Bool
+has r id place = says r (outcomeOf (sheet ward) id (ofField place (Haser true)))
+
 -- rank in two forms, status and isFree: not their defaults before, their defaults after
 defaults-read :
     (get before 2 0 true false ≡ some 65528) × (get before 3 0 true false ≡ some 65533) × (get before 3 1 false false ≡ some 0)
@@ -223,10 +225,9 @@ unfolding requests.fieldAt byId nth accessorText getterRequest getterText typeSt
     getDataField decimal stringify join toLines flatMap same found getBits typeName truth getMaskOf gets getsIn runGetter
 defaults-read = (refl, refl, refl, refl, refl, refl, refl)
 
--- note is there before, and absent after
-note-absent :
-    (says before (outcomeOf (sheet ward) 2 (ofField 1 (Haser true))) ≡ some true)
-    × (says after (outcomeOf (sheet ward) 2 (ofField 1 (Haser true))) ≡ some false)
+-- note and memo are there before, and absent after
+pointers-absent :
+    (has before 2 1 ≡ some true) × (has before 3 2 ≡ some true) × (has after 2 1 ≡ some false) × (has after 3 2 ≡ some false)
 unfolding requests.fieldAt byId nth accessorText haserRequest generateHaser camelToSnakeCase taken isAscii snakeFrom notNull
     tagTest decimal stringify join toLines flatMap found getBits nullFlag typeName tests testsOf runTests runHaser
-note-absent = (refl, refl)
+pointers-absent = (refl, refl, refl, refl)

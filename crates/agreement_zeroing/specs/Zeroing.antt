@@ -12,13 +12,12 @@ use Rattle.tree.specs.Tree.{Field, Node, Sheet}
 use Rattle.tree.specs.Read.{sheet, admitted}
 use Rattle.codegen_types.specs.Out.{ok}
 use Rattle.codegen_types.specs.TypeString.{isPointer}
-use Rattle.record.specs.Lines.{Tag}
-use Rattle.record.specs.Record.{Record, get, null, Covers, Holds, HoldsPointer}
-use Rattle.record.specs.Types.{Kind, kindOf, tagPlace}
+use Rattle.record.specs.Record.{Record, null, Covers, Holds, HoldsPointer}
+use Rattle.record.specs.Types.{Kind, kindOf}
 use Rattle.meaning.specs.Meaning.{Op, setOp, clearOp, writes, lines, trim, runGetter, runHaser, runZeroing}
 use Rattle.requests.specs.Requests.{fieldAt}
 use Rattle.requests.specs.declared.Accessor.the-variants.{Getter, Haser, Zeroing}
-use Rattle.agreement.specs.Slots.{Ran, SlotAt, slotKind, tagAt}
+use Rattle.agreement.specs.Slots.{Ran, SlotAt, slotKind}
 
 -- ---- the slots of a group
 
@@ -72,13 +71,8 @@ SparesPointer j (clearOp i) = j ≡ i .0 → ⊥
 
 -- ---- what is claimed
 
--- a slot's tag can be read, or it has none
-abbrev pub TagReads : Option Tag → Record → Type 0
-TagReads none r = Unit {0}
-TagReads (some t) r = (v : ℕ) × (get (tagPlace (t .0)) 0 r ≡ some v)
-
 -- The text runs. Each getter of a slot with bits, in the group or in one inside it, then gives the bits of the slot's V line;
--- each pointer slot there is null, and each of its hasers says false if its tag can be read. What no line touches stays.
+-- each pointer slot there is null, and each of its hasers says false. What no line touches stays.
 pub record Zeroed (s : Str) (g : ℕ) (w : Str) (r : Record) : Type 0 where
   pub left : Record
   pub runs : runZeroing w r ≡ some left
@@ -87,10 +81,9 @@ pub record Zeroed (s : Str) (g : ℕ) (w : Str) (r : Record) : Type 0 where
       → (isReader isFn : Bool) (t : Str) → Ran s id place (Getter isReader isFn) t
       → runGetter t left ≡ some (a .slot .default .bits)
   pub absent : {id : ℕ} → Inside s g id → (place : ℕ) (a : SlotAt s id place) → isPointer (a .slot .ty) ≡ true
-      → null (record { 0 = a .slot .offset }) left ≡ some true
+      → null (record { 0 = a .slot .offset }) left ≡ true
   pub hasers : {id : ℕ} → Inside s g id → (place : ℕ) (a : SlotAt s id place) → isPointer (a .slot .ty) ≡ true
-      → (isReader : Bool) (h : Str) → Ran s id place (Haser isReader) h
-      → TagReads (tagAt a) left → runHaser h left ≡ some false
+      → (isReader : Bool) (h : Str) → Ran s id place (Haser isReader) h → runHaser h left ≡ some false
   pub lengths : (length (left .bits) ≡ length (r .bits)) × (length (left .pointers) ≡ length (r .pointers))
   pub bits-same : (b : ℕ) → EachWrite (SparesBit b) w → getD (left .bits) b false ≡ getD (r .bits) b false
   pub pointers-same : (j : ℕ) → EachWrite (SparesPointer j) w → getD (left .pointers) j false ≡ getD (r .pointers) j false

@@ -1,19 +1,17 @@
 -- A haser's text, run, is its tests. Assumes nothing.
-use mathlib.Core.Path.{_≡_, refl, _∙_}
+use mathlib.Core.Path.{_≡_, refl, ap, _∙_}
 use mathlib.Core.Bool.{Bool, true, false}
 use mathlib.Core.Option.{Option, none, some}
 use mathlib.Core.List.{List, [], _∷_, _++_}
 use Prim.Native.Nat.{ℕ}
 use lib.Dec.{eqb}
-use Rattle.text.specs.Bytes.{Str, cond}
+use Rattle.text.specs.Bytes.{Str, both}
 use Rattle.text.specs.Lines.{spaces}
 use Rattle.calls.specs.Calls.{notNull, tagTest}
 use Rattle.record.specs.Lines.{Tag, haserText}
 use Rattle.record.specs.Record.{Record, get, null}
 use Rattle.record.specs.Types.{tagPlace}
-use Rattle.record.proofs.RecordLaws.{get-inside}
-use Rattle.meaning.specs.Reading.{bindO}
-use Rattle.meaning.specs.Claims.{TextHaserHolds, TagHolds}
+use Rattle.meaning.specs.Claims.{TextHaserHolds, hasAnswer}
 use Rattle.meaning.specs.Meaning as meaning
 use Rattle.meaning.specs.Meaning.{Test, nullTest, whole, testsOf, runTests, runHaser}
 use Rattle.meaning.proofs.CallLaws.{tests-null, tests-tag}
@@ -60,18 +58,15 @@ haser-holds opening isReader (some t) i r h =
     let w = wholes-haser isReader (some t) i in
     rw (function-inner opening (haserLines isReader (some t) i) h w, tests-of isReader (some t) i)
 
--- where both answers are false, the test does not matter
-either-false : (o : Option ℕ) (n v : ℕ) → o ≡ some v → bindO o (λ x. cond (eqb x n) (some false) (some false)) ≡ some false
-either-false o n v e = rw e (go (eqb v n))
-  where
-    go : (b : Bool) → cond {A = Option Bool} b (some false) (some false) ≡ some false
-    go true = refl
-    go false = refl
-
--- a pointer that is null: false, if the tag can be read
+-- a pointer that is null: false, whatever the tag
 pub haser-null : (opening : Str) → whole opening ≡ true → (isReader : Bool) (tag : Option Tag) (i : ℕ) (r : Record)
-    → TagHolds tag r → null (record { 0 = i }) r ≡ some true → runHaser (haserText opening isReader tag i) r ≡ some false
-haser-null opening h isReader none i r t e = haser-holds opening isReader none i r h ∙ rw e
-haser-null opening h isReader (some x) i r t e =
-    haser-holds opening isReader (some x) i r h
-    ∙ rw e (either-false (get (tagPlace (x .0)) 0 r) (x .1) _ (get-inside (tagPlace (x .0)) 0 r t))
+    → null (record { 0 = i }) r ≡ true → runHaser (haserText opening isReader tag i) r ≡ some false
+haser-null opening h isReader tag i r e = haser-holds opening isReader tag i r h ∙ ap some (says tag)
+  where
+    neither : (b : Bool) → both b false ≡ false
+    neither true = refl
+    neither false = refl
+
+    says : (tag : Option Tag) → hasAnswer tag (record { 0 = i }) r ≡ false
+    says none = rw e
+    says (some t) = rw e (neither (eqb (get (tagPlace (t .0)) 0 r) (t .1)))

@@ -224,7 +224,7 @@ set-get-holds opening tag k o ms mg v r h f fs fg hv hp t =
       left = run .0;
       runs = set-holds opening tag k o ms v r h f fs ∙ run .1;
       answers = λ typ w isReader.
-          get-holds typ isReader k o mg (run .0) w fg ∙ x .reads (maskBits mg) (rw n (mask-below k mg fg));
+          get-holds typ isReader k o mg (run .0) w fg ∙ ap some (x .reads (maskBits mg) (rw n (mask-below k mg fg)));
       same = x .same;
       tagged = x .tagged;
     }

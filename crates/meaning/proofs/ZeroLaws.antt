@@ -234,11 +234,11 @@ clears-op (ofPointer i) j x = x
 
 -- a get of bits that are off is its mask
 get-off : (p : Place) (k : ℕ) (r : Record) → Holds p r → k < 2 ^ bitCount p → ((b : ℕ) → Covers p b → Off r b)
-    → get p k r ≡ some k
+    → get p k r ≡ k
 get-off p k r h l o =
     sym (get-ext p k r (after p 0 0 r) (after-length p 0 0 r h) (λ b x. put-makes p r h b x ∙ sym (o b x)))
     ∙ get-after p 0 0 r h k (pow-pos (bitCount p)) (pow-pos (bitCount p)) l
-    ∙ ap some (xor-zero-l k)
+    ∙ xor-zero-l k
 
 module _ (zs : List Zero) (r : Record) (h : Holding zs r) where
   left : Record
@@ -265,7 +265,7 @@ module _ (zs : List Zero) (r : Record) (h : Holding zs r) where
       let g : OpHolds (zeroOp (y .0)) r = holds-op (y .0) r (h (y .0) (y .1)) in
       rw (lengths .0) (subst (λ (x : Op). OpHolds x r) (y .2) g)
 
-  pointer-null : (i : ℕ) → In (clearPointer i) (zeroTexts zs) → null (record { 0 = i }) left ≡ some true
+  pointer-null : (i : ℕ) → In (clearPointer i) (zeroTexts zs) → null (record { 0 = i }) left ≡ true
   unfolding left
   pointer-null i n =
       let y = line-of (clearPointer i) (zeroOp (ofPointer i)) (says-zero (ofPointer i)) zs n in
@@ -282,9 +282,10 @@ module _ (zs : List Zero) (r : Record) (h : Holding zs r) where
     runs = zeroing-runs zs ft r e ∙ steps-run zs r h;
     defaults = λ k o i mg f typ w isReader.
         get-holds typ isReader k o mg left w f
-        ∙ get-off (placeOf k o) (maskBits mg) left (slot-holds k o i) (rw (slot-size k o) (mask-below k mg f)) (slot-off k o i);
+        ∙ ap some
+        (get-off (placeOf k o) (maskBits mg) left (slot-holds k o i) (rw (slot-size k o) (mask-below k mg f)) (slot-off k o i));
     absent = pointer-null;
-    hasers = λ i n opening w isReader tag t. haser-null opening w isReader tag i left t (pointer-null i n);
+    hasers = λ i n opening w isReader tag. haser-null opening w isReader tag i left (pointer-null i n);
     lengths = lengths;
     bits-same = λ b f. steps-same (λ x. getD (x .bits) b false) (λ z. ZeroHas z b → ⊥) (λ z x g q. step-other z x g b q) zs r h f;
     pointers-same =

@@ -10,7 +10,7 @@ use mathlib.Core.Option.{Option, none, some}
 use lib.Bits.{bitXor}
 use lib.Dec.{eqb}
 use lib.ListN.{length, getD}
-use Rattle.text.specs.Bytes.{Str, cond}
+use Rattle.text.specs.Bytes.{Str, cond, both}
 use Rattle.text.specs.Lines.{FormattedText, toLines, stringify}
 use Rattle.calls.specs.Calls.{clearPointer}
 use Rattle.record.specs.Lines.{Tag, getLine, setterText, voidSetterText, getterLines, haserText, Zero, ofSlot, ofTag, ofPointer}
@@ -51,16 +51,19 @@ TagClear (some t) p = Clear p (tagPlace (t .0))
 -- the tag holds the member's discriminant value
 abbrev pub TagIs : Option Tag → Record → Type 0
 TagIs none r = Unit {0}
-TagIs (some t) r = get (tagPlace (t .0)) 0 r ≡ some (t .1)
+TagIs (some t) r = get (tagPlace (t .0)) 0 r ≡ t .1
 
 -- ---- a getter alone, a setter alone
 
--- A getter's text answers the bits of its slot, exclusive or its mask: for every record, by the one definition of a get, which
--- has no value where the section does not hold them all.
+-- A getter's text answers the bits of its slot, exclusive or its mask: for every record, by the one definition of a get.
 abbrev pub TextGetHolds : Type 0
 TextGetHolds =
     (typ : Str) (isReader : Bool) (k : Kind) (o : ℕ) (mg : Option ℕ) (r : Record) → whole typ ≡ true → MaskFits k mg
-    → runGetter (getterLines typ (getLine isReader k o (mapO (getMaskText k) mg))) r ≡ get (placeOf k o) (maskBits mg) r
+    → runGetter (getterLines typ (getLine isReader k o (mapO (getMaskText k) mg))) r ≡ some (get (placeOf k o) (maskBits mg) r)
+
+-- Where the section does not hold the place whole, a get finds zero bits, so it answers its mask, the slot's default.
+abbrev pub DefaultGetHolds : Type 0
+DefaultGetHolds = (p : Place) (m : ℕ) (r : Record) → m < 2 ^ bitCount p → (Holds p r → ⊥) → get p m r ≡ m
 
 -- what the tag's line leaves, and after it the value's line
 abbrev pub voidLeaves : Option Tag → Record → Option Record
@@ -87,7 +90,7 @@ SetterMeansHolds =
 -- What it leaves: a get of the slot under mask k gives the value, exclusive or both masks; only the slot's bits and the tag's
 -- change; the tag is the member's where the slot has no bit in common with it.
 pub record SetterLeft (tag : Option Tag) (p : Place) (v m : ℕ) (r left : Record) : Type 0 where
-  pub reads : (k : ℕ) → k < 2 ^ bitCount p → get p k left ≡ some (bitXor (bitXor v m) k)
+  pub reads : (k : ℕ) → k < 2 ^ bitCount p → get p k left ≡ bitXor (bitXor v m) k
   pub same : Same (λ b. Covers p b ⊎ TagHas tag b) r left
   pub tagged : TagClear tag p → TagIs tag left
 
@@ -154,14 +157,19 @@ TextVoidSetHolds =
 -- ---- hasers
 
 -- false where the tag is another number, else whether the pointer is not null
-abbrev pub hasAnswer : Option Tag → PointerOffset → Record → Option Bool
-hasAnswer none i r = mapO not (null i r)
-hasAnswer (some t) i r = bindO (get (tagPlace (t .0)) 0 r) (λ x. cond (eqb x (t .1)) (mapO not (null i r)) (some false))
+abbrev pub hasAnswer : Option Tag → PointerOffset → Record → Bool
+hasAnswer none i r = not (null i r)
+hasAnswer (some t) i r = both (eqb (get (tagPlace (t .0)) 0 r) (t .1)) (not (null i r))
 
+-- A haser's text answers on every record.
 abbrev pub TextHaserHolds : Type 0
 TextHaserHolds =
     (opening : Str) (isReader : Bool) (tag : Option Tag) (i : ℕ) (r : Record) → whole opening ≡ true
-    → runHaser (haserText opening isReader tag i) r ≡ hasAnswer tag (record { 0 = i }) r
+    → runHaser (haserText opening isReader tag i) r ≡ some (hasAnswer tag (record { 0 = i }) r)
+
+-- A pointer past the pointers tests absent.
+abbrev pub AbsentHolds : Type 0
+AbsentHolds = (i : PointerOffset) (r : Record) → (HoldsPointer i r → ⊥) → null i r ≡ true
 
 -- ---- zeroing
 
@@ -187,17 +195,16 @@ ZeroClears (ofTag o) j = ⊥
 ZeroClears (ofPointer i) j = j ≡ i
 
 -- The zeroing's text runs. A slot with bits whose line is among its lines then reads as its default, the getter's mask; a pointer
--- slot tests absent, and each of its hasers says false if its tag can be read. What no line touches stays.
+-- slot tests absent, and each of its hasers says false. What no line touches stays.
 pub record TextZeroed (zs : List Zero) (ft : FormattedText) (r : Record) : Type 0 where
   pub left : Record
   pub runs : runZeroing (stringify ft) r ≡ some left
   pub defaults : (k : Kind) (o : ℕ) → In (zeroCall k o) (zeroTexts zs) → (mg : Option ℕ) → MaskFits k mg
       → (typ : Str) → whole typ ≡ true → (isReader : Bool)
       → runGetter (getterLines typ (getLine isReader k o (mapO (getMaskText k) mg))) left ≡ some (maskBits mg)
-  pub absent : (i : ℕ) → In (clearPointer i) (zeroTexts zs) → null (record { 0 = i }) left ≡ some true
+  pub absent : (i : ℕ) → In (clearPointer i) (zeroTexts zs) → null (record { 0 = i }) left ≡ true
   pub hasers : (i : ℕ) → In (clearPointer i) (zeroTexts zs) → (opening : Str) → whole opening ≡ true
-      → (isReader : Bool) (tag : Option Tag)
-      → TagHolds tag left → runHaser (haserText opening isReader tag i) left ≡ some false
+      → (isReader : Bool) (tag : Option Tag) → runHaser (haserText opening isReader tag i) left ≡ some false
   pub lengths : (length (left .bits) ≡ length (r .bits)) × (length (left .pointers) ≡ length (r .pointers))
   pub bits-same : (b : ℕ) → ((z : Zero) → In z zs → ZeroHas z b → ⊥) → getD (left .bits) b false ≡ getD (r .bits) b false
   pub pointers-same : (j : ℕ) → ((z : Zero) → In z zs → ZeroClears z j → ⊥)

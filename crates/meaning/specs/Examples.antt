@@ -1,5 +1,5 @@
 -- Worked examples, computed: document 01's cases as one table of lines, values written and values read; texts that have no
--- meaning; a haser and a zeroing. Assumes nothing.
+-- meaning; gets and tests past the section; hasers and a zeroing. Assumes nothing.
 use Prim.Native.Nat.{ℕ}
 use Prim.Native.String.{String}
 use mathlib.Core.Path.{_≡_, refl}
@@ -169,14 +169,28 @@ pub ill-mask : runGetter (ascii "bool\nself.reader.get_bool_field(0) && self.rea
 unfolding typeName truth getMaskOf gets getsIn runGetter
 ill-mask = refl
 
--- the last bit and the last eight bytes of the section have a value, those past it have none
+-- ---- past the section
+
+-- the last bit and the last byte of the section are read; past it a get finds zero bits, under its mask
 pub past-the-section :
     (runGetter (ascii "bool\nself.reader.get_bool_field(127)\n") some16 ≡ some 1)
-    × (runGetter (ascii "bool\nself.reader.get_bool_field(128)\n") some16 ≡ none)
+    × (runGetter (ascii "bool\nself.reader.get_bool_field(128)\n") some16 ≡ some 0)
+    × (runGetter (ascii "bool\nself.reader.get_bool_field_mask(128, true)\n") some16 ≡ some 1)
     × (runGetter (ascii "u8\nself.builder.get_data_field::<u8>(15)\n") some16 ≡ some 165)
-    × (runGetter (ascii "u64\nself.builder.get_data_field_mask::<u64>(2, 7)\n") some16 ≡ none)
+    × (runGetter (ascii "u64\nself.builder.get_data_field_mask::<u64>(2, 7)\n") some16 ≡ some 7)
 unfolding found getBits typeName truth getMaskOf gets getsIn runGetter
-past-the-section = (refl, refl, refl, refl)
+past-the-section = (refl, refl, refl, refl, refl)
+
+-- a number of which only the first of two bytes is there reads its mask, though that byte is not zero
+abbrev pub some3 : Record
+some3 = record { bits = sectionBits (replicate 3 165); pointers = [] }
+
+pub one-byte-of-two :
+    (runGetter (ascii "u8\nself.reader.get_data_field::<u8>(2)\n") some3 ≡ some 165)
+    × (runGetter (ascii "u16\nself.reader.get_data_field::<u16>(1)\n") some3 ≡ some 0)
+    × (runGetter (ascii "u16\nself.reader.get_data_field_mask::<u16>(1, 513)\n") some3 ≡ some 513)
+unfolding found getBits typeName truth getMaskOf gets getsIn runGetter
+one-byte-of-two = (refl, refl, refl)
 
 -- a Bool's setter in a union whose tag is element o: element 7 is the last of the section
 abbrev pub inUnion : ℕ → Option Record
@@ -199,8 +213,17 @@ unfolding toLines flatMap join stringify decimal notNull tagTest functionText fo
     runTests runHaser
 has-other-tag = refl
 
--- a null test past the pointers has no value
-pub no-third : runHaser (haserText (ascii "pub fn has_x(&self) -> bool {") true none 2) some16 ≡ none
+-- a tag past the section reads 0: the member with discriminant 0 goes on to its pointer, any other says false
+pub tag-past :
+    (runHaser (haserText (ascii "pub fn has_x(&self) -> bool {") true (some (8, 0)) 1) some16 ≡ some true)
+    × (runHaser (haserText (ascii "pub fn has_x(&self) -> bool {") true (some (8, 0)) 0) some16 ≡ some false)
+    × (runHaser (haserText (ascii "pub fn has_x(&self) -> bool {") true (some (8, 7)) 1) some16 ≡ some false)
+unfolding toLines flatMap join stringify decimal notNull tagTest functionText found getBits nullFlag typeName tests testsOf
+    runTests runHaser
+tag-past = (refl, refl, refl)
+
+-- a pointer past the pointers is absent
+pub no-third : runHaser (haserText (ascii "pub fn has_x(&self) -> bool {") true none 2) some16 ≡ some false
 unfolding toLines flatMap join stringify decimal notNull functionText found nullFlag typeName tests testsOf runTests runHaser
 no-third = refl
 

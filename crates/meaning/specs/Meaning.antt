@@ -5,7 +5,7 @@ use mathlib.Core.Bool.{Bool, true, false, not}
 use mathlib.Core.List.{List, [], _∷_, _++_}
 use mathlib.Core.Option.{Option, none, some}
 use lib.Dec.{eqb}
-use Rattle.text.specs.Bytes.{Str, cond}
+use Rattle.text.specs.Bytes.{Str, cond, both}
 use Rattle.record.specs.Offsets.{Place, boolAt, dataAt}
 use Rattle.record.specs.Record.{Record, mapO, get, putValue, null, clear}
 use Rattle.record.specs.Types.{Num, widthOf, tagPlace}
@@ -223,7 +223,7 @@ single (g ∷ []) = some g
 single (g ∷ (h ∷ l)) = none
 
 unfoldable pub runGetter : Str → Record → Option ℕ
-runGetter t r = bindO (bindO (allGets (afterFirst (lines t))) single) (λ g. get (g .0) (g .1) r)
+runGetter t r = mapO (λ g. get (g .0) (g .1) r) (bindO (allGets (afterFirst (lines t))) single)
 
 -- a haser: the first two lines and the last do nothing; each line between them that is not empty is a test
 unfoldable pub testsOf : List Str → Option (List Test)
@@ -237,11 +237,10 @@ testsOf (l ∷ ls) = one (trim l) (testsOf ls)
 -- one null test, or a tag test before it: false where that finds another number, else whether the pointer is not null
 unfoldable pub runTests : List Test → Record → Option Bool
 runTests [] r = none
-runTests (nullTest i ∷ []) r = mapO not (null i r)
+runTests (nullTest i ∷ []) r = some (not (null i r))
 runTests (nullTest i ∷ (t ∷ ts)) r = none
 runTests (tagTest o n ∷ []) r = none
-runTests (tagTest o n ∷ (nullTest i ∷ [])) r =
-    bindO (get (tagPlace o) 0 r) (λ x. cond (eqb x n) (mapO not (null i r)) (some false))
+runTests (tagTest o n ∷ (nullTest i ∷ [])) r = some (both (eqb (get (tagPlace o) 0 r) n) (not (null i r)))
 runTests (tagTest o n ∷ (nullTest i ∷ (t ∷ ts))) r = none
 runTests (tagTest o n ∷ (tagTest p m ∷ ts)) r = none
 

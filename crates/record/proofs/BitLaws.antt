@@ -6,7 +6,7 @@ use Prim.Native.Nat.{ℕ, zero, suc, _+_, _*_, _/_, _%_, _^_, _<_}
 use native.Mathlib.Nat.{div-add-mod', mod-lt, zero-lt-suc, pow-suc, div-lt-iff-lt-mul, div-one, not-suc-le-zero}
 use native.Mathlib.Omega.{arith}
 use lib.Arith.{digits-div, digits-mod, mod-mul}
-use lib.Bits.{bitXor, differ, xor-step, xor-lt}
+use lib.Bits.{bitXor, differ, xor-step, xor-lt, xor-zero-l}
 use lib.Pow.{shr-shr, pow-pos}
 use lib.Dec.{eqb}
 use lib.ListN.{length, getD, replicate}
@@ -131,3 +131,10 @@ mask-bits n m l e =
       ← e,
       to-of l,
     )
+
+-- a mask on zero bits is its low bits
+pub mask-alone : (n m : ℕ) → ofBits (xors (replicate n false) (toBits n m)) ≡ m % 2 ^ n
+mask-alone n m =
+    ap (λ (l : List Bool). ofBits (xors l (toBits n m))) (sym (toBits-zero n))
+    ∙ ap ofBits (xors-xor n 0 m ∙ ap (toBits n) (xor-zero-l m) ∙ sym (toBits-mod n m))
+    ∙ of-to n (m % 2 ^ n) (mod-lt m (pow-pos n))

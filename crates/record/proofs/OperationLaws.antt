@@ -14,21 +14,20 @@ use lib.ListN.{length, take, drop, getD, set, length-append}
 use lib.Pow.{high, low, pow-pos, pow-add, pow-mono, shr-lt, shl-exact}
 use lib.Seq.{drop-cons, take-at, drop-at, sets, set-split}
 use borrow.Author.Tests.{le-leb, lt-leb, leb-true, leb-false}
+use Rattle.text.specs.Bytes.{cond}
 use Rattle.record.specs.Bits.{toBits, bit, withBit, sectionBits, little, littleBytes, flags}
 use Rattle.record.specs.Bytes.{Bytes, SetBytesHolds}
 use Rattle.record.specs.Offsets.{Place, bytesOf, boolAt, dataAt, from, bitCount}
-use Rattle.record.specs.Record.{read, write, mapO, coded, getBits, putBits, tagIs, nullFlag, clearFlag}
-use Rattle.record.specs.Answers.{getValue, Put}
+use Rattle.record.specs.Record.{read, write, coded, getBits, putBits, nullFlag, clearFlag}
+use Rattle.record.specs.Answers.{Put}
 use Rattle.record.specs.declared.BitOffset.{BitOffset}
 use Rattle.record.specs.declared.ElementOffset.{ElementOffset}
-use Rattle.record.specs.declared.Get.{Get}
-use Rattle.record.specs.declared.Get.the-variants.{Value, None}
 use Rattle.record.specs.declared.PointerOffset.{PointerOffset}
 use Rattle.record.specs.declared.Set.the-variants.{Done, NoMeaning}
 use Rattle.record.specs.declared.Width.{Width}
 use Rattle.record.specs.declared.Width.the-variants.{One, Two, Four, Eight}
 use Rattle.record.proofs.BitLaws.{length-toBits, length-xors, bit-two, half-below, toBits-append, toBits-mod, mask-bits}
-use Rattle.record.proofs.BitLaws.{xors-xor}
+use Rattle.record.proofs.BitLaws.{mask-alone, xors-xor}
 use Rattle.record.proofs.SectionLaws.{write-part, length-read, found-inside, found-past, stored-inside, stored-past}
 use Rattle.record.proofs.ByteLaws.{bytes-rest, length-section, read-section, write-section, bool-at, number-at}
 use Rattle.record.proofs.ByteLaws.{toBits-bytes, length-littleBytes, length-flags, flag-at}
@@ -103,8 +102,8 @@ module _ (l : List ℕ) (o : BitOffset) (h : o .0 / 8 < length l) where
   bool-inside : from (boolAt o) + 1 ≤ length (sectionBits l)
   bool-inside = rw (length-section l) (omega (arith, mod-lt (o .0) (zero-lt-suc 7)))
 
-  pub get-bool : (m : ℕ) → m < 2
-      → getBits (boolAt o) m (sectionBits l) ≡ some (bitXor (getD l (o .0 / 8) 0 / 2 ^ (o .0 % 8) % 2) m)
+  get-bool : (m : ℕ) → m < 2
+      → getBits (boolAt o) m (sectionBits l) ≡ bitXor (getD l (o .0 / 8) 0 / 2 ^ (o .0 % 8) % 2) m
   unfolding getBits
   get-bool m hm =
       let s : List Bool = sectionBits l in
@@ -117,6 +116,14 @@ module _ (l : List ℕ) (o : BitOffset) (h : o .0 / 8 < length l) where
         bool-at l o h,
         odd-mod (getD l (o .0 / 8) 0 / 2 ^ (o .0 % 8)),
       )
+
+  -- the same by a test, since a bit under a mask is again a bit
+  pub get-bit : (m : Bool)
+      → bit (eqb (bitXor (getD l (o .0 / 8) 0 / 2 ^ (o .0 % 8) % 2) (bit m)) 1) ≡ getBits (boolAt o) (bit m) (sectionBits l)
+  get-bit m =
+      let x : ℕ = getD l (o .0 / 8) 0 / 2 ^ (o .0 % 8) in
+      bit-two (bitXor (x % 2) (bit m)) (xor-lt 1 (x % 2) (bit m) (mod-lt x (zero-lt-suc 1)) (bit-below m))
+      ∙ sym (get-bool (bit m) (bit-below m))
 
   byte-bits : read (o .0 / 8 * 8) 8 (sectionBits l) ≡ toBits 8 (getD l (o .0 / 8) 0)
   byte-bits = read-section (o .0 / 8) 1 l ∙ rw (drop-cons l (o .0 / 8) 0 h) (append-nil (toBits 8 (getD l (o .0 / 8) 0)))
@@ -149,11 +156,11 @@ module _ (l : List ℕ) (w : Width) (o : ElementOffset) (h : o .0 * bytesOf w + 
   data-inside : from (dataAt w o) + bitCount (dataAt w o) ≤ length (sectionBits l)
   data-inside = rw (length-section l) (omega arith)
 
-  pub get-data : Bytes l → (m : ℕ)
+  get-held : Bytes l → (m : ℕ)
       → getBits (dataAt w o) m (sectionBits l)
-      ≡ some (bitXor (little (take (bytesOf w) (drop (o .0 * bytesOf w) l))) (m % 2 ^ (bytesOf w * 8)))
+      ≡ bitXor (little (take (bytesOf w) (drop (o .0 * bytesOf w) l))) (m % 2 ^ (bytesOf w * 8))
   unfolding getBits
-  get-data bytes m =
+  get-held bytes m =
       let s : List Bool = sectionBits l in
       let a : ℕ = from (dataAt w o) in
       let n : ℕ = bitCount (dataAt w o) in
@@ -180,25 +187,48 @@ module _ (l : List ℕ) (w : Width) (o : ElementOffset) (h : o .0 * bytesOf w + 
 pub set-bytes : SetBytesHolds
 set-bytes = (put-bool, put-data)
 
--- what a get of a tag answers decides its test
-pub tag-value : (l : List Bool) (o : ElementOffset) (n v : ℕ) {g : Get} → g ≡ Value v
-    → getValue g ≡ getBits (dataAt Two o) 0 l → tagIs o n l ≡ some (eqb v n)
-tag-value l o n v e f = ap (mapO (λ (x : ℕ). eqb x n)) (sym f ∙ ap getValue e)
-
-pub tag-none : (l : List Bool) (o : ElementOffset) (n : ℕ) {g : Get} → g ≡ None
-    → getValue g ≡ getBits (dataAt Two o) 0 l → tagIs o n l ≡ none
-tag-none l o n e f = ap (mapO (λ (x : ℕ). eqb x n)) (sym f ∙ ap getValue e)
-
 -- ---- past the section
 
+-- an element that doesn't lie inside the bytes doesn't lie inside their bits
+pub data-past : (w : Width) (o : ElementOffset) (n : ℕ) → n < o .0 * bytesOf w + bytesOf w
+    → n * 8 < from (dataAt w o) + bitCount (dataAt w o)
+data-past w o n h = omega arith
+
 module _ (p : Place) (l : List ℕ) (h : length l * 8 < from p + bitCount p) where
-  pub get-past : (m : ℕ) → getBits p m (sectionBits l) ≡ none
+  pub get-past : (m : ℕ) → getBits p m (sectionBits l) ≡ m % 2 ^ bitCount p
   unfolding getBits
-  get-past m = rw (found-past (from p) (bitCount p) (sectionBits l) (rw (length-section l) h))
+  get-past m = rw (found-past (from p) (bitCount p) (sectionBits l) (rw (length-section l) h)) (mask-alone (bitCount p) m)
 
   pub put-past : (v m : ℕ) → putBits p v m (sectionBits l) ≡ none
   unfolding putBits
   put-past v m = stored-past (from p) (coded p v m) (sectionBits l) (rw (length-section l, length-xors (bitCount p) v m) h)
+
+-- a number's get, wherever it lies: it reads all of its bytes or none
+pub get-data : (l : List ℕ) (w : Width) (o : ElementOffset) → Bytes l → (m : ℕ)
+    → getBits (dataAt w o) m (sectionBits l)
+    ≡ bitXor (little (take (cond (leb (o .0 * bytesOf w + bytesOf w) (length l)) (bytesOf w) 0) (drop (o .0 * bytesOf w) l)))
+    (m % 2 ^ (bytesOf w * 8))
+get-data l w o bytes m = go (leb (o .0 * bytesOf w + bytesOf w) (length l)) refl
+  where
+    go : (b : Bool) → leb (o .0 * bytesOf w + bytesOf w) (length l) ≡ b
+        → getBits (dataAt w o) m (sectionBits l)
+        ≡ bitXor (little (take (cond b (bytesOf w) 0) (drop (o .0 * bytesOf w) l))) (m % 2 ^ (bytesOf w * 8))
+    go true e = get-held l w o (leb-true _ _ e) bytes m
+    go false e = get-past (dataAt w o) l (data-past w o (length l) (leb-false _ _ e)) m
+
+pub bytes-small : (w : Width) → bytesOf w ≤ 8
+bytes-small One = omega arith
+bytes-small Two = omega arith
+bytes-small Four = omega arith
+bytes-small Eight = omega arith
+
+-- the bytes that it reads lie inside, and are eight at most
+pub read-inside : (a n len : ℕ) → n ≤ 8 → (cond (leb (a + n) len) n 0 ≤ len - a) × (cond (leb (a + n) len) n 0 ≤ 8)
+read-inside a n len h = go (leb (a + n) len) refl
+  where
+    go : (b : Bool) → leb (a + n) len ≡ b → (cond b n 0 ≤ len - a) × (cond b n 0 ≤ 8)
+    go true e = (omega (arith, leb-true (a + n) len e), h)
+    go false e = (omega arith, omega arith)
 
 -- ---- what a set leaves and answers
 
@@ -215,11 +245,6 @@ pub put-data-done : {l : List ℕ} {w : Width} {o : ElementOffset} (v m : ℕ) �
     → Put (dataAt w o) v m l (sets l (o .0 * bytesOf w) (littleBytes (bytesOf w) (bitXor v m))) Done
 put-data-done {l} {w} {o} v m h = record { answer = rw (put-data l w o h v m); left = rw (put-data l w o h v m) }
 
--- an element that doesn't lie inside the bytes doesn't lie inside their bits
-pub data-past : (w : Width) (o : ElementOffset) (n : ℕ) → n < o .0 * bytesOf w + bytesOf w
-    → n * 8 < from (dataAt w o) + bitCount (dataAt w o)
-data-past w o n h = omega arith
-
 -- a length test by a difference
 pub leb-difference : (at n len : ℕ) → at ≤ len → leb n (len - at) ≡ leb (at + n) len
 leb-difference at n len h = go (leb n (len - at)) refl
@@ -227,12 +252,6 @@ leb-difference at n len h = go (leb n (len - at)) refl
     go : (b : Bool) → leb n (len - at) ≡ b → b ≡ leb (at + n) len
     go true e = sym (le-leb (at + n) len (omega (arith, leb-true n (len - at) e)))
     go false e = sym (lt-leb (at + n) len (omega (arith, leb-false n (len - at) e)))
-
-pub bytes-small : (w : Width) → bytesOf w ≤ 8
-bytes-small One = omega arith
-bytes-small Two = omega arith
-bytes-small Four = omega arith
-bytes-small Eight = omega arith
 
 -- ---- pointers
 
@@ -246,7 +265,7 @@ set-flags (b ∷ l) zero = refl
 set-flags (b ∷ l) (suc i) = ap (λ (r : List Bool). not (eqb b 0) ∷ r) (set-flags l i)
 
 module _ (l : List ℕ) (i : PointerOffset) where
-  pub null-inside : i .0 < length l → nullFlag i (flags l) ≡ some (eqb (getD l (i .0) 0) 0)
+  pub null-inside : i .0 < length l → nullFlag i (flags l) ≡ eqb (getD l (i .0) 0) 0
   unfolding nullFlag
   null-inside h =
       let g : i .0 < length (flags l) = rw (length-flags l) h in
@@ -257,7 +276,7 @@ module _ (l : List ℕ) (i : PointerOffset) where
         not-bit (eqb (getD l (i .0) 0) 0),
       )
 
-  pub null-past : length l ≤ i .0 → nullFlag i (flags l) ≡ none
+  pub null-past : length l ≤ i .0 → nullFlag i (flags l) ≡ true
   unfolding nullFlag
   null-past h = rw (found-past (i .0) 1 (flags l) (rw (length-flags l) (omega arith)))
 

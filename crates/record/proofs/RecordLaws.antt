@@ -1,11 +1,12 @@
--- Records: a set and then a get, what a set leaves alone, sets in either order, clears. Every law is over a place, whatever its
+-- Records: a set and then a get, a get past the section, what a set leaves alone, clears. Every law is over a place, whatever its
 -- width. A bit of the section lies in a place or not, and the laws of writes settle both. Assumes nothing.
 use mathlib.Core.Path.{_≡_, refl, sym, ap, _∙_, subst}
 use mathlib.Core.Bool.{Bool, true, false, not}
 use mathlib.Core.Option.{Option, none, some}
 use mathlib.Core.Logic.{_≢_}
-use mathlib.Core.List.{List, [], _∷_}
+use mathlib.Core.List.{[], _∷_}
 use Prim.Native.Nat.{ℕ, _+_, _-_, _*_, _^_, _≤_, _<_}
+use native.Mathlib.Nat.{mod-eq-of-lt}
 use native.Mathlib.Omega.{arith}
 use native.Mathlib.Decide.{decLt}
 use lib.Bits.{bitXor, xor-lt}
@@ -17,9 +18,9 @@ use Rattle.record.specs.Offsets.{Place, from, bitCount, pointerAddress}
 use Rattle.record.specs.Record.{Record, read, write, masked, coded, getBits, putBits, nullFlag, clearFlag, get, putValue}
 use Rattle.record.specs.Record.{null, clear, Covers, Clear, Holds, HoldsPointer, Same}
 use Rattle.record.specs.declared.PointerOffset.{PointerOffset}
-use Rattle.record.proofs.BitLaws.{length-xors, of-to, xors-twice, xors-xor}
+use Rattle.record.proofs.BitLaws.{length-xors, of-to, xors-twice, xors-xor, mask-alone}
 use Rattle.record.proofs.SectionLaws.{length-write, read-write, write-at, write-out, found-ext, found-inside}
-use Rattle.record.proofs.SectionLaws.{stored-inside, stored-past}
+use Rattle.record.proofs.SectionLaws.{found-past, stored-inside, stored-past}
 
 -- the record with the value v, under mask m, put at p
 unfoldable pub after : Place → ℕ → ℕ → Record → Record
@@ -29,9 +30,15 @@ pub coded-size : (p : Place) (v m : ℕ) → length (coded p v m) ≡ bitCount p
 coded-size p v m = length-xors (bitCount p) v m
 
 pub get-inside : (p : Place) (k : ℕ) (r : Record) → Holds p r
-    → get p k r ≡ some (masked p k (read (from p) (bitCount p) (r .bits)))
+    → get p k r ≡ masked p k (read (from p) (bitCount p) (r .bits))
 unfolding getBits
 get-inside p k r h = rw (found-inside (from p) (bitCount p) (r .bits) h)
+
+-- a place that the section does not hold whole: the mask alone
+pub get-past : (p : Place) (k : ℕ) (r : Record) → k < 2 ^ bitCount p → (Holds p r → ⊥) → get p k r ≡ k
+unfolding getBits
+get-past p k r l h =
+    rw (found-past (from p) (bitCount p) (r .bits) (omega arith)) (mask-alone (bitCount p) k ∙ mod-eq-of-lt l)
 
 -- ---- one set
 
@@ -68,21 +75,21 @@ module _ (p : Place) (v m : ℕ) (r : Record) (h : Holds p r) where
       subst (λ (n : ℕ). read (from p) n (write (from p) (coded p v m) (r .bits)) ≡ coded p v m) (coded-size p v m)
       (read-write (from p) (coded p v m) (r .bits) fits)
 
-  get-coded : (k : ℕ) → get p k (after p v m r) ≡ some (masked p k (coded p v m))
-  get-coded k = get-inside p k (after p v m r) (rw after-length h) ∙ ap (λ (bs : List Bool). some (masked p k bs)) after-read
+  get-coded : (k : ℕ) → get p k (after p v m r) ≡ masked p k (coded p v m)
+  get-coded k = get-inside p k (after p v m r) (rw after-length h) ∙ ap (masked p k) after-read
 
   -- A SET AND THEN A GET: the value, exclusive or both masks
   pub get-after : (k : ℕ) → v < 2 ^ bitCount p → m < 2 ^ bitCount p → k < 2 ^ bitCount p
-      → get p k (after p v m r) ≡ some (bitXor (bitXor v m) k)
+      → get p k (after p v m r) ≡ bitXor (bitXor v m) k
   get-after k hv hm hk =
       let n : ℕ = bitCount p in
       get-coded k
-      ∙ ap some (rw (xors-xor n v m, xors-xor n (bitXor v m) k)
-      (of-to n (bitXor (bitXor v m) k) (xor-lt n (bitXor v m) k (xor-lt n v m hv hm) hk)))
+      ∙ rw (xors-xor n v m, xors-xor n (bitXor v m) k)
+      (of-to n (bitXor (bitXor v m) k) (xor-lt n (bitXor v m) k (xor-lt n v m hv hm) hk))
 
   -- the masks agree: the value
-  pub get-set : v < 2 ^ bitCount p → get p m (after p v m r) ≡ some v
-  get-set l = get-coded m ∙ ap some (rw (xors-twice (bitCount p) v m) (of-to (bitCount p) v l))
+  pub get-set : v < 2 ^ bitCount p → get p m (after p v m r) ≡ v
+  get-set l = get-coded m ∙ rw (xors-twice (bitCount p) v m) (of-to (bitCount p) v l)
 
 -- past the section a set has no meaning
 pub put-past : (p : Place) (v m : ℕ) (r : Record) → length (r .bits) < from p + bitCount p → putValue p v m r ≡ none
@@ -108,7 +115,7 @@ put-length p v m r s e =
     let f : s ≡ after p v m r = cc in
     ap (λ (x : Record). length (x .bits)) f ∙ after-length p v m r h
 
--- two sections that agree on a place's bits give it the same value, if any
+-- two sections of one length that agree on a place's bits give it the same value
 pub get-ext : (p : Place) (k : ℕ) (r s : Record) → length (s .bits) ≡ length (r .bits)
     → ((b : ℕ) → Covers p b → getD (s .bits) b false ≡ getD (r .bits) b false) → get p k s ≡ get p k r
 unfolding getBits
@@ -156,12 +163,17 @@ module _ (i : PointerOffset) (r : Record) (h : HoldsPointer i r) where
 
 -- a null test says whether the flag is down
 pub null-flag : (i : PointerOffset) (r : Record) → HoldsPointer i r
-    → null i r ≡ some (not (getD (r .pointers) (pointerAddress i) false))
+    → null i r ≡ not (getD (r .pointers) (pointerAddress i) false)
 unfolding nullFlag
 null-flag i r h =
     rw (found-inside (pointerAddress i) 1 (r .pointers) (omega arith), drop-cons (r .pointers) (pointerAddress i) false h)
-    (ap some (down (getD (r .pointers) (pointerAddress i) false)))
+    (down (getD (r .pointers) (pointerAddress i) false))
   where
     down : (b : Bool) → eqb (bit b + 2 * 0) 0 ≡ not b
     down true = refl
     down false = refl
+
+-- past the pointers every pointer is null
+pub null-past : (i : PointerOffset) (r : Record) → (HoldsPointer i r → ⊥) → null i r ≡ true
+unfolding nullFlag
+null-past i r h = rw (found-past (pointerAddress i) 1 (r .pointers) (omega arith))

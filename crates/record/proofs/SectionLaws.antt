@@ -1,4 +1,4 @@
--- Sections: what a write leaves, bit by bit; what a get or a set of a place does where it lies inside. Assumes nothing.
+-- Sections: what a write leaves, bit by bit; what is found and stored inside a section and past it. Assumes nothing.
 use mathlib.Core.Path.{_≡_, refl, sym, ap, _∙_, subst}
 use mathlib.Core.Bool.{Bool, false}
 use mathlib.Core.Option.{none, some}
@@ -7,7 +7,7 @@ use mathlib.Core.List.{List, _++_}
 use Prim.Native.Nat.{ℕ, _+_, _-_, _≤_, _<_}
 use native.Mathlib.Omega.{arith}
 use native.Mathlib.Decide.{decLt}
-use lib.ListN.{length, take, drop, getD, length-append, length-take, length-drop, List·getD-append}
+use lib.ListN.{length, take, drop, getD, replicate, length-append, length-take, length-drop, List·getD-append}
 use lib.Seq.{take-at, drop-at, ext-getD, getD-drop, getD-take, getD-append-add, length-take-le}
 use borrow.Author.Tests.{le-leb, lt-leb}
 use Rattle.record.specs.Record.{read, write, found, stored}
@@ -145,11 +145,11 @@ module _ (a j n : ℕ) (vs l : List Bool) (fits : j + length vs ≤ n) (holds : 
 
 -- ---- what is found and what is stored, inside and past the section
 
-pub found-inside : (a n : ℕ) (l : List Bool) → a + n ≤ length l → found a n l ≡ some (read a n l)
+pub found-inside : (a n : ℕ) (l : List Bool) → a + n ≤ length l → found a n l ≡ read a n l
 unfolding found
 found-inside a n l h = rw (le-leb _ _ h)
 
-pub found-past : (a n : ℕ) (l : List Bool) → length l < a + n → found a n l ≡ none
+pub found-past : (a n : ℕ) (l : List Bool) → length l < a + n → found a n l ≡ replicate n false
 unfolding found
 found-past a n l h = rw (lt-leb _ _ h)
 

@@ -1,5 +1,4 @@
--- What the answers of the operations on a lent record say, and what the operations leave, in the words of the definitions on
--- sections. Assumes nothing.
+-- What sets and clears of a lent record answer and leave, in the words of the definitions on sections. Assumes nothing.
 use Prim.Native.Nat.{ℕ}
 use mathlib.Core.Path.{_≡_}
 use mathlib.Core.Bool.{Bool, true, false}
@@ -10,28 +9,13 @@ use Rattle.record.specs.Bits.{sectionBits, flags}
 use Rattle.record.specs.Offsets.{Place, pointerAddress}
 use Rattle.record.specs.Record.{isSome, putBits, clearFlag}
 use Rattle.record.specs.declared.PointerOffset.{PointerOffset}
-use Rattle.record.specs.declared.Get.{Get}
-use Rattle.record.specs.declared.Get.the-variants as gets
 use Rattle.record.specs.declared.Set.{Set}
 use Rattle.record.specs.declared.Set.the-variants as sets
-use Rattle.record.specs.declared.Test.{Test}
-use Rattle.record.specs.declared.Test.the-variants as tests
-
--- the value that a get finds, if any
-abbrev pub getValue : Get → Option ℕ
-getValue (gets.Value v) = some v
-getValue gets.None = none
 
 -- whether a set or a clear has a meaning
 abbrev pub setMeans : Set → Bool
 setMeans sets.Done = true
 setMeans sets.NoMeaning = false
-
--- what a test finds, if anything
-abbrev pub testValue : Test → Option Bool
-testValue tests.True = some true
-testValue tests.False = some false
-testValue tests.None = none
 
 -- the section that an operation leaves: the one before it where it has no meaning
 abbrev pub leaves : Option (List Bool) → List Bool → List Bool

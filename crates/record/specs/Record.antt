@@ -6,7 +6,8 @@ use mathlib.Core.Bool.{Bool, true, false}
 use mathlib.Core.Option.{Option, none, some}
 use mathlib.Core.List.{List, [], _∷_, _++_}
 use lib.Dec.{eqb, leb}
-use lib.ListN.{length, take, drop, getD}
+use lib.ListN.{length, take, drop, getD, replicate}
+use Rattle.text.specs.Bytes.{cond}
 use Rattle.record.specs.Bits.{toBits, ofBits, xors}
 use Rattle.record.specs.Offsets.{Place, dataAt, from, bitCount, pointerAddress}
 use Rattle.record.specs.declared.ElementOffset.{ElementOffset}
@@ -38,9 +39,9 @@ write a vs l = take a l ++ (vs ++ drop (a + length vs) l)
 abbrev pub inside : ℕ → ℕ → List Bool → Bool
 inside a n l = leb (a + n) (length l)
 
--- What a get or a null test finds: past its section it has no value.
-unfoldable pub found : ℕ → ℕ → List Bool → Option (List Bool)
-found a n l = only (inside a n l) (read a n l)
+-- What a get or a null test finds: zero bits where they are not wholly inside the section.
+unfoldable pub found : ℕ → ℕ → List Bool → List Bool
+found a n l = cond (inside a n l) (read a n l) (replicate n false)
 
 -- What a set or a clear leaves: past its section it has no meaning.
 unfoldable pub stored : ℕ → List Bool → List Bool → Option (List Bool)
@@ -56,20 +57,20 @@ coded p v m = xors (toBits (bitCount p) v) (toBits (bitCount p) m)
 -- ---- on a section
 
 -- get with mask m, which is 0 where the call has none
-unfoldable pub getBits : Place → ℕ → List Bool → Option ℕ
-getBits p m l = mapO (masked p m) (found (from p) (bitCount p) l)
+unfoldable pub getBits : Place → ℕ → List Bool → ℕ
+getBits p m l = masked p m (found (from p) (bitCount p) l)
 
 -- set value v with mask m
 unfoldable pub putBits : Place → ℕ → ℕ → List Bool → Option (List Bool)
 putBits p v m l = stored (from p) (coded p v m) l
 
 -- whether the 16 bits of a tag are the number of a member
-abbrev pub tagIs : ElementOffset → ℕ → List Bool → Option Bool
-tagIs o n l = mapO (λ x. eqb x n) (getBits (dataAt Two o) 0 l)
+abbrev pub tagIs : ElementOffset → ℕ → List Bool → Bool
+tagIs o n l = eqb (getBits (dataAt Two o) 0 l) n
 
 -- whether pointer i is null, and the pointers with i null
-unfoldable pub nullFlag : PointerOffset → List Bool → Option Bool
-nullFlag i l = mapO (λ bs. eqb (ofBits bs) 0) (found (pointerAddress i) 1 l)
+unfoldable pub nullFlag : PointerOffset → List Bool → Bool
+nullFlag i l = eqb (ofBits (found (pointerAddress i) 1 l)) 0
 
 unfoldable pub clearFlag : PointerOffset → List Bool → Option (List Bool)
 clearFlag i l = stored (pointerAddress i) (false ∷ []) l
@@ -81,13 +82,13 @@ pub record Record : Type 0 where
   pub bits : List Bool
   pub pointers : List Bool
 
-abbrev pub get : Place → ℕ → Record → Option ℕ
+abbrev pub get : Place → ℕ → Record → ℕ
 get p m r = getBits p m (r .bits)
 
 abbrev pub putValue : Place → ℕ → ℕ → Record → Option Record
 putValue p v m r = mapO (λ bs. record { bits = bs; pointers = r .pointers }) (putBits p v m (r .bits))
 
-abbrev pub null : PointerOffset → Record → Option Bool
+abbrev pub null : PointerOffset → Record → Bool
 null i r = nullFlag i (r .pointers)
 
 abbrev pub clear : PointerOffset → Record → Option Record

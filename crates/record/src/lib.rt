@@ -1,14 +1,16 @@
 // A record lent by its caller: a data section of bytes, and a byte for each pointer. The operations that document 01, "What a
-// line does to a record", gives a meaning: plain and masked gets and sets, tests of a tag, null tests and clears.
+// line does to a record", gives a meaning: plain and masked gets and sets, tests of a tag, null tests and clears. Gets and tests
+// answer on sections of any length: they find zero bits where these are not wholly inside.
 ghost use mathlib.Core.Path.{_≡_};
-ghost use Prim.Native.Nat.{_+_, _*_, _/_, _%_, _^_, _≤_, _<_};
+ghost use Prim.Native.Nat.{_+_, _-_, _*_, _/_, _%_, _^_, _≤_, _<_};
 ghost use lib.Dec.{leb};
 ghost use lib.ListN.{length, take, drop};
 ghost use lib.Seq.{sets};
+ghost use Rattle.text.specs.Bytes.{cond};
 ghost use Rattle.record.specs.Bits.{bit, withBit, little, littleBytes, sectionBits, flags};
 ghost use Rattle.record.specs.Offsets.{bytesOf, bitAddress, elementAddress, pointerAddress, boolAt, dataAt};
 ghost use Rattle.record.specs.Record.{getBits, tagIs, nullFlag};
-ghost use Rattle.record.specs.Answers.{getValue, testValue, Put, Cleared};
+ghost use Rattle.record.specs.Answers.{Put, Cleared};
 ghost use Rattle.record.specs.Bytes.{BoolAtHolds, NumberAtHolds, SetBytesHolds, SameBytesHolds};
 
 // An offset of a Bool, in bits.
@@ -34,23 +36,10 @@ pub enum Width {
     Eight,
 }
 
-// What a get finds; None past the section.
-pub enum Get {
-    Value(u64),
-    None,
-}
-
 // What becomes of a set or a clear; past the section it has no meaning, and the record is as before.
 pub enum Set {
     Done,
     NoMeaning,
-}
-
-// What a test of a tag or of a pointer finds; None past the section.
-pub enum Test {
-    True,
-    False,
-    None,
 }
 
 impl Width {
@@ -128,9 +117,22 @@ fn inside(len: usize, at: usize, n: usize) -> bool
     n <= len - at
 }
 
+// how many of n bytes from at on a get reads in a section of len bytes: all, or none where they are not wholly inside
+fn readable(len: usize, at: usize, n: usize) -> usize
+    ensures { λ r. ⌜ r ≡ cond (leb (at + n) len) n 0 ⌝ }
+{
+    if len < at {
+        return 0;
+    }
+    if len - at < n {
+        return 0;
+    }
+    n
+}
+
 // the number that n bytes from at on are, little-endian
 fn load(section: &[u8], at: usize, n: usize) -> u64
-    requires { ⌜ (at + n ≤ length (now section)) × (n ≤ 8) ⌝ }
+    requires { ⌜ (n ≤ length (now section) - at) × (n ≤ 8) ⌝ }
     ensures { λ r. ⌜ r ≡ little (take n (drop at (now (section .entry)))) ⌝ }
 {
     let mut word: u64 = 0;
@@ -178,21 +180,21 @@ fn flag(b: bool) -> u64
 // ---- Bools
 
 // The bit there, exclusive or with the mask.
-pub fn get_bool_field_mask(section: &[u8], o: BitOffset, mask: bool) -> Get
-    ensures { λ r. ⌜ getValue r ≡ getBits (boolAt o) (bit mask) (sectionBits (now (section .entry))) ⌝ }
+pub fn get_bool_field_mask(section: &[u8], o: BitOffset, mask: bool) -> bool
+    ensures { λ r. ⌜ bit r ≡ getBits (boolAt o) (bit mask) (sectionBits (now (section .entry))) ⌝ }
 {
     let a = bit_address(o);
     let byte = a.byte;
     if byte < section.len() {
-        Get::Value(bit_of(section[byte], a.bit) ^ flag(mask))
+        (bit_of(section[byte], a.bit) ^ flag(mask)) == 1
     } else {
-        Get::None
+        mask
     }
 }
 
 // The bit there.
-pub fn get_bool_field(section: &[u8], o: BitOffset) -> Get
-    ensures { λ r. ⌜ getValue r ≡ getBits (boolAt o) 0 (sectionBits (now (section .entry))) ⌝ }
+pub fn get_bool_field(section: &[u8], o: BitOffset) -> bool
+    ensures { λ r. ⌜ bit r ≡ getBits (boolAt o) 0 (sectionBits (now (section .entry))) ⌝ }
 {
     get_bool_field_mask(section, o, false)
 }
@@ -221,21 +223,17 @@ pub fn set_bool_field(section: &mut [u8], o: BitOffset, value: bool) -> Set
 // ---- numbers and enums, by their bits
 
 // The bits there as a number, exclusive or with the mask's low bits, as many as the width has.
-pub fn get_data_field_mask(section: &[u8], width: Width, o: ElementOffset, mask: u64) -> Get
-    ensures { λ r. ⌜ getValue r ≡ getBits (dataAt width o) mask (sectionBits (now (section .entry))) ⌝ }
+pub fn get_data_field_mask(section: &[u8], width: Width, o: ElementOffset, mask: u64) -> u64
+    ensures { λ r. ⌜ r ≡ getBits (dataAt width o) mask (sectionBits (now (section .entry))) ⌝ }
 {
     let at = element_address(width, o);
-    let n = width.bytes();
-    if inside(section.len(), at, n) {
-        Get::Value(load(section, at, n) ^ low_bits(width, mask))
-    } else {
-        Get::None
-    }
+    let n = readable(section.len(), at, width.bytes());
+    load(section, at, n) ^ low_bits(width, mask)
 }
 
 // The bits there as a number.
-pub fn get_data_field(section: &[u8], width: Width, o: ElementOffset) -> Get
-    ensures { λ r. ⌜ getValue r ≡ getBits (dataAt width o) 0 (sectionBits (now (section .entry))) ⌝ }
+pub fn get_data_field(section: &[u8], width: Width, o: ElementOffset) -> u64
+    ensures { λ r. ⌜ r ≡ getBits (dataAt width o) 0 (sectionBits (now (section .entry))) ⌝ }
 {
     get_data_field_mask(section, width, o, 0)
 }
@@ -268,36 +266,23 @@ pub fn set_data_field(section: &mut [u8], width: Width, o: ElementOffset, value:
 }
 
 // whether the 16 bits at o are the number of a union's member
-pub fn tag_is(section: &[u8], o: ElementOffset, member: u16) -> Test
-    ensures { λ r. ⌜ testValue r ≡ tagIs o member (sectionBits (now (section .entry))) ⌝ }
+pub fn tag_is(section: &[u8], o: ElementOffset, member: u16) -> bool
+    ensures { λ r. ⌜ r ≡ tagIs o member (sectionBits (now (section .entry))) ⌝ }
 {
-    match get_data_field(section, Width::Two, o) {
-        Get::Value(tag) => {
-            if tag == member as u64 {
-                Test::True
-            } else {
-                Test::False
-            }
-        }
-        Get::None => Test::None,
-    }
+    get_data_field(section, Width::Two, o) == member as u64
 }
 
 // ---- pointers
 
-// Whether a pointer is null: its byte is 0.
-pub fn is_pointer_field_null(pointers: &[u8], o: PointerOffset) -> Test
-    ensures { λ r. ⌜ testValue r ≡ nullFlag o (flags (now (pointers .entry))) ⌝ }
+// Whether a pointer is null: its byte is 0, or past the pointers.
+pub fn is_pointer_field_null(pointers: &[u8], o: PointerOffset) -> bool
+    ensures { λ r. ⌜ r ≡ nullFlag o (flags (now (pointers .entry))) ⌝ }
 {
     let at = pointer_address(o);
     if at < pointers.len() {
-        if pointers[at] == 0 {
-            Test::True
-        } else {
-            Test::False
-        }
+        pointers[at] == 0
     } else {
-        Test::None
+        true
     }
 }
 

@@ -4,31 +4,22 @@ use mathlib.Core.Bool.{Bool, true, false}
 use mathlib.Core.List.{List}
 use mathlib.Core.Option.{Option, none, some}
 use Prim.Native.Nat.{ℕ}
-use Rattle.record.specs.Answers.{getValue, setMeans, Put, Cleared}
+use Rattle.record.specs.Answers.{setMeans, Put, Cleared}
 use Rattle.record.specs.Bits.{sectionBits, flags}
 use Rattle.record.specs.Offsets.{Place, dataAt}
-use Rattle.record.specs.Record.{isSome, getBits, putBits, clearFlag}
+use Rattle.record.specs.Record.{getBits, putBits, clearFlag}
 use Rattle.record.specs.declared.ElementOffset.{ElementOffset}
-use Rattle.record.specs.declared.Get.{Get}
-use Rattle.record.specs.declared.Get.the-variants as get
 use Rattle.record.specs.declared.PointerOffset.{PointerOffset}
 use Rattle.record.specs.declared.Set.{Set}
 use Rattle.record.specs.declared.Width.{Width}
-use Rattle.record_exports.specs.Boundary.{asWidth, measured, getOf, putOf, or, Gave, SetLeft}
+use Rattle.record_exports.specs.Boundary.{asWidth, measured, getOf, putOf, Gave, SetLeft}
 use Rattle.record_exports.specs.declared.Measure.{Measure}
 use Rattle.record_exports.specs.declared.Measure.the-variants.{Is, No}
 
 -- ---- gets
 
-pub gave-value : {o : Option ℕ} {old v : ℕ} {a : Get} → a ≡ get.Value v → getValue a ≡ o → Gave o old v true
-gave-value {o} {old} {v} e f =
-    let p : some v ≡ o = sym (ap getValue e) ∙ f in
-    record { answer = ap isSome p; value = ap (λ (x : Option ℕ). or x old) p }
-
-pub gave-none : {o : Option ℕ} {old : ℕ} {a : Get} → a ≡ get.None → getValue a ≡ o → Gave o old old false
-gave-none {o} {old} e f =
-    let p : none ≡ o = sym (ap getValue e) ∙ f in
-    record { answer = ap isSome p; value = ap (λ (x : Option ℕ). or x old) p }
+pub gave-value : {old v w : ℕ} → v ≡ w → Gave (some w) old v true
+gave-value e = record { answer = refl; value = e }
 
 pub gave-nothing : {old : ℕ} → Gave none old old false
 gave-nothing = record { answer = refl; value = refl }
@@ -36,7 +27,7 @@ gave-nothing = record { answer = refl; value = refl }
 -- a width's get is the place's, and of no width there is none
 pub of-width : (n : ℕ) (w : Width) (o : ElementOffset) (m : ℕ) (l : List Bool) {b : Measure} → measured b ≡ asWidth n
     → b ≡ Is w
-    → getOf (asWidth n) o m l ≡ getBits (dataAt w o) m l
+    → getOf (asWidth n) o m l ≡ some (getBits (dataAt w o) m l)
 of-width n w o m l e f = ap (λ (x : Option Width). getOf x o m l) (sym e ∙ ap measured f)
 
 pub of-none : (n : ℕ) (o : ElementOffset) (m : ℕ) (l : List Bool) {b : Measure} → measured b ≡ asWidth n → b ≡ No

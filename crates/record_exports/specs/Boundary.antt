@@ -1,6 +1,6 @@
 -- What the boundary's functions answer and leave, from the definitions on sections. Assumes nothing.
 use mathlib.Core.Path.{_≡_}
-use mathlib.Core.Bool.{Bool, true, false}
+use mathlib.Core.Bool.{Bool}
 use mathlib.Core.List.{List}
 use mathlib.Core.Option.{Option, none, some}
 use Prim.Native.Nat.{ℕ}
@@ -40,7 +40,7 @@ measured (Is w) = some w
 measured No = none
 
 -- a get and a set of a Bool
-abbrev pub getsBool : ℕ → ℕ → List ℕ → Option ℕ
+abbrev pub getsBool : ℕ → ℕ → List ℕ → ℕ
 getsBool o m l = getBits (boolAt (bits o)) m (sectionBits l)
 
 abbrev pub putBool : ℕ → ℕ → ℕ → List ℕ → Option (List Bool)
@@ -49,7 +49,7 @@ putBool o v m l = putBits (boolAt (bits o)) v m (sectionBits l)
 -- a get and a set of a number: of no width nothing is found or set
 abbrev pub getOf : Option Width → ElementOffset → ℕ → List Bool → Option ℕ
 getOf none o m l = none
-getOf (some w) o m l = getBits (dataAt w o) m l
+getOf (some w) o m l = some (getBits (dataAt w o) m l)
 
 abbrev pub putOf : Option Width → ElementOffset → ℕ → ℕ → List Bool → Option (List Bool)
 putOf none o v m l = none
@@ -59,7 +59,7 @@ abbrev pub or : Option ℕ → ℕ → ℕ
 or none x = x
 or (some v) x = v
 
--- what a get answers and leaves in its value
+-- what a get of a number answers and leaves in its value
 pub record Gave (found : Option ℕ) (old new : ℕ) (r : Bool) : Type 0 where
   pub answer : r ≡ isSome found
   pub value : new ≡ or found old
@@ -68,9 +68,3 @@ pub record Gave (found : Option ℕ) (old new : ℕ) (r : Bool) : Type 0 where
 pub record SetLeft (stored : Option (List Bool)) (old new : List Bool) (r : Bool) : Type 0 where
   pub answer : r ≡ isSome stored
   pub left : new ≡ leaves stored old
-
--- the answer of a test as a number
-abbrev pub testNumber : Option Bool → ℕ
-testNumber none = 2
-testNumber (some true) = 1
-testNumber (some false) = 0

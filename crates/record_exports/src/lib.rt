@@ -2,18 +2,16 @@
 // what each function answers and leaves. A slice passes as pointer then length.
 use record::BitOffset;
 use record::ElementOffset;
-use record::Get;
 use record::PointerOffset;
 use record::Set;
-use record::Test;
 use record::Width;
 ghost use mathlib.Core.Path.{_≡_};
 ghost use lib.ListN.{set};
 ghost use Rattle.record.specs.Bits.{bit, sectionBits, flags};
 ghost use Rattle.record.specs.Record.{tagIs, nullFlag, clearFlag};
-ghost use Rattle.record.specs.Answers.{setMeans, testValue};
+ghost use Rattle.record.specs.Answers.{setMeans};
 ghost use Rattle.record_exports.specs.Boundary.{getsBool, putBool, elements, pointerAt, asWidth, measured, getOf, putOf};
-ghost use Rattle.record_exports.specs.Boundary.{Gave, SetLeft, testNumber};
+ghost use Rattle.record_exports.specs.Boundary.{Gave, SetLeft};
 
 // The width that a number of bytes is, if it is one.
 enum Measure {
@@ -44,47 +42,19 @@ fn done(s: Set) -> bool
     }
 }
 
-// What a test found, as a number.
-fn number(t: Test) -> u8
-    ensures { λ r. ⌜ r ≡ testNumber (testValue t) ⌝ }
-{
-    match t {
-        Test::True => 1,
-        Test::False => 0,
-        Test::None => 2,
-    }
-}
-
 // Bools: got and set with a mask and without.
 #[no_mangle]
-pub extern "C" fn kitlubas_get_bool_mask(
-    section: &[u8],
-    offset: u32,
-    mask: bool,
-    value: &mut u64,
-) -> bool
-    ensures { λ r. ⌜ Gave (getsBool offset (bit mask) (now (section .entry))) (now (value .entry)) (now (value .exit)) r ⌝ }
+pub extern "C" fn kitlubas_get_bool_mask(section: &[u8], offset: u32, mask: bool) -> bool
+    ensures { λ r. ⌜ bit r ≡ getsBool offset (bit mask) (now (section .entry)) ⌝ }
 {
-    match record::get_bool_field_mask(section, BitOffset(offset), mask) {
-        Get::Value(v) => {
-            *value = v;
-            true
-        }
-        Get::None => false,
-    }
+    record::get_bool_field_mask(section, BitOffset(offset), mask)
 }
 
 #[no_mangle]
-pub extern "C" fn kitlubas_get_bool(section: &[u8], offset: u32, value: &mut u64) -> bool
-    ensures { λ r. ⌜ Gave (getsBool offset 0 (now (section .entry))) (now (value .entry)) (now (value .exit)) r ⌝ }
+pub extern "C" fn kitlubas_get_bool(section: &[u8], offset: u32) -> bool
+    ensures { λ r. ⌜ bit r ≡ getsBool offset 0 (now (section .entry)) ⌝ }
 {
-    match record::get_bool_field(section, BitOffset(offset)) {
-        Get::Value(v) => {
-            *value = v;
-            true
-        }
-        Get::None => false,
-    }
+    record::get_bool_field(section, BitOffset(offset))
 }
 
 #[no_mangle]
@@ -123,13 +93,8 @@ pub extern "C" fn kitlubas_get_data_mask(
     let Measure::Is(w) = width_of(width) else {
         return false;
     };
-    match record::get_data_field_mask(section, w, ElementOffset(offset), mask) {
-        Get::Value(v) => {
-            *value = v;
-            true
-        }
-        Get::None => false,
-    }
+    *value = record::get_data_field_mask(section, w, ElementOffset(offset), mask);
+    true
 }
 
 #[no_mangle]
@@ -145,13 +110,8 @@ pub extern "C" fn kitlubas_get_data(
     let Measure::Is(w) = width_of(width) else {
         return false;
     };
-    match record::get_data_field(section, w, ElementOffset(offset)) {
-        Get::Value(v) => {
-            *value = v;
-            true
-        }
-        Get::None => false,
-    }
+    *value = record::get_data_field(section, w, ElementOffset(offset));
+    true
 }
 
 #[no_mangle]
@@ -184,18 +144,18 @@ pub extern "C" fn kitlubas_set_data(section: &mut [u8], width: u32, offset: u32,
 
 // Whether a union has the member with this number.
 #[no_mangle]
-pub extern "C" fn kitlubas_tag_is(section: &[u8], offset: u32, member: u16) -> u8
-    ensures { λ r. ⌜ r ≡ testNumber (tagIs (elements offset) member (sectionBits (now (section .entry)))) ⌝ }
+pub extern "C" fn kitlubas_tag_is(section: &[u8], offset: u32, member: u16) -> bool
+    ensures { λ r. ⌜ r ≡ tagIs (elements offset) member (sectionBits (now (section .entry))) ⌝ }
 {
-    number(record::tag_is(section, ElementOffset(offset), member))
+    record::tag_is(section, ElementOffset(offset), member)
 }
 
 // Whether a pointer is null.
 #[no_mangle]
-pub extern "C" fn kitlubas_is_pointer_null(pointers: &[u8], offset: u32) -> u8
-    ensures { λ r. ⌜ r ≡ testNumber (nullFlag (pointerAt offset) (flags (now (pointers .entry)))) ⌝ }
+pub extern "C" fn kitlubas_is_pointer_null(pointers: &[u8], offset: u32) -> bool
+    ensures { λ r. ⌜ r ≡ nullFlag (pointerAt offset) (flags (now (pointers .entry))) ⌝ }
 {
-    number(record::is_pointer_field_null(pointers, PointerOffset(offset)))
+    record::is_pointer_field_null(pointers, PointerOffset(offset))
 }
 
 // Makes a pointer null.

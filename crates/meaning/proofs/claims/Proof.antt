@@ -1,4 +1,5 @@
 -- `meaning::claims` meets its contract: each claim is a law. Assumes nothing.
+use Rattle.record.proofs.RecordLaws.{get-past, null-past}
 use Rattle.meaning.proofs.HaserLaws.{haser-holds}
 use Rattle.meaning.proofs.MaskLaws.{expected-holds}
 use Rattle.meaning.proofs.SetLaws.{get-holds, set-holds, setter-means, setter-leaves, void-holds, set-get-holds}
@@ -10,6 +11,7 @@ use Rattle.meaning.proofs.claims.Tie as tie
 returns : tie.Need-returns
 returns c = (
   get-holds,
+  get-past,
   set-holds,
   setter-means,
   setter-leaves,
@@ -18,6 +20,7 @@ returns c = (
   expected-holds,
   void-set-holds,
   haser-holds,
+  null-past,
   zeroing-holds,
 )
 

@@ -1,10 +1,11 @@
 -- `record::get_bool_field_mask` meets its contract, by the laws of a Bool's get. Assumes nothing.
+use mathlib.Core.Path.{_∙_, sym}
 use borrow.Author.Needs.{needs}
-use native.Mathlib.Nat.{mod-lt, zero-lt-suc}
+use native.Mathlib.Nat.{mod-lt, mod-eq-of-lt, zero-lt-suc}
 use native.Mathlib.Omega.{arith}
 use denote.Ref.{now}
 use Rattle.record.specs.Offsets.{boolAt}
-use Rattle.record.proofs.OperationLaws.{bit-below, get-bool, get-past}
+use Rattle.record.proofs.OperationLaws.{bit-below, get-bit, get-past}
 use Rattle.record.proofs.get_bool_field_mask.Statement.{statement}
 use Rattle.record.proofs.get_bool_field_mask.Tie as tie
 
@@ -16,13 +17,15 @@ returns : tie.Need-returns
 returns c =
     let c1 = c .before .before .before in
     let e = c1 .before .bit-address .ensures in
-    rw (c .flag .ensures, c .before .bit-of .ensures, e, get-bool _ _ (rw e at (c1 .if1 .taken)) _ (bit-below _))
+    let a = c1 .before .before .before .args in
+    rw (c .flag .ensures, c .before .bit-of .ensures, e) (get-bit (now (a .section)) (a .o) (rw e at (c1 .if1 .taken)) (a .mask))
 
 returns-2 : tie.Need-returns-2
 returns-2 c =
     let e = c .before .bit-address .ensures in
     let h = rw e at (c .if1 .left) in
-    rw (get-past (boolAt (c .before .before .before .args .o)) (now (c .before .before .before .args .section)) (omega arith))
+    let a = c .before .before .before .args in
+    sym (get-past (boolAt (a .o)) (now (a .section)) (omega arith) _ ∙ mod-eq-of-lt (bit-below (a .mask)))
 
 pub get-bool-field-mask-spec : {M : Type 1} → statement M
 get-bool-field-mask-spec =

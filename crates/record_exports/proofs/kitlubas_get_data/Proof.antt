@@ -3,7 +3,7 @@ use borrow.Author.Needs.{needs}
 use denote.Ref.{now}
 use Rattle.record.specs.Bits.{sectionBits}
 use Rattle.record_exports.specs.Boundary.{elements}
-use Rattle.record_exports.proofs.Laws.{gave-value, gave-none, of-width, of-none, gave-nothing}
+use Rattle.record_exports.proofs.Laws.{gave-value, of-width, of-none, gave-nothing}
 use Rattle.record_exports.proofs.kitlubas_get_data.Statement.{statement}
 use Rattle.record_exports.proofs.kitlubas_get_data.Tie as tie
 
@@ -16,34 +16,14 @@ returns c =
 
 returns-2 : tie.Need-returns-2
 returns-2 c =
-    let g = c .before .before .before in
-    let w = g .before .before in
+    let w = c .before .before in
     let b = w .before .before in
     let a = b .before .before .args in
     let l = sectionBits (now (a .section)) in
     rw (of-width (a .width) (w .w .given .0 .0) (elements (a .offset)) 0 l (b .width-of .ensures) (w .w .given .1))
-    (gave-value (c .before .v .given .1) (g .get-data-field .ensures))
-
-returns-3 : tie.Need-returns-3
-returns-3 c =
-    let g = c .before .before in
-    let w = g .before .before in
-    let b = w .before .before in
-    let a = b .before .before .args in
-    let l = sectionBits (now (a .section)) in
-    rw (of-width (a .width) (w .w .given .0 .0) (elements (a .offset)) 0 l (b .width-of .ensures) (w .w .given .1))
-    (gave-none (c .enum-told2 .given .1) (g .get-data-field .ensures))
+    (gave-value (c .get-data-field .ensures))
 
 pub kitlubas-get-data-spec : {M : Type 1} → statement M
 kitlubas-get-data-spec =
     tie.close
-    (tie.spec
-    (λ c κs. search needs)
-    (λ c. search needs)
-    (λ c. search needs)
-    returns
-    (λ c κs. search needs)
-    (λ c. search needs)
-    (λ c. search needs)
-    returns-2
-    returns-3)
+    (tie.spec (λ c κs. search needs) (λ c. search needs) (λ c. search needs) returns (λ c κs. search needs) returns-2)
