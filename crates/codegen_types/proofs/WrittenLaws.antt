@@ -42,9 +42,9 @@ pub written : {l : List ℕ} {t t₁ : Text} {w : Str} {l′ : List ℕ} {r : Wr
 written {l} {t} {t₁} {w} {l′} h e n = whole (subst (λ (x : Text). Wrote l t w l′ x) (sym e) h) n
 
 -- a refusal
-pub no-text : {l : List ℕ} {t : Text} {k : ℕ} {l′ : List ℕ} {r : Written} → refusalNumber (r .refusal) ≡ some k
+pub refused-text : {l : List ℕ} {t : Text} {k : ℕ} {l′ : List ℕ} {r : Written} → refusalNumber (r .refusal) ≡ some k
     → Writes (refused k) l t l′ r
-no-text n = record { refusal = n; text = λ w e. absurd (not-ok e) }
+refused-text n = record { refusal = n; text = λ w e. absurd (not-ok e) }
 
 -- the text of what is not refused
 pub text-of : {l : List ℕ} {t : Text} {w : Str} {l′ : List ℕ} {r : Written} → Writes (ok w) l t l′ r → Wrote l t w l′ (r .text)
@@ -56,19 +56,19 @@ pub around : {a b : Str} {l l₁ l₂ l₃ : List ℕ} {t t₁ t₃ : Text} {r q
     → Writes (o then λ w. ok (a ++ w ++ b)) l t l₃ q
 around {a} {b} {l} {l₁} {l₂} {l₃} {t} {t₁} {t₃} {r} {q} (ok w) e h f i n =
     whole (subst (λ (x : Text). Wrote l t (a ++ w ++ b) l₃ x) (sym i) (e ⨾ text-of h ⨾ f)) (n ∙ h .refusal)
-around (refused k) e h f i n = no-text (n ∙ h .refusal)
+around (refused k) e h f i n = refused-text (n ∙ h .refusal)
 
 pub in-front : {a : Str} {l l₁ l₂ : List ℕ} {t t₁ : Text} {r : Written} (o : Out Str) → Wrote l t a l₁ t₁
     → Writes o l₁ t₁ l₂ r → Writes (o then λ w. ok (a ++ w)) l t l₂ r
 in-front (ok w) e h = whole (e ⨾ text-of h) (h .refusal)
-in-front (refused k) e h = no-text (h .refusal)
+in-front (refused k) e h = refused-text (h .refusal)
 
 pub behind : {b : Str} {l l₁ l₂ : List ℕ} {t t₂ : Text} {r q : Written} (o : Out Str) → Writes o l t l₁ r
     → Wrote l₁ (r .text) b l₂ t₂ → q .text ≡ t₂ → refusalNumber (q .refusal) ≡ refusalNumber (r .refusal)
     → Writes (o then λ w. ok (w ++ b)) l t l₂ q
 behind {b} {l} {l₁} {l₂} {t} {t₂} {r} {q} (ok w) h f i n =
     whole (subst (λ (x : Text). Wrote l t (w ++ b) l₂ x) (sym i) (text-of h ⨾ f)) (n ∙ h .refusal)
-behind (refused k) h f i n = no-text (n ∙ h .refusal)
+behind (refused k) h f i n = refused-text (n ∙ h .refusal)
 
 -- a text after another, either of which may be refused: the first refusal counts
 pub both : {l l₁ l₂ : List ℕ} {t : Text} {r₁ r₂ q : Written} (o₁ o₂ : Out Str) → Writes o₁ l t l₁ r₁
@@ -79,5 +79,6 @@ both {l} {l₁} {l₂} {t} {r₁} {r₂} {q} (ok a) (ok b) h g i n =
     whole (subst (λ (x : Text). Wrote l t (a ++ b) l₂ x) (sym i) (text-of h ⨾ text-of g))
     (n ∙ ap (λ (x : Option ℕ). firstOf x (refusalNumber (r₂ .refusal))) (h .refusal) ∙ g .refusal)
 both {r₂ = r₂} (ok a) (refused k) h g i n =
-    no-text (n ∙ ap (λ (x : Option ℕ). firstOf x (refusalNumber (r₂ .refusal))) (h .refusal) ∙ g .refusal)
-both {r₂ = r₂} (refused k) o₂ h g i n = no-text (n ∙ ap (λ (x : Option ℕ). firstOf x (refusalNumber (r₂ .refusal))) (h .refusal))
+    refused-text (n ∙ ap (λ (x : Option ℕ). firstOf x (refusalNumber (r₂ .refusal))) (h .refusal) ∙ g .refusal)
+both {r₂ = r₂} (refused k) o₂ h g i n =
+    refused-text (n ∙ ap (λ (x : Option ℕ). firstOf x (refusalNumber (r₂ .refusal))) (h .refusal))

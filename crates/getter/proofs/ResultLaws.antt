@@ -27,7 +27,7 @@ use Rattle.codegen_types.specs.declared.Leaf.{Leaf}
 use Rattle.codegen_types.specs.declared.Leaf.the-variants.{Client}
 use Rattle.codegen_types.specs.declared.Written.{Written}
 use Rattle.codegen_types.proofs.Laws.{refusal-then}
-use Rattle.codegen_types.proofs.WrittenLaws.{whole, no-text, text-of, around}
+use Rattle.codegen_types.proofs.WrittenLaws.{whole, refused-text, text-of, around}
 use Rattle.types.proofs.Laws.{on-one, on-has}
 use Rattle.field.specs.Slot.{HasId, SlotIs, SlotField, SlotHere}
 use Rattle.field.specs.declared.Slot.{Slot}
@@ -61,7 +61,7 @@ after-alike (refused k) p e = sym (refused-is p k (sym e))
 front : {a : Str} {l l₁ l₂ : List ℕ} {t t₁ : Text} {r : Written} (f : Str → Str) (o : Out Str) → Wrote l t a l₁ t₁
     → Writes (o then λ w. ok (f w)) l₁ t₁ l₂ r → Writes (o then λ w. ok (a ++ f w)) l t l₂ r
 front f (ok w) x y = whole (x ⨾ text-of y) (y .refusal)
-front f (refused k) x y = no-text (y .refusal)
+front f (refused k) x y = refused-text (y .refusal)
 
 between : {a b : Str} {l l₁ l₂ l₃ : List ℕ} {t t₁ t₃ : Text} {r q : Written} (f : Str → Str) (o : Out Str) → Wrote l t a l₁ t₁
     → Writes (o then λ w. ok (f w)) l₁ t₁ l₂ r → Wrote l₂ (r .text) b l₃ t₃ → q .text ≡ t₃
@@ -94,7 +94,7 @@ pub enum-told : {l l₁ l₂ l₃ l₄ l₅ : List ℕ} {t t₁ t₃ t₄ : Text
     → Wrote l₃ t₃ root l₄ t₄ → Wrote l₄ t₄ (ascii "::NotInSchema>") l₅ (q .text)
     → refusalNumber (q .refusal) ≡ refusalNumber (r .refusal) → Writes (o then λ typ. ok (enumResult root typ)) l t l₅ q
 enum-told q (ok w) a x b c d n = whole (a ⨾ text-of x ⨾ b ⨾ c ⨾ d) (n ∙ x .refusal)
-enum-told q (refused k) a x b c d n = no-text (n ∙ x .refusal)
+enum-told q (refused k) a x b c d n = refused-text (n ∙ x .refusal)
 
 -- ---- functions
 

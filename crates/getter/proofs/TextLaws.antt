@@ -25,7 +25,7 @@ use Rattle.codegen_types.specs.Primitive.{primitiveText}
 use Rattle.codegen_types.specs.Written.{refusalNumber, Writes, firstOf}
 use Rattle.codegen_types.specs.declared.Leaf.{Leaf}
 use Rattle.codegen_types.specs.declared.Written.{Written}
-use Rattle.codegen_types.proofs.WrittenLaws.{whole, no-text, text-of}
+use Rattle.codegen_types.proofs.WrittenLaws.{whole, refused-text, text-of}
 use Rattle.field.specs.Slot.{SlotIs, SlotField, SlotHere}
 use Rattle.field.specs.declared.Slot.{Slot}
 use Rattle.codegen.specs.WordArray.{wordArrayDeclaration}
@@ -109,7 +109,7 @@ module _ (sheet : Sheet) (name : Str) (s : tree.Slot) (isReader isFn : Bool) (r 
   unfolding getterRequest getterText
   by-type k e =
       let y : Writes (refused k) l t l₁ p = rw e at x in
-      rw e (no-text (first ∙ ap (λ (z : Option ℕ). firstOf z (firstOf of-option of-default)) (y .refusal)))
+      rw e (refused-text (first ∙ ap (λ (z : Option ℕ). firstOf z (firstOf of-option of-default)) (y .refusal)))
 
   -- the type has a text, and so has the result type
   module _ (w result : Str) (typ : typeString (s .ty) sheet leaf ≡ ok w)
@@ -122,7 +122,7 @@ module _ (sheet : Sheet) (name : Str) (s : tree.Slot) (isReader isFn : Bool) (r 
     unfolding getterRequest getterText
     by-option k e =
         let n : of-option ≡ some k = option-told ∙ ap refusalOf e in
-        rw (typ, e) (no-text (first ∙ rw (given .refusal, n) refl))
+        rw (typ, e) (refused-text (first ∙ rw (given .refusal, n) refl))
 
     -- or not
     module _ (b : Bool) (e : isOptionField s ≡ ok b) where
@@ -138,7 +138,7 @@ module _ (sheet : Sheet) (name : Str) (s : tree.Slot) (isReader isFn : Bool) (r 
       unfolding getterRequest getterText
       by-default n =
           let d : of-default ≡ some 10 = default-told w ∙ rw n refl in
-          rw (typ, e, result-is, n) (no-text (own ∙ d))
+          rw (typ, e, result-is, n) (refused-text (own ∙ d))
 
       by-none : eqb (kind (s .ty)) (s .default .kind) ≡ true → Told
       unfolding getterRequest getterText

@@ -161,4 +161,4 @@ zeroes sheet id {l} {t} {l′} z r h i n = go (zeroFieldsOfGroup sheet 16 id) h
   where
     go : (o : Out Zeroing) → Zeroes o l t l′ z → Writes (o then λ y. ok (stringify (Branch (y .result)))) l t l′ r
     go (ok y) h = written.whole (rw i (h .text)) (rw n (h .refusal))
-    go (refused k) h = written.no-text (rw n h)
+    go (refused k) h = written.refused-text (rw n h)

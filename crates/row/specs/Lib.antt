@@ -1,4 +1,5 @@
 pub mod Rows
+pub mod Ends
 pub mod Line
 pub mod Span
 pub mod Print

@@ -1,21 +1,15 @@
 -- The rows of a sheet. A row is the bytes up to and with the next byte 10; a last row may lack it. Assumes nothing.
-use mathlib.Core.Path.{_≡_}
-use mathlib.Core.Bool.{Bool, true, false}
+use mathlib.Core.Bool.{true, false}
 use mathlib.Core.List.{List, [], _∷_, _++_}
 use Prim.Native.Nat.{ℕ, zero, suc, _+_, _-_}
 use lib.Dec.{eqb}
-use lib.ListN.{length, take, drop}
+use lib.ListN.{length, take}
 use Rattle.text.specs.Bytes.{Str, unit}
 
 -- how long the first row is
 unfoldable pub rowLen : Str → ℕ
 rowLen [] = 0
 rowLen (b ∷ s) = elim (eqb b 10) [ true ↦ 1 | false ↦ suc (rowLen s) ]
-
--- where r says so, the first row of what stands from i on has eight bytes more than that of what stands eight further on
-abbrev pub Passes : Str → ℕ → Bool → Type 0
-Passes s i true = rowLen (drop i s) ≡ 8 + rowLen (drop (i + 8) s)
-Passes s i false = Unit {0}
 
 -- one more byte in front of the first row
 unfoldable pub onto : ℕ → List Str → List Str

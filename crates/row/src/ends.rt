@@ -2,7 +2,8 @@
 ghost use mathlib.Core.Path.{_≡_};
 ghost use Prim.Native.Nat.{_+_, _≤_};
 ghost use lib.ListN.{drop, length};
-ghost use Rattle.row.specs.Rows.{rowLen, Passes};
+ghost use Rattle.row.specs.Rows.{rowLen};
+ghost use Rattle.row.specs.Ends.{Passes};
 
 // Whether none of the eight bytes from `i` on is byte 10.
 fn goes_on(s: &[u8], i: usize) -> bool

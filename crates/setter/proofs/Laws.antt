@@ -175,9 +175,9 @@ module _ (root : Str) (tag : ℕ) (name : Str) (d : ℕ) where
       → Writes (made (o then λ typ. m then λ x. ok (setterOnly (ascii "value") (oneLine (line x)) typ))) l t l₃ q
   masked-writes {w = w} line (ok typ) (ok x) a h b i n = only-writes (line x) (ok typ) a h b i (n ∙ first-none (numberOf w))
   masked-writes line (ok typ) (refused k) a h b i n =
-      written.no-text (n ∙ ap (λ (z : Option ℕ). firstOf z (some k)) (h .refusal))
+      written.refused-text (n ∙ ap (λ (z : Option ℕ). firstOf z (some k)) (h .refusal))
   masked-writes line (refused k) m a h b i n =
-      written.no-text (n ∙ ap (λ (z : Option ℕ). firstOf z (refusalOf m)) (h .refusal))
+      written.refused-text (n ∙ ap (λ (z : Option ℕ). firstOf z (refusalOf m)) (h .refusal))
 
   -- a setter that is not refused, and one whose mask may be
   pub whole-writes : {l l′ : List ℕ} {t t′ : Text} {q : Written} (p : Parts)
@@ -191,7 +191,7 @@ module _ (root : Str) (tag : ℕ) (name : Str) (d : ℕ) where
       → q .text ≡ t′ → numberOf q ≡ refusalOf m
       → Writes (made (m then λ mask. ok (parts mask))) l t l′ q
   default-writes (ok mask) parts w i n = whole-writes (parts mask) w (i, n)
-  default-writes (refused k) parts w i n = written.no-text n
+  default-writes (refused k) parts w i n = written.refused-text n
 
 -- ---- prim_default is refused but for kinds 1 to 11
 

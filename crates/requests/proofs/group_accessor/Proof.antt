@@ -15,7 +15,7 @@ returns c =
     let start = at-enum-told .before .before .before .before .before in (
       λ root tag nodes x at e h.
           rw (at-enum-told .enum-told .given .1) (group-no-type (start .args .s .now) (at .1) _ (start .args .group) _ h
-          (written.no-text (c .refused .ensures .1))),
+          (written.refused-text (c .refused .ensures .1))),
       rw (c .refused .ensures .0) no-text,
     )
 
@@ -26,7 +26,7 @@ returns-2 c =
     let start = at-enum-told2 .before .before .before .before .before in (
       λ root tag nodes x at e h.
           rw (at-enum-told2 .enum-told2 .given .1) (group-no-accessor (start .args .s .now) (at .1) (start .args .group) _ h
-          (written.no-text (c .refused2 .ensures .1))),
+          (written.refused-text (c .refused2 .ensures .1))),
       rw (c .refused2 .ensures .0) no-text,
     )
 
@@ -37,7 +37,7 @@ returns-3 c =
     let start = at-enum-told3 .before .before .before .before .before in (
       λ root tag nodes x at e h.
           rw (at-enum-told3 .enum-told3 .given .1) (group-no-accessor (start .args .s .now) (at .1) (start .args .group) _ h
-          (written.no-text (c .refused3 .ensures .1))),
+          (written.refused-text (c .refused3 .ensures .1))),
       rw (c .refused3 .ensures .0) no-text,
     )
 
@@ -48,7 +48,7 @@ returns-4 c =
     let start = at-enum-told4 .before .before .before .before .before in (
       λ root tag nodes x at e h.
           rw (at-enum-told4 .enum-told4 .given .1) (group-no-accessor (start .args .s .now) (at .1) (start .args .group) _ h
-          (written.no-text (c .refused4 .ensures .1))),
+          (written.refused-text (c .refused4 .ensures .1))),
       rw (c .refused4 .ensures .0) no-text,
     )
 

@@ -54,7 +54,7 @@ returns-5 c =
     let start = at-enum-told2 .before .before .before .before .before .before in (
       λ nodes x at e h.
           rw (at-enum-told2 .enum-told2 .given .1) (slot-no-zeroing (start .args .s .now) (at .1) (start .args .slot) _ h
-          (written.no-text (c .refused .ensures .1))),
+          (written.refused-text (c .refused .ensures .1))),
       rw (c .refused .ensures .0) no-text,
     )
 

@@ -33,7 +33,7 @@ returns-2 c =
       λ tag nodes x at e h.
           slot-no-leaf (start .args .s .now) (at .1) _ _ _ h
           (leaf-none _ (ap leafSaid (sym (at-enum-told .enum-told .given .1)) ∙ at-leaf-of .leaf-of .ensures))
-          (written.no-text (c .refused .ensures .1)),
+          (written.refused-text (c .refused .ensures .1)),
       rw (c .refused .ensures .0) no-text,
     )
 

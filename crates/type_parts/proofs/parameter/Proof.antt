@@ -2,7 +2,7 @@
 -- parameter's name from its P row; where it is refused nothing is written. Assumes nothing.
 use Rattle.text.specs.Bytes.{Str}
 use Rattle.text.proofs.Laws as text-law
-use Rattle.codegen_types.proofs.WrittenLaws.{no-text}
+use Rattle.codegen_types.proofs.WrittenLaws.{refused-text}
 use Rattle.codegen_types.specs.Written.{Writes}
 use Rattle.codegen_types.specs.Out.{Out}
 use Rattle.nodes.specs.Index.{sheetOf}
@@ -21,7 +21,7 @@ returns c =
       λ ns x. parameter-none (at-args .args .s .now) (sheetOf (at-args .args .root .now) ns) (at-args .args .index .now) _ _
           (at-find .find .ensures) x (λ (o : Out Str). Writes o (at-args .args .buf .now) (at-args .args .t)
           (at-args .args .buf .now) (c .refused .result)) (at-args .args .leaf) (at-args .args .k)
-          (at-enum-told .enum-told .given .1) (no-text (c .refused .ensures .1)),
+          (at-enum-told .enum-told .given .1) (refused-text (c .refused .ensures .1)),
       rw (c .refused .ensures .0) text-law.no-text,
     )
 
@@ -34,7 +34,7 @@ returns-2 c =
           (at-find .find .ensures) x (λ (o : Out Str). Writes o (at-args .args .buf .now) (at-args .args .t)
           (at-args .args .buf .now) (c .refused2 .result)) (at-args .args .leaf) (at-args .args .k)
           (at-node .node .given .0 .0) (at-node .node .given .1) _ (at-parameter .parameter .ensures .0)
-          (at-enum-told2 .enum-told2 .given .1) (no-text (c .refused2 .ensures .1)),
+          (at-enum-told2 .enum-told2 .given .1) (refused-text (c .refused2 .ensures .1)),
       rw (c .refused2 .ensures .0) text-law.no-text,
     )
 

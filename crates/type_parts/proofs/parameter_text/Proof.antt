@@ -5,7 +5,7 @@ use mathlib.Core.List.{_++_}
 use Rattle.text.specs.Bytes.{ascii}
 use Rattle.text.proofs.Laws as text-law
 use Rattle.text.proofs.Laws.{some-text}
-use Rattle.codegen_types.proofs.WrittenLaws.{written, no-text, text-of}
+use Rattle.codegen_types.proofs.WrittenLaws.{written, refused-text, text-of}
 use Rattle.codegen_types.specs.TypeString.{parameterString}
 use borrow.Author.Needs.{needs}
 use Rattle.type_parts.proofs.parameter_text.Statement.{statement}
@@ -77,7 +77,7 @@ returns-6 c =
 returns-7 : tie.Need-returns-7
 returns-7 c =
     let at-match = c .before in let at-args = at-match .before .before .before .before in (
-      rw (law.refused-leaf _ _ (at-args .args .leaf) (at-match .match .keys5)) (no-text (c .refused .ensures .1)),
+      rw (law.refused-leaf _ _ (at-args .args .leaf) (at-match .match .keys5)) (refused-text (c .refused .ensures .1)),
       rw (c .refused .ensures .0) text-law.no-text,
     )
 

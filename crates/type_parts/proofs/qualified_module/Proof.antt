@@ -3,7 +3,7 @@
 use Rattle.text.specs.Bytes.{Str}
 use Rattle.text.proofs.Laws as text-law
 use Rattle.text.proofs.Laws.{some-text}
-use Rattle.codegen_types.proofs.WrittenLaws.{written, no-text}
+use Rattle.codegen_types.proofs.WrittenLaws.{written, refused-text}
 use Rattle.codegen_types.specs.Written.{Writes}
 use Rattle.codegen_types.specs.Out.{Out}
 use Rattle.nodes.specs.Index.{sheetOf}
@@ -21,7 +21,7 @@ returns c =
     let at-args = at-find .before .before .before .before in (
       λ root ns x. module-none (at-args .args .s .now) (sheetOf root ns) (at-args .args .index .now) _ _ (at-find .find .ensures)
           x (λ (o : Out Str). Writes o (at-args .args .buf .now) (at-args .args .t) (at-args .args .buf .now)
-          (c .refused .result)) (at-enum-told .enum-told .given .1) (no-text (c .refused .ensures .1)),
+          (c .refused .result)) (at-enum-told .enum-told .given .1) (refused-text (c .refused .ensures .1)),
       rw (c .refused .ensures .0) text-law.no-text,
     )
 

@@ -29,7 +29,7 @@ use Rattle.codegen_types.specs.Out.{Out}
 use Rattle.codegen_types.specs.TypeString.{typeString, bindingsOf, allOf}
 use Rattle.codegen_types.specs.Written.{Writes}
 use Rattle.codegen_types.specs.declared.Leaf.the-variants.{Owned}
-use Rattle.codegen_types.proofs.WrittenLaws.{written, no-text}
+use Rattle.codegen_types.proofs.WrittenLaws.{written, refused-text}
 use Rattle.types.proofs.TypeLaws as read-law
 use Rattle.type_parts.specs.Parts.{Lists}
 use Rattle.type_parts.specs.declared.Argued.{Argued}
@@ -267,7 +267,7 @@ write-list-returns-4 t c =
       λ ns x. read-law.type-row (at-args .args .s .now) _ _ _ _ (at-type-row .type-row .ensures) (at-if1 .if1 .left)
           (read-law.list-of-any (sheetOf (at-args .args .root .now) ns) (at-args .args .leaf) _ _ _ _ _ _
           (λ (o : Out Str). Writes o (at-args .args .buf .now) (at-args .args .t) (at-args .args .buf .now) (c .refused .result))
-          (at-if4 .if4 .taken) (no-text (c .refused .ensures .1))),
+          (at-if4 .if4 .taken) (refused-text (c .refused .ensures .1))),
       rw (c .refused .ensures .0) text-law.no-text,
     )
 
