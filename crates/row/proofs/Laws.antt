@@ -12,7 +12,8 @@ use lib.Seq.{drop-cons, drop-drop, take-suc, take-all, take-take, take-nil, leng
 use lib.Dec.{eqb}
 use borrow.Author.Tests.{eq-eqb, ne-eqb, eqb-false}
 use Rattle.text.specs.Bytes.{Str, cond, unit}
-use Rattle.row.specs.Rows.{rowLen, Passes, onto, rows, joined, restOf, newlines, size, lineNo}
+use Rattle.row.specs.Rows.{rowLen, onto, rows, joined, restOf, newlines, size, lineNo}
+use Rattle.row.specs.Ends.{Passes}
 use Rattle.row.specs.Line.{reader, badLine, lineOf, textStart, textOf, textAt}
 
 -- where a row goes on and where it ends
