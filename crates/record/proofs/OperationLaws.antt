@@ -14,7 +14,6 @@ use lib.ListN.{length, take, drop, getD, set, length-append}
 use lib.Pow.{high, low, pow-pos, pow-add, pow-mono, shr-lt, shl-exact}
 use lib.Seq.{drop-cons, take-at, drop-at, sets, set-split}
 use borrow.Author.Tests.{le-leb, lt-leb, leb-true, leb-false}
-use Rattle.text.specs.Bytes.{cond}
 use Rattle.record.specs.Bits.{toBits, bit, withBit, sectionBits, little, littleBytes, flags}
 use Rattle.record.specs.Bytes.{Bytes, SetBytesHolds}
 use Rattle.record.specs.Offsets.{Place, bytesOf, boolAt, dataAt, from, bitCount}
@@ -156,11 +155,11 @@ module _ (l : List ℕ) (w : Width) (o : ElementOffset) (h : o .0 * bytesOf w + 
   data-inside : from (dataAt w o) + bitCount (dataAt w o) ≤ length (sectionBits l)
   data-inside = rw (length-section l) (omega arith)
 
-  get-held : Bytes l → (m : ℕ)
+  pub get-data : Bytes l → (m : ℕ)
       → getBits (dataAt w o) m (sectionBits l)
       ≡ bitXor (little (take (bytesOf w) (drop (o .0 * bytesOf w) l))) (m % 2 ^ (bytesOf w * 8))
   unfolding getBits
-  get-held bytes m =
+  get-data bytes m =
       let s : List Bool = sectionBits l in
       let a : ℕ = from (dataAt w o) in
       let n : ℕ = bitCount (dataAt w o) in
@@ -203,32 +202,11 @@ module _ (p : Place) (l : List ℕ) (h : length l * 8 < from p + bitCount p) whe
   unfolding putBits
   put-past v m = stored-past (from p) (coded p v m) (sectionBits l) (rw (length-section l, length-xors (bitCount p) v m) h)
 
--- a number's get, wherever it lies: it reads all of its bytes or none
-pub get-data : (l : List ℕ) (w : Width) (o : ElementOffset) → Bytes l → (m : ℕ)
-    → getBits (dataAt w o) m (sectionBits l)
-    ≡ bitXor (little (take (cond (leb (o .0 * bytesOf w + bytesOf w) (length l)) (bytesOf w) 0) (drop (o .0 * bytesOf w) l)))
-    (m % 2 ^ (bytesOf w * 8))
-get-data l w o bytes m = go (leb (o .0 * bytesOf w + bytesOf w) (length l)) refl
-  where
-    go : (b : Bool) → leb (o .0 * bytesOf w + bytesOf w) (length l) ≡ b
-        → getBits (dataAt w o) m (sectionBits l)
-        ≡ bitXor (little (take (cond b (bytesOf w) 0) (drop (o .0 * bytesOf w) l))) (m % 2 ^ (bytesOf w * 8))
-    go true e = get-held l w o (leb-true _ _ e) bytes m
-    go false e = get-past (dataAt w o) l (data-past w o (length l) (leb-false _ _ e)) m
-
 pub bytes-small : (w : Width) → bytesOf w ≤ 8
 bytes-small One = omega arith
 bytes-small Two = omega arith
 bytes-small Four = omega arith
 bytes-small Eight = omega arith
-
--- the bytes that it reads lie inside, and are eight at most
-pub read-inside : (a n len : ℕ) → n ≤ 8 → (cond (leb (a + n) len) n 0 ≤ len - a) × (cond (leb (a + n) len) n 0 ≤ 8)
-read-inside a n len h = go (leb (a + n) len) refl
-  where
-    go : (b : Bool) → leb (a + n) len ≡ b → (cond b n 0 ≤ len - a) × (cond b n 0 ≤ 8)
-    go true e = (omega (arith, leb-true (a + n) len e), h)
-    go false e = (omega arith, omega arith)
 
 -- ---- what a set leaves and answers
 

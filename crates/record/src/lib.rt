@@ -2,11 +2,10 @@
 // line does to a record", gives a meaning: plain and masked gets and sets, tests of a tag, null tests and clears. Gets and tests
 // answer on sections of any length: they find zero bits where these are not wholly inside.
 ghost use mathlib.Core.Path.{_≡_};
-ghost use Prim.Native.Nat.{_+_, _-_, _*_, _/_, _%_, _^_, _≤_, _<_};
+ghost use Prim.Native.Nat.{_+_, _*_, _/_, _%_, _^_, _≤_, _<_};
 ghost use lib.Dec.{leb};
 ghost use lib.ListN.{length, take, drop};
 ghost use lib.Seq.{sets};
-ghost use Rattle.text.specs.Bytes.{cond};
 ghost use Rattle.record.specs.Bits.{bit, withBit, little, littleBytes, sectionBits, flags};
 ghost use Rattle.record.specs.Offsets.{bytesOf, bitAddress, elementAddress, pointerAddress, boolAt, dataAt};
 ghost use Rattle.record.specs.Record.{getBits, tagIs, nullFlag};
@@ -117,22 +116,9 @@ fn inside(len: usize, at: usize, n: usize) -> bool
     n <= len - at
 }
 
-// how many of n bytes from at on a get reads in a section of len bytes: all, or none where they are not wholly inside
-fn readable(len: usize, at: usize, n: usize) -> usize
-    ensures { λ r. ⌜ r ≡ cond (leb (at + n) len) n 0 ⌝ }
-{
-    if len < at {
-        return 0;
-    }
-    if len - at < n {
-        return 0;
-    }
-    n
-}
-
 // the number that n bytes from at on are, little-endian
 fn load(section: &[u8], at: usize, n: usize) -> u64
-    requires { ⌜ (n ≤ length (now section) - at) × (n ≤ 8) ⌝ }
+    requires { ⌜ (at + n ≤ length (now section)) × (n ≤ 8) ⌝ }
     ensures { λ r. ⌜ r ≡ little (take n (drop at (now (section .entry)))) ⌝ }
 {
     let mut word: u64 = 0;
@@ -227,8 +213,12 @@ pub fn get_data_field_mask(section: &[u8], width: Width, o: ElementOffset, mask:
     ensures { λ r. ⌜ r ≡ getBits (dataAt width o) mask (sectionBits (now (section .entry))) ⌝ }
 {
     let at = element_address(width, o);
-    let n = readable(section.len(), at, width.bytes());
-    load(section, at, n) ^ low_bits(width, mask)
+    let n = width.bytes();
+    if inside(section.len(), at, n) {
+        load(section, at, n) ^ low_bits(width, mask)
+    } else {
+        low_bits(width, mask)
+    }
 }
 
 // The bits there as a number.

@@ -14,7 +14,7 @@ use Rattle.record.proofs.load.Tie as tie
 
 abbrev Inv-loop : tie.InvT-loop
 Inv-loop section at n word₀ i₀ word i =
-    (i ≤ n) × (n ≤ length section - at) × (n ≤ 8) × (word ≡ little (take (n - i) (drop (at + i) section)))
+    (i ≤ n) × (at + n ≤ length section) × (n ≤ 8) × (word ≡ little (take (n - i) (drop (at + i) section)))
 
 abbrev μ-loop : tie.MeasureT-loop
 μ-loop section at n word₀ i₀ word i = i
