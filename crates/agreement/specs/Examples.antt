@@ -23,7 +23,7 @@ use Rattle.row.specs.Line.{typeLine, scopeLine, unboundLine, valueLine, wordLin
 use Rattle.row.specs.Line.{mostA, mostB, mostC, mostCount, mostBits, reader, lineOf, lineAt, textStart, textOf, textAt}
 use Rattle.row.specs.Print.{columns, rowText}
 use Rattle.names.specs.Names.{isAscii, taken, snakeFrom, camelToSnakeCase}
-use Rattle.tree.specs.Tree.{plain, enum, end, kind, Slot, slot, Field, Node, Sheet}
+use Rattle.tree.specs.Tree.{plain, enum, end, Slot, slot, Field, Node, Sheet}
 use Rattle.tree.specs.Reader.{times}
 use Rattle.tree.specs.Read as read
 use Rattle.tree.specs.Read.{sheet, admitted}
@@ -42,11 +42,11 @@ use Rattle.codegen.specs.Haser.{generateHaser, haserRequest}
 use Rattle.codegen.specs.Setter.{generateSetter, setterRequest}
 use Rattle.nodes.specs.Index.{byId, nth}
 use Rattle.record.specs.Bits.{sectionBits}
-use Rattle.record.specs.Record.{Record, found, stored, getBits, putBits, nullFlag, get, Holds}
+use Rattle.record.specs.Record.{Record, found, stored, getBits, putBits, nullFlag, get, Holds, HoldsPointer}
 use Rattle.record.specs.Types as kinds
 use Rattle.record.specs.Types.{uint, float32, Kind, bool, num, kindOf, slotBits}
 use Rattle.record.specs.declared.Width.the-variants.{One}
-use Rattle.meaning.specs.Claims.{TagHolds, TagClear, setterLeaves}
+use Rattle.meaning.specs.Claims.{TagHolds, TagClear, setterLeaves, voidLeaves}
 use Rattle.meaning.specs.Examples.{some16}
 use Rattle.meaning.specs.Reading.{bindO, typeName, truth, getMaskOf, setMaskOf, dataArg, boolArg}
 use Rattle.meaning.specs.Meaning.{writes, gets, getsIn, tests, runOp, runLine, runLines, runSetter, runGetter, testsOf, runTests}
@@ -349,13 +349,19 @@ statusAt = slotAt 1 (namedField "status" 65535 (slot status)) status refl refl
 abbrev threeBytes : Record
 threeBytes = record { bits = sectionBits (replicate 3 165); pointers = [] }
 
--- Its two bytes are read under its default 2. Where the section holds one of them alone, that byte does not count and the default
--- is read.
+-- neither bits nor pointers
+abbrev nothing : Record
+nothing = record { bits = []; pointers = [] }
+
+-- Its two bytes are read under its default 2, reserved. Where the section holds one of them alone, that byte does not count and
+-- the default is read, as on a record with nothing in it.
 pub status-read :
-    (runGetter statusGetter some16 ≡ some 42407) × (Holds (placeAt statusAt kinds.enum) threeBytes → ⊥)
-    × (runGetter statusGetter threeBytes ≡ some 2) × (get (placeAt statusAt kinds.enum) 2 threeBytes ≡ 2)
+    (runGetter statusGetter some16 ≡ some 42407)
+    × (Holds (placeAt statusAt kinds.enum) threeBytes → ⊥) × (runGetter statusGetter threeBytes ≡ some 2)
+    × (get (placeAt statusAt kinds.enum) 2 threeBytes ≡ 2)
+    × (Holds (placeAt statusAt kinds.enum) nothing → ⊥) × (runGetter statusGetter nothing ≡ some 2)
 unfolding statusAt found getBits typeName truth getMaskOf gets getsIn runGetter
-status-read = (refl, (λ h. omega arith), refl, refl)
+status-read = (refl, (λ h. omega arith), refl, refl, (λ h. omega arith), refl)
 
 -- nights, a member of the union, at its place
 pub nightsAt : SlotAt bytes 7 4
@@ -413,14 +419,25 @@ odd-worked = (ap (λ x. outcomeOf x 7 (ofField 7 (Getter true false))) is-admitt
 abbrev vacantSetter : Str
 vacantSetter = setterWith "vacant(&mut self, _value: ()" "    self.builder.set_data_field::<u16>(4, 2);\n"
 
--- a Void member of the union: on a record without its tag its setter has no meaning
+-- vacant, the Void member of the union, at its place
+pub vacantAt : SlotAt bytes 7 6
+unfolding fieldAt byId nth
+vacantAt = slotAt 6 (namedField "vacant" 2 (slot vacant)) vacant refl refl
+
+-- of the sixteen bytes its setter leaves 2 in the two of the tag
+abbrev tagTwo : Record
+tagTwo = record { bits = sectionBits (replicate 8 165 ++ (2 ∷ 0 ∷ replicate 6 165)); pointers = some16 .pointers }
+
+-- its setter leaves that; on a record without its tag it has no meaning
 pub vacant-worked :
-    (kind (vacant .ty) ≡ 0) × Ran bytes 7 6 Setter vacantSetter × TagHolds (some (4, 2)) some16
-    × (runSetter vacantSetter 0 oneByte ≡ none)
-unfolding fieldAt byId nth accessorText isAscii taken snakeFrom camelToSnakeCase setDataField generateSetter setterRequest toLines
-    flatMap join stringify decimal stored putBits typeName truth dataArg boolArg writes runOp runLine runLines runSetter
-    text.answerOf text.bufferOf text.placed
-vacant-worked = (refl, ran-bytes 6 Setter vacantSetter refl refl, omega arith, refl)
+    (slotKind vacantAt ≡ 0) × Ran bytes 7 6 Setter vacantSetter
+    × TagHolds (tagAt vacantAt) some16 × (runSetter vacantSetter 0 some16 ≡ some tagTwo)
+    × (voidLeaves (tagAt vacantAt) some16 ≡ some tagTwo)
+    × (TagHolds (tagAt vacantAt) oneByte → ⊥) × (runSetter vacantSetter 0 oneByte ≡ none)
+unfolding vacantAt fieldAt byId nth accessorText isAscii taken snakeFrom camelToSnakeCase setDataField generateSetter
+    setterRequest toLines flatMap join stringify decimal stored putBits typeName truth dataArg boolArg writes runOp runLine
+    runLines runSetter text.answerOf text.bufferOf text.placed
+vacant-worked = (refl, ran-bytes 6 Setter vacantSetter refl refl, omega arith, refl, refl, (λ h. omega arith), refl)
 
 -- a haser of the second pointer, by what stands after `has_` and the tag's number
 abbrev haserWith : String → String → Str
@@ -432,32 +449,47 @@ haserWith name n =
 abbrev guestHaser : Str
 guestHaser = haserWith "guest" "42405"
 
+-- guest at its place
+pub guestAt : SlotAt bytes 7 5
+unfolding fieldAt byId nth
+guestAt = slotAt 5 (namedField "guest" 42405 (slot guest)) guest refl refl
+
 -- A pointer in the union, whose tag is 42405 = 165 * 257: the second pointer is not null. Past the pointers it is null, and a tag
 -- past the bytes is 0, so another.
 pub guest-worked :
-    (isPointer (guest .ty) ≡ true) × Ran bytes 7 5 (Haser true) guestHaser × (runHaser guestHaser some16 ≡ some true)
-    × (runHaser guestHaser noPointers ≡ some false) × (runHaser guestHaser noBytes ≡ some false)
-unfolding fieldAt byId nth accessorText isAscii taken snakeFrom camelToSnakeCase notNull tagTest generateHaser haserRequest
+    (isPointer (guestAt .slot .ty) ≡ true) × Ran bytes 7 5 (Haser true) guestHaser
+    × (runHaser guestHaser some16 ≡ some true)
+    × (HoldsPointer (record { 0 = guestAt .slot .offset }) noPointers → ⊥) × (runHaser guestHaser noPointers ≡ some false)
+    × (TagHolds (tagAt guestAt) noBytes → ⊥) × (runHaser guestHaser noBytes ≡ some false)
+unfolding guestAt fieldAt byId nth accessorText isAscii taken snakeFrom camelToSnakeCase notNull tagTest generateHaser haserRequest
     toLines flatMap join stringify decimal found getBits nullFlag typeName tests testsOf runTests runHaser text.answerOf
     text.bufferOf text.placed
-guest-worked = (refl, ran-bytes 5 (Haser true) guestHaser refl refl, refl, refl, refl)
+guest-worked =
+    (refl, ran-bytes 5 (Haser true) guestHaser refl refl, refl, (λ h. omega arith), refl, (λ h. omega arith), refl)
 
 abbrev visitorHaser : Str
 visitorHaser = haserWith "visitor" "0"
 
+-- visitor at its place
+pub visitorAt : SlotAt bytes 7 8
+unfolding fieldAt byId nth
+visitorAt = slotAt 8 (namedField "visitor" 0 (slot visitor)) visitor refl refl
+
 -- A member of the union with the number 0, which is not the tag's where there is one. A tag past the bytes is 0, so the pointer
 -- decides, and past the pointers it is null.
 pub visitor-worked :
-    (isPointer (visitor .ty) ≡ true) × Ran bytes 7 8 (Haser true) visitorHaser × (runHaser visitorHaser some16 ≡ some false)
-    × (runHaser visitorHaser noBytes ≡ some true) × (runHaser visitorHaser threeBytes ≡ some false)
-unfolding fieldAt byId nth accessorText isAscii taken snakeFrom camelToSnakeCase notNull tagTest generateHaser haserRequest
+    (isPointer (visitorAt .slot .ty) ≡ true) × Ran bytes 7 8 (Haser true) visitorHaser
+    × (runHaser visitorHaser some16 ≡ some false)
+    × (TagHolds (tagAt visitorAt) noBytes → ⊥) × (runHaser visitorHaser noBytes ≡ some true)
+    × (runHaser visitorHaser threeBytes ≡ some false)
+unfolding visitorAt fieldAt byId nth accessorText isAscii taken snakeFrom camelToSnakeCase notNull tagTest generateHaser haserRequest
     toLines flatMap join stringify decimal found getBits nullFlag typeName tests testsOf runTests runHaser text.answerOf
     text.bufferOf text.placed
-visitor-worked = (refl, ran-bytes 8 (Haser true) visitorHaser refl refl, refl, refl, refl)
+visitor-worked = (refl, ran-bytes 8 (Haser true) visitorHaser refl refl, refl, (λ h. omega arith), refl, refl)
 
 -- the haser of a Bool is one newline
-pub no-haser-worked : (isPointer (isFree .ty) ≡ false) × Ran bytes 7 0 (Haser true) (unit 10)
-unfolding fieldAt byId nth accessorText generateHaser haserRequest toLines flatMap join stringify text.answerOf text.bufferOf
+pub no-haser-worked : (isPointer (freeAt .slot .ty) ≡ false) × Ran bytes 7 0 (Haser true) (unit 10)
+unfolding freeAt fieldAt byId nth accessorText generateHaser haserRequest toLines flatMap join stringify text.answerOf text.bufferOf
     text.placed
 no-haser-worked = (refl, ran-bytes 0 (Haser true) (unit 10) refl refl)
 

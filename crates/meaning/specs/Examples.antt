@@ -13,8 +13,8 @@ use Rattle.text.specs.Decimal.{decimal, signed}
 use Rattle.text.specs.Lines.{FormattedTexts, Branch, Line, none as noMore, _&_, toLines, flatMap, join, stringify}
 use Rattle.record.specs.Bits.{sectionBits}
 use Rattle.calls.specs.Calls.{getBoolField, getDataField, setBoolField, setDataField, clearPointer, notNull, tagTest}
-use Rattle.record.specs.Lines.{getLine, setLine, functionText, setterText, getterLines, haserText, Zero, ofSlot, ofTag, ofPointer}
-use Rattle.record.specs.Lines.{zeroingLine}
+use Rattle.record.specs.Lines.{getLine, setLine, functionText, setterText, voidSetterText, getterLines, haserText}
+use Rattle.record.specs.Lines.{Zero, ofSlot, ofTag, ofPointer, zeroingLine}
 use Rattle.record.specs.Masks.{getMask, setMask, getMaskText, setMaskText}
 use Rattle.record.specs.Record.{Record, isSome, mapO, found, stored, getBits, putBits, nullFlag, clearFlag}
 use Rattle.record.specs.Types.{int, uint, float32, Kind, bool, num, enum, kindOf}
@@ -201,6 +201,18 @@ unfolding toLines flatMap join stringify decimal setBoolField setDataField funct
     setMaskOf dataArg boolArg writes runOp runLine runLines runSetter
 tag-held = (refl, refl)
 
+-- a setter whose tag is inside and whose slot is past the section has no meaning, though its tag's line alone has one
+abbrev pub slotPast : Option Record
+slotPast = runSetter (setterText (ascii "pub fn set_x(&mut self, value: u64)  {") (some (0, 1)) (num (uint Eight)) 2 none) 9 some16
+
+abbrev pub tagAlone : Option Record
+tagAlone = runSetter (voidSetterText (ascii "pub fn set_x(&mut self, _value: ())  {") (some (0, 1))) 9 some16
+
+pub slot-held : (isSome tagAlone ≡ true) × (slotPast ≡ none)
+unfolding toLines flatMap join stringify decimal setBoolField setDataField functionText found stored putBits typeName truth
+    setMaskOf dataArg boolArg writes runOp runLine runLines runSetter
+slot-held = (refl, refl)
+
 -- ---- a haser of the second pointer in a union, whose tag is 42405 = 165 * 257; a zeroing
 
 pub has-second : runHaser (haserText (ascii "pub fn has_x(&self) -> bool {") true (some (3, 42405)) 1) some16 ≡ some true
@@ -217,7 +229,7 @@ has-other-tag = refl
 pub tag-past :
     (runHaser (haserText (ascii "pub fn has_x(&self) -> bool {") true (some (8, 0)) 1) some16 ≡ some true)
     × (runHaser (haserText (ascii "pub fn has_x(&self) -> bool {") true (some (8, 0)) 0) some16 ≡ some false)
-    × (runHaser (haserText (ascii "pub fn has_x(&self) -> bool {") true (some (8, 7)) 1) some16 ≡ some false)
+    × (runHaser (haserText (ascii "pub fn has_x(&self) -> bool {") true (some (8, 1)) 1) some16 ≡ some false)
 unfolding toLines flatMap join stringify decimal notNull tagTest functionText found getBits nullFlag typeName tests testsOf
     runTests runHaser
 tag-past = (refl, refl, refl)
