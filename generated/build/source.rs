@@ -35,7 +35,7 @@ pub fn file(sheets: &[(String, String)]) -> String {
     let mut file = String::new();
     let mut families = String::new();
     for (name, short) in sheets {
-        let bytes = padded(short).into_bytes();
+        let bytes = padded(short);
         let admitted = kitlubas::Sheet::admit(&bytes).unwrap_or_else(|refusal| panic!("{name}: {refusal}"));
         file += &Sheet { name, admitted, nodes: nodes::read(short) }.module();
         families += &format!("{name}::FAMILY, ");
