@@ -61,7 +61,7 @@ impl Mask {
     }
 }
 
-fn get_bool_head(t: Text, buf: &mut [u8], is_reader: bool, masked: bool) -> Text
+fn get_bool_head(masked: bool, is_reader: bool, t: Text, buf: &mut [u8]) -> Text
     ensures { λ r. ⌜ Wrote (now (buf .entry)) t (getBoolHead «is_reader» masked) (now (buf .exit)) r ⌝ }
 {
     if is_reader {
@@ -77,17 +77,17 @@ fn get_bool_head(t: Text, buf: &mut [u8], is_reader: bool, masked: bool) -> Text
 }
 
 // The get of a Bool, with its mask.
-pub fn get_bool_field(t: Text, buf: &mut [u8], is_reader: bool, offset: u64, mask: Mask) -> Text
+pub fn get_bool_field(offset: u64, mask: Mask, is_reader: bool, t: Text, buf: &mut [u8]) -> Text
     ensures { λ r. ⌜ Wrote (now (buf .entry)) t (getBoolField «is_reader» offset (maskText mask)) (now (buf .exit)) r ⌝ }
 {
     let masked = mask.is_masked();
-    let t = get_bool_head(t, buf, is_reader, masked);
+    let t = get_bool_head(masked, is_reader, t, buf);
     let t = t.number(buf, offset);
     let t = mask.last_argument(t, buf);
     t.bytes(buf, b")")
 }
 
-fn get_data_head(t: Text, buf: &mut [u8], is_reader: bool, masked: bool) -> Text
+fn get_data_head(masked: bool, is_reader: bool, t: Text, buf: &mut [u8]) -> Text
     ensures { λ r. ⌜ Wrote (now (buf .entry)) t (getDataHead «is_reader» masked) (now (buf .exit)) r ⌝ }
 {
     if is_reader {
@@ -104,18 +104,18 @@ fn get_data_head(t: Text, buf: &mut [u8], is_reader: bool, masked: bool) -> Text
 
 // The get of a number of a type, with its mask.
 pub fn get_data_field(
-    t: Text,
-    buf: &mut [u8],
-    is_reader: bool,
     typ: &[u8],
     offset: u64,
     mask: Mask,
+    is_reader: bool,
+    t: Text,
+    buf: &mut [u8],
 ) -> Text
     ensures { λ r. ⌜ Wrote (now (buf .entry)) t
         (getDataField «is_reader» (now (typ .entry)) offset (maskText mask)) (now (buf .exit)) r ⌝ }
 {
     let masked = mask.is_masked();
-    let t = get_data_head(t, buf, is_reader, masked);
+    let t = get_data_head(masked, is_reader, t, buf);
     let t = t.bytes(buf, typ);
     let t = t.bytes(buf, b">(");
     let t = t.number(buf, offset);
@@ -124,15 +124,15 @@ pub fn get_data_field(
 }
 
 // The get of an enum: its number, turned into the enum.
-pub fn get_enum_field(t: Text, buf: &mut [u8], is_reader: bool, offset: u64, mask: Mask) -> Text
+pub fn get_enum_field(offset: u64, mask: Mask, is_reader: bool, t: Text, buf: &mut [u8]) -> Text
     ensures { λ r. ⌜ Wrote (now (buf .entry)) t (getEnumField «is_reader» offset (maskText mask)) (now (buf .exit)) r ⌝ }
 {
     let t = t.bytes(buf, b"::core::convert::TryFrom::try_from(");
-    let t = get_data_field(t, buf, is_reader, b"u16", offset, mask);
+    let t = get_data_field(b"u16", offset, mask, is_reader, t, buf);
     t.bytes(buf, b")")
 }
 
-fn set_bool_head(t: Text, buf: &mut [u8], masked: bool) -> Text
+fn set_bool_head(masked: bool, t: Text, buf: &mut [u8]) -> Text
     ensures { λ r. ⌜ Wrote (now (buf .entry)) t (setBoolHead masked) (now (buf .exit)) r ⌝ }
 {
     if masked {
@@ -142,11 +142,11 @@ fn set_bool_head(t: Text, buf: &mut [u8], masked: bool) -> Text
 }
 
 // A setter's line that writes a Bool, with its mask.
-pub fn set_bool_field(t: Text, buf: &mut [u8], offset: u64, value: &[u8], mask: Mask) -> Text
+pub fn set_bool_field(offset: u64, value: &[u8], mask: Mask, t: Text, buf: &mut [u8]) -> Text
     ensures { λ r. ⌜ Wrote (now (buf .entry)) t (setBoolField offset (now (value .entry)) (maskText mask)) (now (buf .exit)) r ⌝ }
 {
     let masked = mask.is_masked();
-    let t = set_bool_head(t, buf, masked);
+    let t = set_bool_head(masked, t, buf);
     let t = t.number(buf, offset);
     let t = t.bytes(buf, b", ");
     let t = t.bytes(buf, value);
@@ -154,7 +154,7 @@ pub fn set_bool_field(t: Text, buf: &mut [u8], offset: u64, value: &[u8], mask: 
     t.bytes(buf, b");")
 }
 
-fn set_data_head(t: Text, buf: &mut [u8], masked: bool) -> Text
+fn set_data_head(masked: bool, t: Text, buf: &mut [u8]) -> Text
     ensures { λ r. ⌜ Wrote (now (buf .entry)) t (setDataHead masked) (now (buf .exit)) r ⌝ }
 {
     if masked {
@@ -165,18 +165,18 @@ fn set_data_head(t: Text, buf: &mut [u8], masked: bool) -> Text
 
 // A setter's line that writes a number of a type, or an enum's number, with its mask.
 pub fn set_data_field(
-    t: Text,
-    buf: &mut [u8],
     typ: &[u8],
     offset: u64,
     value: &[u8],
     mask: Mask,
+    t: Text,
+    buf: &mut [u8],
 ) -> Text
     ensures { λ r. ⌜ Wrote (now (buf .entry)) t
         (setDataField (now (typ .entry)) offset (now (value .entry)) (maskText mask)) (now (buf .exit)) r ⌝ }
 {
     let masked = mask.is_masked();
-    let t = set_data_head(t, buf, masked);
+    let t = set_data_head(masked, t, buf);
     let t = t.bytes(buf, typ);
     let t = t.bytes(buf, b">(");
     let t = t.number(buf, offset);
@@ -187,7 +187,7 @@ pub fn set_data_field(
 }
 
 // A setter's line that writes the union's tag.
-pub fn set_tag(t: Text, buf: &mut [u8], offset: u64, discriminant: u64) -> Text
+pub fn set_tag(offset: u64, discriminant: u64, t: Text, buf: &mut [u8]) -> Text
     ensures { λ r. ⌜ Wrote (now (buf .entry)) t (setTag offset discriminant) (now (buf .exit)) r ⌝ }
 {
     let t = t.bytes(buf, b"self.builder.set_data_field::<u16>(");
@@ -198,7 +198,7 @@ pub fn set_tag(t: Text, buf: &mut [u8], offset: u64, discriminant: u64) -> Text
 }
 
 // The lines that zero a Bool, a number or an enum by its type, a union's tag and a pointer.
-pub fn zero_bool(t: Text, buf: &mut [u8], offset: u64) -> Text
+pub fn zero_bool(offset: u64, t: Text, buf: &mut [u8]) -> Text
     ensures { λ r. ⌜ Wrote (now (buf .entry)) t (zeroBool offset) (now (buf .exit)) r ⌝ }
 {
     let t = t.bytes(buf, b"self.builder.set_bool_field(");
@@ -206,7 +206,7 @@ pub fn zero_bool(t: Text, buf: &mut [u8], offset: u64) -> Text
     t.bytes(buf, b", false);")
 }
 
-pub fn zero_data(t: Text, buf: &mut [u8], typ: &[u8], offset: u64) -> Text
+pub fn zero_data(typ: &[u8], offset: u64, t: Text, buf: &mut [u8]) -> Text
     ensures { λ r. ⌜ Wrote (now (buf .entry)) t (zeroData (now (typ .entry)) offset) (now (buf .exit)) r ⌝ }
 {
     let t = t.bytes(buf, b"self.builder.set_data_field::<");
@@ -218,7 +218,7 @@ pub fn zero_data(t: Text, buf: &mut [u8], typ: &[u8], offset: u64) -> Text
     t.bytes(buf, b");")
 }
 
-pub fn zero_tag(t: Text, buf: &mut [u8], offset: u64) -> Text
+pub fn zero_tag(offset: u64, t: Text, buf: &mut [u8]) -> Text
     ensures { λ r. ⌜ Wrote (now (buf .entry)) t (zeroTag offset) (now (buf .exit)) r ⌝ }
 {
     let t = t.bytes(buf, b"self.builder.set_data_field::<u16>(");
@@ -226,7 +226,7 @@ pub fn zero_tag(t: Text, buf: &mut [u8], offset: u64) -> Text
     t.bytes(buf, b", 0);")
 }
 
-pub fn clear_pointer(t: Text, buf: &mut [u8], offset: u64) -> Text
+pub fn clear_pointer(offset: u64, t: Text, buf: &mut [u8]) -> Text
     ensures { λ r. ⌜ Wrote (now (buf .entry)) t (clearPointer offset) (now (buf .exit)) r ⌝ }
 {
     let t = t.bytes(buf, b"self.builder.reborrow().get_pointer_field(");
@@ -235,7 +235,7 @@ pub fn clear_pointer(t: Text, buf: &mut [u8], offset: u64) -> Text
 }
 
 // A haser's test of its pointer.
-pub fn not_null(t: Text, buf: &mut [u8], is_reader: bool, offset: u64) -> Text
+pub fn not_null(offset: u64, is_reader: bool, t: Text, buf: &mut [u8]) -> Text
     ensures { λ r. ⌜ Wrote (now (buf .entry)) t (notNull «is_reader» offset) (now (buf .exit)) r ⌝ }
 {
     if is_reader {
@@ -248,7 +248,7 @@ pub fn not_null(t: Text, buf: &mut [u8], is_reader: bool, offset: u64) -> Text
     t.bytes(buf, b")")
 }
 
-fn tag_test_head(t: Text, buf: &mut [u8], is_reader: bool) -> Text
+fn tag_test_head(is_reader: bool, t: Text, buf: &mut [u8]) -> Text
     ensures { λ r. ⌜ Wrote (now (buf .entry)) t (tagTestHead «is_reader») (now (buf .exit)) r ⌝ }
 {
     if is_reader {
@@ -258,10 +258,10 @@ fn tag_test_head(t: Text, buf: &mut [u8], is_reader: bool) -> Text
 }
 
 // A haser's line that answers false where the union has another member.
-pub fn tag_test(t: Text, buf: &mut [u8], is_reader: bool, offset: u64, discriminant: u64) -> Text
+pub fn tag_test(offset: u64, discriminant: u64, is_reader: bool, t: Text, buf: &mut [u8]) -> Text
     ensures { λ r. ⌜ Wrote (now (buf .entry)) t (tagTest «is_reader» offset discriminant) (now (buf .exit)) r ⌝ }
 {
-    let t = tag_test_head(t, buf, is_reader);
+    let t = tag_test_head(is_reader, t, buf);
     let t = t.number(buf, offset);
     let t = t.bytes(buf, b") != ");
     let t = t.number(buf, discriminant);

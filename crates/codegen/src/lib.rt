@@ -71,10 +71,10 @@ fn prim_default(kind: u64, bits: u64) -> Mask
 
 // The get of a number, masked by its default.
 pub fn get_number(
-    is_reader: bool,
     kind: u64,
     offset: u64,
     bits: u64,
+    is_reader: bool,
     t: Text,
     buf: &mut [u8],
 ) -> Text
@@ -85,7 +85,7 @@ pub fn get_number(
     let bytes = name.bytes;
     let len = name.len;
     let mask = getter_mask(kind, bits);
-    calls::get_data_field(t, buf, is_reader, &bytes[..len], offset, mask)
+    calls::get_data_field(&bytes[..len], offset, mask, is_reader, t, buf)
 }
 
 // The set of a Bool, masked by the default of any primitive kind.
@@ -94,7 +94,7 @@ pub fn set_bool(offset: u64, default: u64, bits: u64, t: Text, buf: &mut [u8]) -
         (setBoolField offset (ascii "value") (maskOr (primDefault (value default bits)))) (now (buf .exit)) r ⌝ }
 {
     let mask = prim_default(default, bits);
-    calls::set_bool_field(t, buf, offset, b"value", mask)
+    calls::set_bool_field(offset, b"value", mask, t, buf)
 }
 
 // The set of a number, masked by the default of any primitive kind.
@@ -107,7 +107,7 @@ pub fn set_number(kind: u64, offset: u64, default: u64, bits: u64, t: Text, buf:
     let bytes = name.bytes;
     let len = name.len;
     let mask = prim_default(default, bits);
-    calls::set_data_field(t, buf, &bytes[..len], offset, b"value", mask)
+    calls::set_data_field(&bytes[..len], offset, b"value", mask, t, buf)
 }
 
 // The line that zeroes a number.
@@ -117,7 +117,7 @@ pub fn zero_number(kind: u64, offset: u64, t: Text, buf: &mut [u8]) -> Text
     let name = codegen_types::primitive(kind);
     let bytes = name.bytes;
     let len = name.len;
-    calls::zero_data(t, buf, &bytes[..len], offset)
+    calls::zero_data(&bytes[..len], offset, t, buf)
 }
 
 // Whether a type of this kind is a pointer.
@@ -131,14 +131,14 @@ pub fn is_pointer(kind: u64) -> bool
 }
 
 // A haser's line that tests the tag, where the field has a discriminant.
-fn tag_test_line(is_reader: bool, tag: u64, discriminant: u64, t: Text, buf: &mut [u8]) -> Text
+fn tag_test_line(tag: u64, discriminant: u64, is_reader: bool, t: Text, buf: &mut [u8]) -> Text
     ensures { λ r. ⌜ Wrote (now (buf .entry)) t (tagTestLine «is_reader» tag discriminant) (now (buf .exit)) r ⌝ }
 {
     if discriminant == 65535 {
         return t;
     }
     let t = t.bytes(buf, b"    ");
-    let t = calls::tag_test(t, buf, is_reader, tag, discriminant);
+    let t = calls::tag_test(tag, discriminant, is_reader, t, buf);
     t.bytes(buf, b"\n")
 }
 
@@ -151,10 +151,10 @@ pub fn haser(name: &[u8], slot: Slot, tag: u64, is_reader: bool, t: Text, buf: &
         return t.no_lines(buf);
     }
     let t = t.bytes(buf, b"#[inline]\npub fn has_");
-    let t = names::snake_name(t, buf, name);
+    let t = names::snake_name(name, t, buf);
     let t = t.bytes(buf, b"(&self) -> bool {\n");
-    let t = tag_test_line(is_reader, tag, slot.discriminant, t, buf);
+    let t = tag_test_line(tag, slot.discriminant, is_reader, t, buf);
     let t = t.bytes(buf, b"    ");
-    let t = calls::not_null(t, buf, is_reader, slot.offset);
+    let t = calls::not_null(slot.offset, is_reader, t, buf);
     t.bytes(buf, b"\n}\n")
 }

@@ -55,7 +55,7 @@ pub fn whole(t: Text) -> Written
 }
 
 // A text that is refused with a number.
-pub fn refused(t: Text, number: u64) -> Written
+pub fn refused(number: u64, t: Text) -> Written
     ensures { λ r. ⌜ (r .text ≡ t) × (refusalNumber (r .refusal) ≡ some number) ⌝ }
 {
     Written {
@@ -165,7 +165,7 @@ pub fn primitive(kind: u64) -> TypeName
 }
 
 // The text of a primitive type.
-pub fn type_name(t: Text, buf: &mut [u8], kind: u64) -> Text
+pub fn type_name(kind: u64, t: Text, buf: &mut [u8]) -> Text
     ensures { λ r. ⌜ Wrote (now (buf .entry)) t (primitiveText kind) (now (buf .exit)) r ⌝ }
 {
     let name = primitive(kind);

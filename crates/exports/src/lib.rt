@@ -98,7 +98,7 @@ pub extern "C" fn kitlubas_snake(at: usize, buf: &mut [u8], name: &[u8]) -> usiz
     if !names::takes(name) {
         return usize::MAX;
     }
-    let t = names::snake_name(Text::at(at), buf, name);
+    let t = names::snake_name(name, Text::at(at), buf);
     count(t)
 }
 
@@ -109,7 +109,7 @@ pub extern "C" fn kitlubas_default_name(at: usize, buf: &mut [u8], name: &[u8]) 
     if !names::takes(name) {
         return usize::MAX;
     }
-    let t = names::default_name(Text::at(at), buf, name);
+    let t = names::default_name(name, Text::at(at), buf);
     count(t)
 }
 
@@ -120,7 +120,7 @@ pub extern "C" fn kitlubas_module_name(at: usize, buf: &mut [u8], name: &[u8]) -
     if !names::takes(name) {
         return usize::MAX;
     }
-    let t = names::module_name(Text::at(at), buf, name);
+    let t = names::module_name(name, Text::at(at), buf);
     count(t)
 }
 

@@ -83,7 +83,7 @@ fn prim_result(kind: u64, is_fn: bool, t: Text, buf: &mut [u8]) -> Text
         return t.bytes(buf, b"()");
     }
     let t = arrow(is_fn, t, buf);
-    codegen_types::type_name(t, buf, kind)
+    codegen_types::type_name(kind, t, buf)
 }
 
 // The result type of an enum, whose node has this id.

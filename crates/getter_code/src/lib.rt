@@ -20,12 +20,12 @@ fn void(is_fn: bool, t: Text, buf: &mut [u8]) -> Text
 }
 
 // The default of a pointer: its constant, if it is explicit.
-fn pointer_default(explicit: u64, name: &[u8], t: Text, buf: &mut [u8]) -> Text
+fn pointer_default(name: &[u8], explicit: u64, t: Text, buf: &mut [u8]) -> Text
     ensures { λ r. ⌜ Wrote (now (buf .entry)) t (pointerDefault explicit (now (name .entry))) (now (buf .exit)) r ⌝ }
 {
     if explicit == 1 {
         let t = t.bytes(buf, b"::core::option::Option::Some(&_private::");
-        let t = names::default_name(t, buf, name);
+        let t = names::default_name(name, t, buf);
         return t.bytes(buf, b"[..])");
     }
     t.bytes(buf, b"::core::option::Option::None")
@@ -49,10 +49,10 @@ fn from_pointer_head(is_reader: bool, t: Text, buf: &mut [u8]) -> Text
 // The value of a pointer field, with its default.
 fn from_pointer(
     root: &[u8],
-    is_reader: bool,
+    name: &[u8],
     offset: u64,
     explicit: u64,
-    name: &[u8],
+    is_reader: bool,
     t: Text,
     buf: &mut [u8],
 ) -> Text
@@ -63,7 +63,7 @@ fn from_pointer(
     let t = from_pointer_head(is_reader, t, buf);
     let t = t.number(buf, offset);
     let t = t.bytes(buf, b"), ");
-    let t = pointer_default(explicit, name, t, buf);
+    let t = pointer_default(name, explicit, t, buf);
     t.bytes(buf, b")")
 }
 
@@ -77,7 +77,7 @@ fn capability_head(is_reader: bool, t: Text, buf: &mut [u8]) -> Text
 }
 
 // The capability of an interface field.
-fn capability(root: &[u8], is_reader: bool, offset: u64, t: Text, buf: &mut [u8]) -> Text
+fn capability(root: &[u8], offset: u64, is_reader: bool, t: Text, buf: &mut [u8]) -> Text
     ensures { λ r. ⌜ Wrote (now (buf .entry)) t (capability (now (root .entry)) «is_reader» offset) (now (buf .exit)) r ⌝ }
 {
     let t = capability_head(is_reader, t, buf);
@@ -111,16 +111,16 @@ fn any_pointer_head(is_reader: bool, t: Text, buf: &mut [u8]) -> Text
 // The value of an AnyPointer field: of a parameter's type, or untyped.
 fn untyped(
     root: &[u8],
-    is_reader: bool,
     parameter: bool,
     offset: u64,
+    is_reader: bool,
     t: Text,
     buf: &mut [u8],
 ) -> Text
     ensures { λ r. ⌜ Wrote (now (buf .entry)) t (untyped (now (root .entry)) «is_reader» parameter offset) (now (buf .exit)) r ⌝ }
 {
     if parameter {
-        return from_pointer(root, is_reader, offset, 0, b"", t, buf);
+        return from_pointer(root, b"", offset, 0, is_reader, t, buf);
     }
     let t = t.bytes(buf, root);
     let t = any_pointer_head(is_reader, t, buf);
@@ -147,23 +147,23 @@ fn fragment(
         kinds::VOID => void(is_fn, t, buf),
         kinds::BOOL => {
             let mask = codegen::getter_mask(kind, bits);
-            calls::get_bool_field(t, buf, is_reader, slot.offset, mask)
+            calls::get_bool_field(slot.offset, mask, is_reader, t, buf)
         },
         kinds::INT8..=kinds::FLOAT64 => codegen::get_number(
-            is_reader,
             kind,
             slot.offset,
             bits,
+            is_reader,
             t,
             buf,
         ),
         kinds::ENUM => {
             let mask = codegen::getter_mask(kind, bits);
-            calls::get_enum_field(t, buf, is_reader, slot.offset, mask)
+            calls::get_enum_field(slot.offset, mask, is_reader, t, buf)
         },
-        kinds::INTERFACE => capability(root, is_reader, slot.offset, t, buf),
-        kinds::ANY_POINTER => untyped(root, is_reader, slot.id != 0, slot.offset, t, buf),
-        _ => from_pointer(root, is_reader, slot.offset, slot.explicit, name, t, buf),
+        kinds::INTERFACE => capability(root, slot.offset, is_reader, t, buf),
+        kinds::ANY_POINTER => untyped(root, slot.id != 0, slot.offset, is_reader, t, buf),
+        _ => from_pointer(root, name, slot.offset, slot.explicit, is_reader, t, buf),
     }
 }
 

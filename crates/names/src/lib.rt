@@ -64,7 +64,7 @@ pub fn takes(name: &[u8]) -> bool
 }
 
 // One char of a name, in lower case, after an underscore where it is a capital that is not the first.
-fn snake_char(t: Text, buf: &mut [u8], first: bool, c: u8) -> Text
+fn snake_char(first: bool, c: u8, t: Text, buf: &mut [u8]) -> Text
     ensures { λ r. ⌜ Wrote (now (buf .entry)) t (snakeChar first c) (now (buf .exit)) r ⌝ }
 {
     if first {
@@ -78,13 +78,13 @@ fn snake_char(t: Text, buf: &mut [u8], first: bool, c: u8) -> Text
 }
 
 // All chars of a name.
-fn snake_chars(t: Text, buf: &mut [u8], name: &[u8]) -> Text
+fn snake_chars(name: &[u8], t: Text, buf: &mut [u8]) -> Text
     ensures { λ r. ⌜ Wrote (now (buf .entry)) t (snakeFrom true (now (name .entry))) (now (buf .exit)) r ⌝ }
 {
     let mut t = t;
     let mut i = 0;
     while i < name.len() {
-        t = snake_char(t, buf, i == 0, name[i]);
+        t = snake_char(i == 0, name[i], t, buf);
         i += 1;
     }
     t
@@ -98,7 +98,7 @@ pub fn camel_to_snake_case(name: &[u8]) -> Snake
     if !takes(name) {
         return Snake { bytes, len: 0 };
     }
-    let t = snake_chars(Text::at(0), &mut bytes, name);
+    let t = snake_chars(name, Text::at(0), &mut bytes);
     Snake {
         bytes,
         len: t.fill(),
@@ -129,7 +129,7 @@ impl Snake {
     {
         let len = self.size();
         let bytes = self.bytes;
-        capitals(t, buf, &bytes[..len])
+        capitals(&bytes[..len], t, buf)
     }
 
     // whether the name is one of `RUST_KEYWORDS`
@@ -143,7 +143,7 @@ impl Snake {
 }
 
 // A text in capitals.
-fn capitals(t: Text, buf: &mut [u8], s: &[u8]) -> Text
+fn capitals(s: &[u8], t: Text, buf: &mut [u8]) -> Text
     ensures { λ r. ⌜ Wrote (now (buf .entry)) t (map toAsciiUppercase (now (s .entry))) (now (buf .exit)) r ⌝ }
 {
     let mut t = t;
@@ -156,7 +156,7 @@ fn capitals(t: Text, buf: &mut [u8], s: &[u8]) -> Text
 }
 
 // A name in snake case.
-pub fn snake_name(t: Text, buf: &mut [u8], name: &[u8]) -> Text
+pub fn snake_name(name: &[u8], t: Text, buf: &mut [u8]) -> Text
     ensures { λ r. ⌜ Wrote (now (buf .entry)) t (camelToSnakeCase (now (name .entry))) (now (buf .exit)) r ⌝ }
 {
     let snake = camel_to_snake_case(name);
@@ -164,7 +164,7 @@ pub fn snake_name(t: Text, buf: &mut [u8], name: &[u8]) -> Text
 }
 
 // The name of the constant that holds a field's default.
-pub fn default_name(t: Text, buf: &mut [u8], name: &[u8]) -> Text
+pub fn default_name(name: &[u8], t: Text, buf: &mut [u8]) -> Text
     ensures { λ r. ⌜ Wrote (now (buf .entry)) t (defaultName (now (name .entry))) (now (buf .exit)) r ⌝ }
 {
     let snake = camel_to_snake_case(name);
@@ -173,7 +173,7 @@ pub fn default_name(t: Text, buf: &mut [u8], name: &[u8]) -> Text
 }
 
 // A module's name: a keyword gets an underscore at its end.
-pub fn module_name(t: Text, buf: &mut [u8], name: &[u8]) -> Text
+pub fn module_name(name: &[u8], t: Text, buf: &mut [u8]) -> Text
     ensures { λ r. ⌜ Wrote (now (buf .entry)) t (moduleName (now (name .entry))) (now (buf .exit)) r ⌝ }
 {
     let snake = camel_to_snake_case(name);

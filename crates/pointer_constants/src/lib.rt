@@ -73,7 +73,7 @@ pub fn word_array_declaration(
         (wordsAt (slot .count) (rows (drop (slot .words) (now (s .entry)))))) (now (buf .exit)) r ⌝ }
 {
     let t = t.bytes(buf, b"pub(crate) static ");
-    let t = names::default_name(t, buf, name);
+    let t = names::default_name(name, t, buf);
     let t = t.bytes(buf, b": [");
     let t = t.bytes(buf, root);
     let t = t.bytes(buf, b"::Word; ");

@@ -37,11 +37,11 @@ fn hex(digits: &[u8]) -> u64 {
 }
 
 // A name or a number.
-fn leaf(t: Text, buf: &mut [u8], letter: u8, about: &[u8]) -> Text {
+fn leaf(letter: u8, about: &[u8], t: Text, buf: &mut [u8]) -> Text {
     match letter {
-        b's' => names::snake_name(t, buf, about),
-        b'c' => names::default_name(t, buf, about),
-        b'm' => names::module_name(t, buf, about),
+        b's' => names::snake_name(about, t, buf),
+        b'c' => names::default_name(about, t, buf),
+        b'm' => names::module_name(about, t, buf),
         b'u' => t.number(buf, hex(about)),
         b'h' => t.signed(buf, 0x80, hex(about) % 0x100),
         b'i' => t.signed(buf, 0x8000, hex(about) % 0x1_0000),
@@ -51,40 +51,40 @@ fn leaf(t: Text, buf: &mut [u8], letter: u8, about: &[u8]) -> Text {
     }
 }
 
-fn answer(t: Text, buf: &mut [u8], letter: u8, about: &[u8]) -> Text {
+fn answer(letter: u8, about: &[u8], t: Text, buf: &mut [u8]) -> Text {
     match letter {
         b'0'..=b'9' => t.line(buf, (letter - b'0') as usize, about),
         b'b' => t.blank_line(buf),
         b'z' => t.no_lines(buf),
         _ => {
-            let t = leaf(t, buf, letter, about);
+            let t = leaf(letter, about, t, buf);
             t.byte(buf, b'\n')
         }
     }
 }
 
-fn print_answer(buf: &mut [u8], letter: u8, about: &[u8]) {
-    let t = answer(Text::at(0), buf, letter, about);
+fn print_answer(letter: u8, about: &[u8], buf: &mut [u8]) {
+    let t = answer(letter, about, Text::at(0), buf);
     let n = programs::filled(t, buf);
     io::write_all(STDOUT_FILENO, &buf[..n]);
 }
 
-fn print_case(buf: &mut [u8], case: &[u8]) {
+fn print_case(case: &[u8], buf: &mut [u8]) {
     if case.len() == 0 {
         return;
     }
     if case.len() == 1 {
-        print_answer(buf, case[0], b"");
+        print_answer(case[0], b"", buf);
         return;
     }
-    print_answer(buf, case[0], &case[2..]);
+    print_answer(case[0], &case[2..], buf);
 }
 
-fn replay(buf: &mut [u8], cases: &[u8]) {
+fn replay(cases: &[u8], buf: &mut [u8]) {
     let mut at = 0;
     while at < cases.len() {
         let end = programs::line_end(cases, at);
-        print_case(buf, &cases[at..end]);
+        print_case(&cases[at..end], buf);
         at = end + 1;
     }
 }
@@ -93,5 +93,5 @@ fn main() {
     let mut cases = io::large_buffer();
     let n = io::read_full(STDIN_FILENO, &mut cases);
     let mut buf = io::buffer();
-    replay(&mut buf, &cases[..n]);
+    replay(&cases[..n], &mut buf);
 }

@@ -123,7 +123,7 @@ fn type_text(
 {
     match leaf_of(leaf) {
         LeafNumber::Is(leaf) => type_string::type_string(root, s, index, slot.typ, leaf, t, buf),
-        LeafNumber::Nothing => codegen_types::refused(t, refusals::NOT_THERE),
+        LeafNumber::Nothing => codegen_types::refused(refusals::NOT_THERE, t),
     }
 }
 
@@ -159,7 +159,7 @@ fn slot_accessor(
         }
         Accessor::Setter => setter::setter(root, s, index, slot, tag, t, buf),
         Accessor::Haser { is_reader } => haser(s, tag, slot, is_reader, t, buf),
-        Accessor::Zeroing => codegen_types::refused(t, refusals::NOT_THERE),
+        Accessor::Zeroing => codegen_types::refused(refusals::NOT_THERE, t),
     }
 }
 
@@ -177,13 +177,13 @@ fn group_accessor(
     ensures some { λ r. ⌜ WroteSome (now (buf .entry)) t (now (buf .exit)) (r .text) ⌝ }
 {
     match accessor {
-        Accessor::TypeText { leaf: _ } => codegen_types::refused(t, refusals::NOT_THERE),
+        Accessor::TypeText { leaf: _ } => codegen_types::refused(refusals::NOT_THERE, t),
         Accessor::Getter {
             is_reader: _,
             is_fn: _,
-        } => codegen_types::refused(t, refusals::NOT_THERE),
-        Accessor::Setter => codegen_types::refused(t, refusals::NOT_THERE),
-        Accessor::Haser { is_reader: _ } => codegen_types::refused(t, refusals::NOT_THERE),
+        } => codegen_types::refused(refusals::NOT_THERE, t),
+        Accessor::Setter => codegen_types::refused(refusals::NOT_THERE, t),
+        Accessor::Haser { is_reader: _ } => codegen_types::refused(refusals::NOT_THERE, t),
         Accessor::Zeroing => {
             let z = zeroing::zeroing(s, index, group.id, t, buf);
             let text = z.text;
@@ -211,7 +211,7 @@ pub fn write_accessor(
     match field {
         Field::Slot(slot) => slot_accessor(root, s, index, tag, slot, accessor, t, buf),
         Field::Group(group) => group_accessor(s, index, group, accessor, t, buf),
-        Field::Nothing => codegen_types::refused(t, refusals::NOT_THERE),
+        Field::Nothing => codegen_types::refused(refusals::NOT_THERE, t),
     }
 }
 

@@ -360,7 +360,7 @@ fn word_line(t: &[u8]) -> Line
 }
 
 // What a line says, by its letter.
-fn read(letter: u8, t: &[u8]) -> Line
+fn read(t: &[u8], letter: u8) -> Line
     ensures { λ r. ⌜ lineSaid r ≡ reader letter (now (t .entry)) ⌝ }
 {
     match letter {
@@ -406,7 +406,7 @@ fn line_to(s: &[u8], at: usize, e: usize) -> Line
     if s[z] != b'\n' {
         return Line::Bad;
     }
-    read(s[at], &s[at..z])
+    read(&s[at..z], s[at])
 }
 
 // The row at a position; past the end stands a bad line, and no row follows. A line has no byte 10 before its end, so that the

@@ -48,7 +48,7 @@ fn default_refusal(slot: Slot) -> Refusal
 }
 
 // The setter of a slot whose type has one row: kinds 0 to 13.
-fn plain_setter(root: &[u8], slot: Slot, name: Snake, tag: u64, t: Text, buf: &mut [u8]) -> Written
+fn plain_setter(root: &[u8], name: Snake, slot: Slot, tag: u64, t: Text, buf: &mut [u8]) -> Written
     ensures text { λ r. ⌜ ((ns : List tree.Node) (sl : tree.Slot) → SlotIs slot sl → slot .kind < 14
         → Writes (setterTextOf (sheetOf (now (root .entry)) ns) tag (nameOf name) (slot .discriminant) sl)
         (now (buf .entry)) t (now (buf .exit)) r) ⌝ }
@@ -204,8 +204,8 @@ fn list_setter(
     root: &[u8],
     s: &[u8],
     index: &[u64],
-    slot: Slot,
     name: Snake,
+    slot: Slot,
     tag: u64,
     t: Text,
     buf: &mut [u8],
@@ -264,8 +264,8 @@ fn enum_refusal(slot: Slot) -> Refusal
 fn enum_setter(
     s: &[u8],
     index: &[u64],
-    slot: Slot,
     name: Snake,
+    slot: Slot,
     tag: u64,
     t: Text,
     buf: &mut [u8],
@@ -285,7 +285,7 @@ fn enum_setter(
     let t = setter_code::tag_line(tag, slot.discriminant, t, buf);
     let t = t.bytes(buf, b"    ");
     let mask = enum_mask(slot);
-    let t = calls::set_data_field(t, buf, b"u16", slot.offset, b"value as u16", mask);
+    let t = calls::set_data_field(b"u16", slot.offset, b"value as u16", mask, t, buf);
     let text = t.bytes(buf, b"\n}\n");
     Written {
         text,
@@ -298,8 +298,8 @@ fn struct_setter(
     root: &[u8],
     s: &[u8],
     index: &[u64],
-    slot: Slot,
     name: Snake,
+    slot: Slot,
     tag: u64,
     t: Text,
     buf: &mut [u8],
@@ -333,8 +333,8 @@ fn interface_setter(
     root: &[u8],
     s: &[u8],
     index: &[u64],
-    slot: Slot,
     name: Snake,
+    slot: Slot,
     tag: u64,
     t: Text,
     buf: &mut [u8],
@@ -368,8 +368,8 @@ fn parameter_setter(
     root: &[u8],
     s: &[u8],
     index: &[u64],
-    slot: Slot,
     name: Snake,
+    slot: Slot,
     tag: u64,
     t: Text,
     buf: &mut [u8],
@@ -406,8 +406,8 @@ fn setter_of(
     root: &[u8],
     s: &[u8],
     index: &[u64],
-    slot: Slot,
     name: Snake,
+    slot: Slot,
     tag: u64,
     t: Text,
     buf: &mut [u8],
@@ -420,11 +420,11 @@ fn setter_of(
 {
     let kind = slot.kind;
     match kind {
-        kinds::VOID..=kinds::DATA => plain_setter(root, slot, name, tag, t, buf),
-        kinds::LIST => list_setter(root, s, index, slot, name, tag, t, buf),
-        kinds::ENUM => enum_setter(s, index, slot, name, tag, t, buf),
-        kinds::STRUCT => struct_setter(root, s, index, slot, name, tag, t, buf),
-        kinds::INTERFACE => interface_setter(root, s, index, slot, name, tag, t, buf),
+        kinds::VOID..=kinds::DATA => plain_setter(root, name, slot, tag, t, buf),
+        kinds::LIST => list_setter(root, s, index, name, slot, tag, t, buf),
+        kinds::ENUM => enum_setter(s, index, name, slot, tag, t, buf),
+        kinds::STRUCT => struct_setter(root, s, index, name, slot, tag, t, buf),
+        kinds::INTERFACE => interface_setter(root, s, index, name, slot, tag, t, buf),
         _ => {
             if slot.id == 0 {
                 return codegen_types::whole(setter_code::any_pointer(
@@ -436,7 +436,7 @@ fn setter_of(
                     buf,
                 ));
             }
-            parameter_setter(root, s, index, slot, name, tag, t, buf)
+            parameter_setter(root, s, index, name, slot, tag, t, buf)
         },
     }
 }
@@ -457,5 +457,5 @@ pub fn setter(
     ensures some { λ r. ⌜ WroteSome (now (buf .entry)) t (now (buf .exit)) (r .text) ⌝ }
 {
     let name = names::camel_to_snake_case(slot.name(s));
-    setter_of(root, s, index, slot, name, tag, t, buf)
+    setter_of(root, s, index, name, slot, tag, t, buf)
 }

@@ -28,7 +28,7 @@ pub fn tag_line(tag: u64, discriminant: u64, t: Text, buf: &mut [u8]) -> Text
         return t;
     }
     let t = t.bytes(buf, b"    ");
-    let t = calls::set_tag(t, buf, tag, discriminant);
+    let t = calls::set_tag(tag, discriminant, t, buf);
     t.bytes(buf, b"\n")
 }
 
@@ -151,7 +151,7 @@ pub fn number(name: Snake, slot: Slot, tag: u64, t: Text, buf: &mut [u8]) -> Tex
         (maskOr (primDefault (value (slot .default) (slot .bits)))))) (primitiveText (slot .kind))))) (now (buf .exit)) r) ⌝ }
 {
     let t = set_open(name, t, buf);
-    let t = codegen_types::type_name(t, buf, slot.kind);
+    let t = codegen_types::type_name(slot.kind, t, buf);
     let t = t.bytes(buf, b")  {\n");
     let t = tag_line(tag, slot.discriminant, t, buf);
     let t = t.bytes(buf, b"    ");

@@ -45,7 +45,7 @@ fn typ(s: &[u8], at: usize, left: usize) -> Walk
                 return typ(s, e, left - 1);
             }
             if kind < kinds::ANY_POINTER {
-                return scopes(s, e, left - 1, b);
+                return scopes(s, e, b, left - 1);
             }
             Walk::Next { at: e }
         }
@@ -57,7 +57,7 @@ fn typ(s: &[u8], at: usize, left: usize) -> Walk
 }
 
 // So many scopes, whose bindings have so many levels left.
-fn scopes(s: &[u8], from: usize, left: usize, count: u64) -> Walk
+fn scopes(s: &[u8], from: usize, count: u64, left: usize) -> Walk
     ensures { λ r. ⌜ walked (now (s .entry)) r
         ≡ passed (times (readScope (readType left)) end count (rows (drop from (now (s .entry))))) ⌝ }
 {
@@ -89,7 +89,7 @@ fn scope(s: &[u8], at: usize, left: usize) -> Walk
             if bind == 0 {
                 return Walk::Next { at: e };
             }
-            binds(s, e, left, count)
+            binds(s, e, count, left)
         }
         _ => Walk::Refused {
             number: refusals::BAD_LINE,
@@ -99,7 +99,7 @@ fn scope(s: &[u8], at: usize, left: usize) -> Walk
 }
 
 // So many bindings, whose types have so many levels left: in each turn the U rows that stand there, or one binding.
-fn binds(s: &[u8], from: usize, left: usize, count: u64) -> Walk
+fn binds(s: &[u8], from: usize, count: u64, left: usize) -> Walk
     ensures { λ r. ⌜ walked (now (s .entry)) r
         ≡ passed (times (readBinding (readType left)) stop count (rows (drop from (now (s .entry))))) ⌝ }
 {

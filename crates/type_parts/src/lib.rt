@@ -52,7 +52,7 @@ pub fn plain(root: &[u8], kind: u64, leaf: Leaf, t: Text, buf: &mut [u8]) -> Tex
     match kind {
         kinds::TEXT => displayed(root, b"::text::", leaf, t, buf),
         kinds::DATA => displayed(root, b"::data::", leaf, t, buf),
-        _ => codegen_types::type_name(t, buf, kind),
+        _ => codegen_types::type_name(kind, t, buf),
     }
 }
 
@@ -116,7 +116,7 @@ fn parameter_text(root: &[u8], name: &[u8], leaf: Leaf, t: Text, buf: &mut [u8])
         },
         Leaf::Owned => codegen_types::whole(t.bytes(buf, name)),
         Leaf::Pipeline => projected(root, name, b"::traits::Pipelined>::Pipeline", t, buf),
-        _ => codegen_types::refused(t, refusals::PARAMETER_LEAF),
+        _ => codegen_types::refused(refusals::PARAMETER_LEAF, t),
     }
 }
 
@@ -136,10 +136,10 @@ pub fn parameter(
     ensures some { λ r. ⌜ WroteSome (now (buf .entry)) t (now (buf .exit)) (r .text) ⌝ }
 {
     let Found::At(node) = nodes::find(index, id) else {
-        return codegen_types::refused(t, refusals::NO_NODE);
+        return codegen_types::refused(refusals::NO_NODE, t);
     };
     let Position::At(place) = nodes::parameter(s, index, node, k) else {
-        return codegen_types::refused(t, refusals::PARAMETER_INDEX);
+        return codegen_types::refused(refusals::PARAMETER_INDEX, t);
     };
     let name = row::text(s, place);
     parameter_text(root, name, leaf, t, buf)
@@ -152,7 +152,7 @@ pub fn qualified_module(s: &[u8], index: &[u64], id: u64, t: Text, buf: &mut [u8
     ensures some { λ r. ⌜ WroteSome (now (buf .entry)) t (now (buf .exit)) (r .text) ⌝ }
 {
     let Found::At(node) = nodes::find(index, id) else {
-        return codegen_types::refused(t, refusals::NO_NODE);
+        return codegen_types::refused(refusals::NO_NODE, t);
     };
     let name = nodes::module(s, node);
     codegen_types::whole(t.bytes(buf, name))

@@ -121,7 +121,7 @@ fn write_list(
         return codegen_types::whole(type_parts::displayed(root, b"::data_list::", leaf, t, buf));
     }
     if kinds::ANY_POINTER <= kind {
-        return codegen_types::refused(t, refusals::LIST_OF_ANY_POINTER);
+        return codegen_types::refused(refusals::LIST_OF_ANY_POINTER, t);
     }
     let t = type_parts::list_head(root, kind, leaf, t, buf);
     let element = codegen_types::element_leaf(kind);

@@ -176,12 +176,12 @@ fn zero_line(typ: u8, offset: u64, t: Text, buf: &mut [u8]) -> Text
     ensures { λ r. ⌜ Wrote (now (buf .entry)) t (zeroText typ offset) (now (buf .exit)) r ⌝ }
 {
     if typ == BOOL_LINE {
-        return calls::zero_bool(t, buf, offset);
+        return calls::zero_bool(offset, t, buf);
     }
     if typ <= LAST_NUMBER_LINE {
         return codegen::zero_number(typ as u64, offset, t, buf);
     }
-    calls::clear_pointer(t, buf, offset)
+    calls::clear_pointer(offset, t, buf)
 }
 
 // Whether a line clears a pointer, once there is one of this type too.
@@ -256,7 +256,7 @@ fn tag_line(tag_count: u64, tag_offset: u64, p: Lines, buf: &mut [u8]) -> Lines
         return p;
     }
     let refusal = p.refusal;
-    let t = calls::zero_tag(p.text, buf, tag_offset);
+    let t = calls::zero_tag(tag_offset, p.text, buf);
     let t = t.byte(buf, b'\n');
     Lines {
         text: t,
@@ -267,7 +267,7 @@ fn tag_line(tag_count: u64, tag_offset: u64, p: Lines, buf: &mut [u8]) -> Lines
 }
 
 // The lines so far with a refusal: what was written counts for nothing.
-fn refused(p: Lines, number: u64) -> Lines
+fn refused(number: u64, p: Lines) -> Lines
     ensures { λ r. ⌜ (r .text ≡ p .text) × (refusalNumber (r .refusal) ≡ some number) ⌝ }
 {
     let text = p.text;
@@ -295,13 +295,13 @@ fn zero_fields_of_group(
     ensures some { λ r. ⌜ WroteSome (now (buf .entry)) (before .text) (now (buf .exit)) (r .text) ⌝ }
 {
     if left == 0 {
-        return refused(before, refusals::TOO_DEEP);
+        return refused(refusals::TOO_DEEP, before);
     }
     let Found::At(node) = nodes::find(index, id) else {
-        return refused(before, refusals::NO_NODE);
+        return refused(refusals::NO_NODE, before);
     };
     if node.is_struct != 1 {
-        return refused(before, refusals::NO_STRUCT);
+        return refused(refusals::NO_STRUCT, before);
     }
     let mut offsets = [0u32; SIZE];
     let mut types = [0u8; SIZE];

@@ -7,12 +7,12 @@ use Rattle.codegen.proofs.zero_number.Tie as tie
 
 array-share-prefix-bytes : tie.Need-array-share-prefix-bytes
 array-share-prefix-bytes c =
-    let c1 = c .before .before in
+    let c1 = c .before in
     omega (arith, (c1 .primitive .ensures .full), (c1 .primitive .ensures .fits))
 
 slice-aggregate-zero-data : tie.Need-slice-aggregate-zero-data
 slice-aggregate-zero-data c =
-    let c1 = c .before .before .before in
+    let c1 = c .before .before in
     counted _ _ (c1 .primitive .ensures)
 
 returns : tie.Need-returns

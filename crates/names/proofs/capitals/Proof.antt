@@ -14,11 +14,11 @@ use Rattle.names.proofs.capitals.Statement.{statement}
 use Rattle.names.proofs.capitals.Tie as tie
 
 abbrev Inv-loop : tie.InvT-loop
-Inv-loop buf₀ s t₀ i₀ buf t i = (i ≤ length s) × (length buf ≡ length buf₀)
+Inv-loop s buf₀ t₀ i₀ buf t i = (i ≤ length s) × (length buf ≡ length buf₀)
     × Left buf t (map toAsciiUppercase (drop i s)) buf₀ t₀ (map toAsciiUppercase s)
 
 abbrev μ-loop : tie.MeasureT-loop
-μ-loop buf₀ s t₀ i₀ buf t i = length s - i
+μ-loop s buf₀ t₀ i₀ buf t i = length s - i
 
 turn : (i : ℕ) (s : List ℕ) → i < length s
     → map toAsciiUppercase (drop i s) ≡ unit (toAsciiUppercase (getD s i 0)) ++ map toAsciiUppercase (drop (i + 1) s)

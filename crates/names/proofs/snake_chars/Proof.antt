@@ -17,11 +17,11 @@ use Rattle.names.proofs.snake_chars.Statement.{statement}
 use Rattle.names.proofs.snake_chars.Tie as tie
 
 abbrev Inv-loop : tie.InvT-loop
-Inv-loop buf₀ name t₀ i₀ buf t i = (i ≤ length name) × (length buf ≡ length buf₀)
+Inv-loop name buf₀ t₀ i₀ buf t i = (i ≤ length name) × (length buf ≡ length buf₀)
     × Left buf t (snakeFrom (eqb i 0) (drop i name)) buf₀ t₀ (snakeFrom true name)
 
 abbrev μ-loop : tie.MeasureT-loop
-μ-loop buf₀ name t₀ i₀ buf t i = length name - i
+μ-loop name buf₀ t₀ i₀ buf t i = length name - i
 
 turn : (i : ℕ) (s : List ℕ) → i < length s
     → snakeFrom (eqb i 0) (drop i s) ≡ snakeChar (eqb i 0) (getD s i 0) ++ snakeFrom (eqb (i + 1) 0) (drop (i + 1) s)

@@ -41,13 +41,13 @@ abbrev μ-binding : Measures 1 binding-kinds.ps ℕ
 μ-binding κs a = 5 * a .1 .1 .0 + 1
 
 abbrev μ-binds : Measures 1 binds-kinds.ps ℕ
-μ-binds κs a = 5 * a .1 .1 .0 + 2
+μ-binds κs a = 5 * a .1 .1 .1 .0 + 2
 
 abbrev μ-scope : Measures 1 scope-kinds.ps ℕ
 μ-scope κs a = 5 * a .1 .1 .0 + 3
 
 abbrev μ-scopes : Measures 1 scopes-kinds.ps ℕ
-μ-scopes κs a = 5 * a .1 .1 .0 + 4
+μ-scopes κs a = 5 * a .1 .1 .1 .0 + 4
 
 abbrev μ-typ : Measures 1 typ-kinds.ps ℕ
 μ-typ κs a = 5 * a .1 .1 .0 + 0
@@ -106,12 +106,12 @@ abbrev binds-calls : ℕ → binds-lts.Claims
 binds-calls t = (unbound-run-reads.Asked, unbound-run-reads.Learnt, binding-below t, binding.Post)
 
 abbrev binds-Inv-loop : binds-lts.InvT-loop
-binds-Inv-loop s from left count at₀ n₀ at n =
+binds-Inv-loop s from count left at₀ n₀ at n =
     passed (times (readBinding (readType left)) stop count (rows (drop from s))) ≡ passed
     (times (readBinding (readType left)) stop n (rows (drop at s)))
 
 abbrev binds-μ-loop : binds-lts.MeasureT-loop
-binds-μ-loop s from left count at₀ n₀ at n = n
+binds-μ-loop s from count left at₀ n₀ at n = n
 
 binds-mul-at : (t : ℕ) → binds-lts.Need-mul-at (binds-calls t) (binds-at t) binds.Post binds-Inv-loop binds-μ-loop
 binds-mul-at t c = omega (arith, c .before .unbound-run .ensures .1 .0 (c .if1 .taken))
@@ -172,12 +172,12 @@ scope-returns-3 t c =
     scope-other _ _ _ (c .before .next .ensures .0) (c .before .next .ensures .1) _ (c .match .keys2)
 
 abbrev scopes-Inv-loop : scopes-lts.InvT-loop
-scopes-Inv-loop s from left count at₀ n₀ at n =
+scopes-Inv-loop s from count left at₀ n₀ at n =
     passed (times (readScope (readType left)) end count (rows (drop from s))) ≡ passed
     (times (readScope (readType left)) end n (rows (drop at s)))
 
 abbrev scopes-μ-loop : scopes-lts.MeasureT-loop
-scopes-μ-loop s from left count at₀ n₀ at n = n
+scopes-μ-loop s from count left at₀ n₀ at n = n
 
 scopes-returns :
     (t : ℕ) →

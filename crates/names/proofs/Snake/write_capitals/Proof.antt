@@ -12,11 +12,11 @@ full : (c : tie.Start) → length (c .args .self .bytes) ≡ 128
 full c = search needs
 
 array-share-prefix-bytes : tie.Need-array-share-prefix-bytes
-array-share-prefix-bytes c = omega (arith, full (c .before .before .before .before))
+array-share-prefix-bytes c = omega (arith, full (c .before .before .before))
 
 slice-aggregate-capitals : tie.Need-slice-aggregate-capitals
 slice-aggregate-capitals c =
-    let s = c .before .before .before in
+    let s = c .before .before in
     size-counted _ _ (s .size .result) (full (s .before .before)) (s .size .ensures)
 
 returns : tie.Need-returns
