@@ -1,7 +1,7 @@
 //! Torn and random bytes: whatever is handed in is answered by a text or by a refusal, and `ask` holds every byte of
 //! the buffer that must not change against what stood there before.
 
-use crate::common::{ask, requests, sheet, text, told, Random, PLACES, WARD};
+use crate::common::{ask, requests, sheet, told, Random, PLACES, WARD};
 use kitlubas::{admit, Request, Sheet};
 use std::thread;
 
@@ -108,6 +108,28 @@ fn the_longest_sheets() {
     }
 }
 
+/// Runs on a thread of exactly the stack that the crate promises to get along with.
+fn on_a_small_stack(work: impl FnOnce() + Send + 'static) {
+    let thread = thread::Builder::new().stack_size(64 * 1024).spawn(work).expect("a thread can be started");
+    thread.join().expect("the work is done");
+}
+
+/// Asks for a text in each way that there is, straight from the bytes and over the sheet's index: with room for it, and
+/// with a byte too little.
+fn answered(bytes: &[u8], at: (u64, u64), request: Request) {
+    let text = ask(bytes, at, request, 1 << 17, 0).expect("there is a text");
+    assert_eq!(ask(bytes, at, request, text.len() - 1, 0), Err((22, None)));
+}
+
+/// A sheet, and the same made as long as a sheet may be by a node of many groups: the longer one is admitted over the
+/// largest tables.
+fn short_and_long(short: &str) -> [Vec<u8>; 2] {
+    let start = sheet(&format!("{short}N 99 0 0 1 0 0 0 bed\n")).len();
+    let room = (65_536 - start) / sheet("G 100 65535 g\n").len();
+    let groups: String = (100..100 + room).map(|id| format!("G {id} 65535 g\n")).collect();
+    [sheet(short), sheet(&format!("{short}N 99 0 0 1 0 0 0 bed\n{groups}"))]
+}
+
 /// The deepest types, and as many group ids as a sheet holds, on a thread with little stack.
 #[test]
 fn a_small_stack() {
@@ -115,24 +137,17 @@ fn a_small_stack() {
     let brands = format!("{}T 12 0 0 0\nV 16 0\n", "T 16 7 1 0\nS 7 1 1\n".repeat(15));
     let start = "R ::capnp\nN 7 0 0 1 1 0 0 bed\nP Plan\nF 0 65535 0 0 plan\n";
     let groups: String = (1..1300).map(|id| format!("G {id} 65535 g\n")).collect();
-    let work = move || {
+    on_a_small_stack(move || {
         for typ in [lists, brands] {
             let bytes = sheet(&[start, &typ, &groups].concat());
-            assert!(requests().iter().all(|&request| text(&bytes, (7, 0), request).is_ok()));
+            requests().iter().for_each(|&request| answered(&bytes, (7, 0), request));
             let admitted = Sheet::admit(&bytes).expect("it is a sheet");
             assert_eq!(admitted.nodes().flat_map(|node| node.fields()).count(), 1300);
         }
-    };
-    on_a_small_stack(work);
+    });
 }
 
-/// Runs on a thread of exactly the stack that the crate promises to get along with.
-fn on_a_small_stack(work: impl FnOnce() + Send + 'static) {
-    let thread = thread::Builder::new().stack_size(64 * 1024).spawn(work).expect("a thread can be started");
-    thread.join().expect("the work is done");
-}
-
-/// A brand 16 deep over a chain of 16 nodes, bound by the outermost, by the innermost and by every second node.
+/// A brand 16 deep over a chain of 16 nodes, bound by the outermost, by the innermost, by every second node and by all.
 #[test]
 fn the_deepest_brands_on_a_small_stack() {
     let chain: String =
@@ -141,21 +156,27 @@ fn the_deepest_brands_on_a_small_stack() {
         let plain: String = scopes[1..].iter().map(|id| format!("S {id} 1 1\nT 12 0 0 0\n")).collect();
         format!("T 16 1 {} 0\nS {} 1 1\n{inner}{plain}", scopes.len(), scopes[0])
     };
-    for scopes in [vec![16], vec![1], (1..=16).step_by(2).collect::<Vec<u64>>()] {
+    for scopes in [vec![16], vec![1], (1..=16).step_by(2).collect::<Vec<u64>>(), (1..=16).rev().collect()] {
         let typ = (0..15).fold("T 12 0 0 0\n".to_string(), |inner, _| brand(&scopes, &inner));
-        let bytes = sheet(&format!("R ::capnp\n{chain}N 17 0 0 1 0 0 0 ward\nF 0 65535 0 0 plan\n{typ}V 16 0\n"));
-        on_a_small_stack(move || assert!(requests().iter().all(|&request| text(&bytes, (17, 0), request).is_ok())));
+        let short = format!("R ::capnp\n{chain}N 17 0 0 1 0 0 0 ward\nF 0 65535 0 0 plan\n{typ}V 16 0\n");
+        for bytes in short_and_long(&short) {
+            on_a_small_stack(move || requests().iter().for_each(|&request| answered(&bytes, (17, 0), request)));
+        }
     }
 }
 
-/// Groups 16 deep, each with slots and a tag.
+/// Groups 16 deep, each with slots and a tag; and a 17th, which is refused where the deepest calls stand.
 #[test]
 fn the_deepest_groups_on_a_small_stack() {
     let slots = "F 1 65535 0 0 a\nT 7 0 0 0\nV 7 0\nF 1 65535 0 0 b\nT 12 0 0 0\nV 12 0\n";
-    let nodes: String = (1..=16)
+    let nodes: String = (1..=17)
         .map(|id| format!("N {id} 0 0 1 0 2 9 bed\n{slots}G {} 65535 inner\n", id + 1))
-        .chain([format!("N 17 0 0 1 0 2 9 bed\n{slots}")])
+        .chain([format!("N 18 0 0 1 0 2 9 bed\n{slots}")])
         .collect();
-    let bytes = sheet(&format!("R ::capnp\n{nodes}"));
-    on_a_small_stack(move || assert!(text(&bytes, (1, 2), Request::Zeroing).is_ok()));
+    for bytes in short_and_long(&format!("R ::capnp\n{nodes}")) {
+        on_a_small_stack(move || {
+            answered(&bytes, (2, 2), Request::Zeroing);
+            assert_eq!(ask(&bytes, (1, 2), Request::Zeroing, 1 << 17, 0), Err((4, None)));
+        });
+    }
 }
