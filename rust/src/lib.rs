@@ -71,33 +71,63 @@
 //! # Ok::<(), kitlubas::Refusal>(())
 //! ```
 //!
-//! The builder's accessors of a node, written into a file. A getter's text begins with its result type; what stands
-//! around the two is the caller's.
+//! All accessors of a node, written into a file. A getter's text begins with its result type, and ends with the
+//! declaration of its default where it has one; what stands around these, and around the lines that zero a group, is the
+//! caller's.
 //!
 //! ```
-//! use kitlubas::{padded, Form, Kind, Node, Refusal, Request, Sheet, Side};
+//! use kitlubas::{padded, Field, Form, Kind, Node, Refusal, Request, Sheet, Side};
 //!
-//! fn accessors(node: Node<'_, '_>) -> Result<Vec<u8>, Refusal> {
-//!     let side = Side::Builder;
-//!     let mut file = Vec::new();
-//!     for field in node.fields().filter(|field| field.kind() != Kind::Group) {
-//!         let getter = field.text(Request::Getter { side, form: Form::Function })?;
-//!         let (result, code) = getter.split_once('\n').expect("a getter has two lines or more");
-//!         let name = field.styled_name();
-//!         file.extend(format!("#[inline]\npub fn get_{name}(self) {result} {{\n{code}}}\n").bytes());
-//!         field.write_text(Request::Setter, &mut file)?;
-//!         field.write_text(Request::Haser { side }, &mut file)?;
-//!     }
-//!     Ok(file)
+//! /// A getter as a function, and the declaration of its default.
+//! fn getter(field: &Field<'_, '_>, side: Side) -> Result<(String, String), Refusal> {
+//!     let text = field.text(Request::Getter { side, form: Form::Function })?;
+//!     let (result, code) = text.split_once('\n').expect("a result type ends with a newline");
+//!     let (code, default) = code.split_at(code.find("pub(crate) static DEFAULT_").unwrap_or(code.len()));
+//!     let function = format!("#[inline]\npub fn get_{}(self) {result} {{\n{code}}}\n", field.styled_name());
+//!     Ok((function, default.to_string()))
 //! }
 //!
-//! let bytes = padded("R ::capnp\nN 7 0 0 1 0 0 0 bed\nF 3 65535 1 0 isFree\nT 1 0 0 0\nV 1 1\n");
+//! fn accessors(node: Node<'_, '_>) -> Result<String, Refusal> {
+//!     let (mut reader, mut builder, mut defaults) = (String::new(), String::new(), String::new());
+//!     for field in node.fields() {
+//!         if field.kind() == Kind::Group {
+//!             let lines = field.text(Request::Zeroing)?;
+//!             builder += &format!("#[inline]\npub fn zero_{}(&mut self) {{\n{lines}}}\n", field.styled_name());
+//!             continue;
+//!         }
+//!         let (function, default) = getter(&field, Side::Reader)?;
+//!         reader += &function;
+//!         reader += &field.text(Request::Haser { side: Side::Reader })?;
+//!         builder += &getter(&field, Side::Builder)?.0;
+//!         builder += &field.text(Request::Setter)?;
+//!         builder += &field.text(Request::Haser { side: Side::Builder })?;
+//!         defaults += &default;
+//!     }
+//!     Ok(format!(
+//!         "impl<'a> Reader<'a> {{\n{reader}}}\nimpl<'a> Builder<'a> {{\n{builder}}}\nmod _private {{\n{defaults}}}\n"
+//!     ))
+//! }
+//!
+//! let bytes = padded(
+//!     "R ::capnp\n\
+//!      N 7 0 0 1 0 0 0 bed\n\
+//!      F 3 65535 1 0 isFree\nT 1 0 0 0\nV 1 1\n\
+//!      F 0 65535 1 0 wardName\nT 12 0 0 0\nV 12 0\nW 146028888065\nW 6579554\n\
+//!      G 8 65535 stay\n\
+//!      N 8 7 0 1 0 0 0 bed::stay\n\
+//!      F 1 65535 0 0 nights\nT 7 0 0 0\nV 7 0\n",
+//! );
 //! let sheet = Sheet::admit(&bytes)?;
 //! let node = sheet.nodes().next().ok_or("a sheet has a node")?;
-//! let path = std::env::temp_dir().join("bed_accessors.rs");
+//! let path = std::env::temp_dir().join(format!("bed_accessors_{}.rs", std::process::id()));
 //! std::fs::write(&path, accessors(node)?)?;
-//! assert!(std::fs::read_to_string(&path)?.contains("pub fn get_is_free(self) -> bool {"));
+//! let file = std::fs::read_to_string(&path)?;
 //! # std::fs::remove_file(&path)?;
+//! let count = |what: &str| file.matches(what).count();
+//! assert_eq!((count("pub fn get_"), count("pub fn set_"), count("pub fn has_"), count("pub fn zero_")), (4, 2, 2, 1));
+//! assert!(file.contains("pub fn get_is_free(self) -> bool {\nself.reader.get_bool_field_mask(3, true)\n}\n"));
+//! assert!(file.contains("pub fn zero_stay(&mut self) {\nself.builder.set_data_field::<u16>(1, 0u16);\n}\n"));
+//! assert!(file.contains("mod _private {\npub(crate) static DEFAULT_WARD_NAME: [::capnp::Word; 2] = ["));
 //! # Ok::<(), Box<dyn std::error::Error>>(())
 //! ```
 //!
