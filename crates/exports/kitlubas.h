@@ -27,7 +27,7 @@
  *   12  the explicit default of an enum is not an enum's, so that there is no setter
  *   13  a type parameter's index is past the parameters of its node
  *   14  the node of a group is not a struct
- *   15  there is no such node, field or leaf, or such a request is not for such a field
+ *   15  there is no such node, field, leaf or request, or such a request is not for such a field
  *   21  the fill count is above the buffer's length
  *   22  the text is longer than the free part of the buffer
  */
@@ -44,7 +44,7 @@ extern "C" {
 /* How many numbers a field has, as kitlubas_field puts them for kitlubas_text. */
 enum { KITLUBAS_FIELD_SIZE = 14 };
 
-/* What is asked of a field. Any other number is refused as a leaf that there is not. */
+/* What is asked of a field. Any other number is no request, which is 15. */
 enum {
     KITLUBAS_TYPE_TEXT = 0,               /* the text of a slot's type, at a leaf */
     KITLUBAS_GETTER_READER = 1,           /* a slot's getter: result type, newline, code, and the default's declaration */

@@ -1,8 +1,8 @@
 -- What the code's answer says of a request is what is told at the boundary: by the two cases of the answer. Assumes nothing.
 use mathlib.Core.Path.{_≡_, refl, sym, ap, subst, _∙_}
-use mathlib.Core.List.{List, [], _∷_}
-use Prim.Native.Nat.{ℕ, zero, suc, _-_, _^_, _≤_}
-use lib.ListN.{length, take, getD}
+use mathlib.Core.Option.{none}
+use Prim.Native.Nat.{ℕ, _≤_}
+use lib.ListN.{take}
 use native.Mathlib.Omega.{arith}
 use Rattle.text.specs.Bytes.{Str}
 use Rattle.text.specs.Text.{stateAt}
@@ -14,8 +14,8 @@ use Rattle.requests.specs.declared.Request.{Request}
 use Rattle.requests.specs.Told.{inNumbers, Answered, AnswerWithin}
 use Rattle.requests.specs.declared.Answer.{Answer}
 use Rattle.requests.specs.declared.Answer.the-variants.{Done, Refused}
+use Rattle.nodes.proofs.NameLaws.{names-out}
 use Rattle.requests.proofs.LeafLaws.{more}
-use Rattle.requests.specs.declared.Accessor.the-variants.{TypeText}
 use Rattle.exports.specs.Boundary.{numberIn, lineIn, fillIn, replyOf, ask, accessors, accessorNumbered, Said, Asked}
 
 -- a request that comes to o, asked at the state t of a fill count
@@ -66,14 +66,9 @@ said-refused fill r k line e = rw e (record { number-is = refl; line-is = refl; 
 -- a number that is none of the nine
 pub no-accessor :
     (n leaf : ℕ) → (n ≡ 0 → ⊥) → (n ≡ 1 → ⊥) → (n ≡ 2 → ⊥) → (n ≡ 3 → ⊥) → (n ≡ 4 → ⊥) → (n ≡ 5 → ⊥) → (n ≡ 6 → ⊥) → (n ≡ 7 → ⊥)
-    → (n ≡ 8 → ⊥) → TypeText (2 ^ 64 - 1) ≡ accessorNumbered n leaf
+    → (n ≡ 8 → ⊥) → none ≡ accessorNumbered n leaf
 unfolding accessorNumbered
 no-accessor n leaf a b c d e f g h i =
     let z : 9 ≤ n = more n 8 (more n 7 (more n 6 (more n 5 (more n 4 (more n 3 (more n 2 (more n 1 (more n 0
     (omega arith) a) b) c) d) e) f) g) h) i in
-    sym (getD-past (accessors leaf) n (TypeText (2 ^ 64 - 1)) z)
-  where
-    getD-past : {A : Type 0} (l : List A) (n : ℕ) (x : A) → length l ≤ n → getD l n x ≡ x
-    getD-past [] n x h = refl
-    getD-past (y ∷ l) zero x h = let w : ⊥ = omega arith in absurd w
-    getD-past (y ∷ l) (suc n) x h = getD-past l n x (omega arith)
+    sym (names-out n (accessors leaf) z)

@@ -15,7 +15,7 @@ use Rattle.tree.specs.Tree as tree
 use Rattle.tree.specs.Tree.{Arm, slot, group, Node}
 use Rattle.tree.specs.Fields.{FieldsHere}
 use Rattle.tree.proofs.OtherLines.{never}
-use Rattle.codegen_types.specs.Out.{Out}
+use Rattle.codegen_types.specs.Out.{Out, ok, refused, _then_}
 use Rattle.nodes.specs.Index.{nth, entryWith, Indexed, Finds}
 use Rattle.nodes.specs.declared.Entry.{Entry}
 use Rattle.nodes.specs.declared.Found.the-variants as found
@@ -28,7 +28,9 @@ use Rattle.field.specs.declared.Group.{Group}
 use Rattle.field.specs.declared.Field.{Field}
 use Rattle.field.specs.declared.Field.the-variants as field
 use Rattle.field.proofs.NumbersLaws.{field-put}
-use Rattle.requests.specs.Told.{passNumbers, Passed, PassWithin}
+use Rattle.requests.specs.Requests.{there}
+use Rattle.requests.specs.Told.{passNumbers, Passed, PassWithin, inNode}
+use Rattle.requests.specs.declared.Accessor.{Accessor}
 use Rattle.requests.specs.declared.Pass.{Pass}
 use Rattle.requests.specs.declared.Pass.the-variants.{Whole}
 use Rattle.exports.specs.Boundary.{lengthTold, PassTold, NodeSaid, kindTold, FieldSaid, FirstPut}
@@ -42,6 +44,20 @@ pass-told o l l′ r p number size h e n m =
       length-is = m ∙ ap (λ (x : ℕ × Option ℕ). lengthTold (x .1)) z;
       text = h .text;
     }
+
+-- a number that no text has is 15, whatever the node and the field
+pub unknown-told : (ns : List Node) (k : ℕ) (o : Option tree.Field) (g : Node × tree.Field → Accessor → Out Str) (l : Str)
+    → PassTold (inNode ns k o then λ at. there none then g at) l l 15 0
+unknown-told ns k o g l = go (nth k ns) o
+  where
+    not-there : PassTold (refused 15) l l 15 0
+    not-there = record { number-is = refl; length-is = refl; text = λ w e h. never cc }
+
+    go : (n : Option Node) (o : Option tree.Field)
+        → PassTold ((there n then λ n. there o then λ f. ok (n, f)) then λ at. there none then g at) l l 15 0
+    go (some n) (some f) = not-there
+    go (some n) none = not-there
+    go none o = not-there
 
 -- a whole text is within its buffer
 pub whole-within : (l : Str) (r : Pass) (n : ℕ) → PassWithin l r → r ≡ Whole n → n ≤ length l

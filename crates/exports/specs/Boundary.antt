@@ -6,7 +6,7 @@ use mathlib.Core.List.{List, [], _∷_}
 use mathlib.Core.Option.{Option, none, some}
 use Prim.Native.Nat.{ℕ, _-_, _%_, _^_, _≤_, min}
 use lib.Dec.{eqb}
-use lib.ListN.{length, take, drop, getD}
+use lib.ListN.{length, take, drop}
 use Rattle.text.specs.Bytes.{Str, cond, either}
 use Rattle.text.specs.Decimal.{signed}
 use Rattle.text.specs.Text.{adv, put, stateAt}
@@ -23,9 +23,10 @@ use Rattle.sheet.specs.Admission.{IndexOf}
 use Rattle.codegen_types.specs.Out.{Out, ok, _then_}
 use Rattle.field.specs.Field.{FindsField}
 use Rattle.field.specs.Numbers.{fieldSize, fieldIn}
-use Rattle.requests.specs.Requests.{accessorText, ofField, Outcome, outcomeOf, entryAnswer, entryBuffer}
+use Rattle.requests.specs.Requests.{there, accessorText, ofField, Outcome, outcomeOf, entryAnswer, entryBuffer}
 use Rattle.requests.specs.Told.{passOf, inNode}
 use Rattle.requests.specs.declared.Request.{Request}
+use Rattle.requests.specs.declared.Request.the-variants.{Unknown}
 use Rattle.requests.specs.declared.Accessor.{Accessor}
 use Rattle.requests.specs.declared.Accessor.the-variants.{TypeText, Getter, Setter, Haser, Zeroing}
 
@@ -96,13 +97,17 @@ accessors leaf =
     ∷ Getter true false ∷ Getter false false ∷ Getter true true ∷ Getter false true
     ∷ Setter ∷ Haser true ∷ Haser false ∷ Zeroing ∷ []
 
--- any other number asks for a type's text at a leaf that there is not: 15, in its place among the refusals
-unfoldable pub accessorNumbered : ℕ → ℕ → Accessor
-accessorNumbered number leaf = getD (accessors leaf) number (TypeText (2 ^ 64 - 1))
+-- no other number is a text's
+unfoldable pub accessorNumbered : ℕ → ℕ → Option Accessor
+accessorNumbered number leaf = nth number (accessors leaf)
 
--- the request for such a text of the field at a place
+-- the request for such a text of the field at a place; what has no text is no request, which is 15
+abbrev pub requested : ℕ → Option Accessor → Request
+requested place (some accessor) = ofField place accessor
+requested place none = Unknown
+
 abbrev pub requestOf : ℕ → ℕ → ℕ → Request
-requestOf number place leaf = ofField place (accessorNumbered number leaf)
+requestOf number place leaf = requested place (accessorNumbered number leaf)
 
 -- over a fill count, an answer leaves fill′, and is told by a number and a line
 pub record Said (a : text.Answer) (fill fill′ number line : ℕ) : Type 0 where
@@ -143,12 +148,12 @@ pub record PassTold (o : Out Str) (l l′ : Str) (number size : ℕ) : Type 0 wh
   pub length-is : size ≡ lengthTold (passOf (length l) o .1)
   pub text : (w : Str) → o ≡ ok w → length w ≤ length l → l′ ≡ text.placed l 0 w
 
--- a text of the field with these numbers, in the node with a number
-abbrev pub TextTold : Str → List ℕ → ℕ → List ℕ → Accessor → Str → Str → ℕ → ℕ → Type 0
+-- a text of the field with these numbers, in the node with a number; 15 where there is no such text
+abbrev pub TextTold : Str → List ℕ → ℕ → List ℕ → Option Accessor → Str → Str → ℕ → ℕ → Type 0
 TextTold s index node numbers accessor l l′ number size =
     ForAll (line.textAt (rows s)) s index
     (λ sh. (o : Option tree.Field) → FindsField s (fieldIn numbers) o
-    → PassTold (inNode (sh .nodes) node o then λ at. accessorText sh at accessor) l l′ number size)
+    → PassTold (inNode (sh .nodes) node o then λ at. there accessor then accessorText sh at) l l′ number size)
 
 -- a node is told by its id, the place and the length of its module in s, and where its first field stands
 pub record NodeIs (s : Str) (n : Node) (number id at size first : ℕ) : Type 0 where

@@ -1,5 +1,6 @@
 // One admission, many requests: the index of a sheet's nodes in the caller's memory, and what is asked over it. Over any bytes
 // and any index every function returns; what it says of the sheet holds for an index of these bytes' nodes.
+use crate::AccessorNumber;
 use crate::accessor_of;
 use crate::request_of;
 use crate::say;
@@ -93,7 +94,10 @@ pub extern "C" fn kitlubas_text(
         (accessorNumbered request leaf) (now (buf .entry)) (now (buf .exit)) r (now (size .exit)) ⌝ }
     ensures within { λ r. ⌜ (r ≡ 0 → now (size .exit) ≤ length (now (buf .entry))) ⌝ }
 {
-    let accessor = accessor_of(request, leaf);
+    let AccessorNumber::Is(accessor) = accessor_of(request, leaf) else {
+        *size = 0;
+        return refusals::NOT_THERE;
+    };
     let pass = requests::text(s, index, node, field::get(field), accessor, buf);
     match pass {
         Pass::Whole(n) => {

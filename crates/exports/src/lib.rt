@@ -23,6 +23,7 @@ ghost use Rattle.text.specs.Decimal.{decimal};
 ghost use Rattle.text.specs.Lines.{Line, BlankLine, Branch, none, toLines, stringify, ended};
 ghost use Rattle.requests.specs.Told.{inNumbers};
 ghost use Rattle.exports.specs.Boundary.{Fills, FillsName, Signed, Told, Asked, ask, Said, accessorNumbered, requestOf};
+ghost use Rattle.exports.specs.Parts.{accessorSaid};
 ghost use mathlib.Core.Path.{_≡_};
 ghost use Prim.Native.Nat.{_-_, _^_, min};
 
@@ -153,44 +154,51 @@ fn say(answer: Answer, fill: &mut usize, line: &mut usize) -> u64
     }
 }
 
+// What the number of a field's text says.
+enum AccessorNumber {
+    Is(Accessor),
+    Nothing,
+}
+
 // The text of a field with a number: 0 is its type's text for a leaf, 1 and 2 are the getters of reader and builder, 3 and 4 the
-// same as functions, 5 is the setter, 6 and 7 are the hasers of reader and builder, 8 is the zeroing. Any other number asks for a
-// leaf that there is not.
-fn accessor_of(number: u64, leaf: u64) -> Accessor
-    ensures { λ r. ⌜ r ≡ accessorNumbered number leaf ⌝ }
+// same as functions, 5 is the setter, 6 and 7 are the hasers of reader and builder, 8 is the zeroing.
+fn accessor_of(number: u64, leaf: u64) -> AccessorNumber
+    ensures { λ r. ⌜ accessorSaid r ≡ accessorNumbered number leaf ⌝ }
 {
     match number {
-        0 => Accessor::TypeText { leaf },
-        1 => Accessor::Getter {
+        0 => AccessorNumber::Is(Accessor::TypeText { leaf }),
+        1 => AccessorNumber::Is(Accessor::Getter {
             is_reader: true,
             is_fn: false,
-        },
-        2 => Accessor::Getter {
+        }),
+        2 => AccessorNumber::Is(Accessor::Getter {
             is_reader: false,
             is_fn: false,
-        },
-        3 => Accessor::Getter {
+        }),
+        3 => AccessorNumber::Is(Accessor::Getter {
             is_reader: true,
             is_fn: true,
-        },
-        4 => Accessor::Getter {
+        }),
+        4 => AccessorNumber::Is(Accessor::Getter {
             is_reader: false,
             is_fn: true,
-        },
-        5 => Accessor::Setter,
-        6 => Accessor::Haser { is_reader: true },
-        7 => Accessor::Haser { is_reader: false },
-        8 => Accessor::Zeroing,
-        _ => Accessor::TypeText { leaf: u64::MAX },
+        }),
+        5 => AccessorNumber::Is(Accessor::Setter),
+        6 => AccessorNumber::Is(Accessor::Haser { is_reader: true }),
+        7 => AccessorNumber::Is(Accessor::Haser { is_reader: false }),
+        8 => AccessorNumber::Is(Accessor::Zeroing),
+        _ => AccessorNumber::Nothing,
     }
 }
 
-// The request for that text of the field at a place.
+// The request with a number: for that text of the field at a place, or for nothing that there is.
 fn request_of(number: u64, place: u64, leaf: u64) -> Request
     ensures { λ r. ⌜ r ≡ requestOf number place leaf ⌝ }
 {
-    let accessor = accessor_of(number, leaf);
-    Request { place, accessor }
+    match accessor_of(number, leaf) {
+        AccessorNumber::Is(accessor) => Request::Field { place, accessor },
+        AccessorNumber::Nothing => Request::Unknown,
+    }
 }
 
 // The answer to the request with a number.

@@ -25,6 +25,7 @@ use Rattle.nodes.specs.Index.{byId, nth}
 use Rattle.requests.specs.declared.Accessor.{Accessor}
 use Rattle.requests.specs.declared.Accessor.the-variants.{TypeText, Getter, Setter, Haser, Zeroing}
 use Rattle.requests.specs.declared.Request.{Request}
+use Rattle.requests.specs.declared.Request.the-variants as request
 
 -- what may be missing is there, or is 15
 abbrev pub there : {A : Type 0} → Option A → Out A
@@ -82,12 +83,13 @@ accessorText sheet at Zeroing = groupOf (at .1 .arm) then zeroingRequest sheet
 
 -- the request for a text of the field at a place
 abbrev pub ofField : ℕ → Accessor → Request
-ofField place accessor = record { place = place; accessor = accessor }
+ofField = request.Field
 
--- the text of a request of the node with an id, or the number of its refusal
+-- the text of a request of the node with an id, or the number of its refusal; what is no request is 15
 abbrev pub requestText : Sheet → ℕ → Request → Out Str
-requestText sheet id request =
-    fieldAt (sheet .nodes) id (request .place) then λ at. accessorText sheet at (request .accessor)
+requestText sheet id (request.Field place accessor) =
+    fieldAt (sheet .nodes) id place then λ at. accessorText sheet at accessor
+requestText sheet id request.Unknown = refused 15
 
 -- ---- the answer
 

@@ -26,6 +26,7 @@ ghost use Rattle.requests.specs.Enums.{leafSaid};
 ghost use Rattle.requests.specs.Told.{LocatedIn, AccessorWritten, FieldAnswered, PlaceAnswered, RequestAnswered, Answered};
 ghost use Rattle.requests.specs.Told.{AnswerWithin, FieldPassed, TextPassed, PassWithin};
 ghost use Rattle.requests.specs.declared.Accessor.the-variants.{TypeText, Haser};
+ghost use Rattle.requests.specs.declared.Answer.the-variants.{Refused};
 
 // How many numbers are room enough for the index of a sheet of at most 3,072 bytes.
 const SHORT_INDEX: usize = 253;
@@ -40,10 +41,11 @@ pub enum Accessor {
     Zeroing,
 }
 
-// What can be requested of a node: a text of its field at a place.
-pub struct Request {
-    pub place: u64,
-    pub accessor: Accessor,
+// What can be requested of a node: a text of its field at a place; or, as it is asked by a number that names no request, nothing
+// that there is, which is 15.
+pub enum Request {
+    Field { place: u64, accessor: Accessor },
+    Unknown,
 }
 
 // The state past the text, or document 01's number of a refusal and its line, 0 where it names none.
@@ -70,6 +72,13 @@ struct Located {
 enum LeafNumber {
     Is(Leaf),
     Nothing,
+}
+
+// The refusal with a number, which names no line: it is no refusal of the sheet.
+fn refused(number: u64) -> Answer
+    ensures { λ r. ⌜ r ≡ Refused number 0 ⌝ }
+{
+    Answer::Refused { number, line: 0 }
 }
 
 // The leaf with a number: 0 to 3 are Reader and Builder, first with 'a, then with '_.
@@ -237,16 +246,13 @@ fn answer_found(
     let measured = write_accessor(root, s, index, tag, field, accessor, start, &mut empty);
     let refusal = measured.refusal;
     if let Refusal::Number(number) = refusal {
-        return Answer::Refused { number, line: 0 };
+        return refused(number);
     }
     let end = measured.text;
     let n = end.fill();
     let fill = t.fill();
     if buf.len() - fill < n {
-        return Answer::Refused {
-            number: refusals::NO_ROOM,
-            line: 0,
-        };
+        return refused(refusals::NO_ROOM);
     }
     write_accessor(
         root,
@@ -279,10 +285,7 @@ fn answer_field(
     let located = locate(s, index, id, place);
     let field = located.field;
     match field {
-        Field::Nothing => Answer::Refused {
-            number: refusals::NOT_THERE,
-            line: 0,
-        },
+        Field::Nothing => refused(refusals::NOT_THERE),
         _ => answer_found(s, index, located.tag, field, accessor, t, buf),
     }
 }
@@ -302,13 +305,14 @@ pub fn answer_in(
     ensures within { λ r. ⌜ AnswerWithin (now (buf .entry)) t (now (buf .exit)) r ⌝ }
 {
     if buf.len() < t.fill() {
-        return Answer::Refused {
-            number: refusals::FILL_PAST_END,
-            line: 0,
-        };
+        return refused(refusals::FILL_PAST_END);
     }
-    let Request { place, accessor } = request;
-    answer_field(s, index, id, place, accessor, t, buf)
+    match request {
+        Request::Field { place, accessor } => {
+            answer_field(s, index, id, place, accessor, t, buf)
+        }
+        Request::Unknown => refused(refusals::NOT_THERE),
+    }
 }
 
 // The answer to a request of the node with an id, over an index that has room for the sheet's nodes: the sheet's own refusal,
@@ -359,10 +363,7 @@ pub fn answer_request(s: &[u8], id: u64, request: Request, t: Text, buf: &mut [u
         (now (buf .exit)) r ⌝ }
 {
     if buf.len() < t.fill() {
-        return Answer::Refused {
-            number: refusals::FILL_PAST_END,
-            line: 0,
-        };
+        return refused(refusals::FILL_PAST_END);
     }
     if s.len() <= 3072 {
         return answer_short(s, id, request, t, buf);

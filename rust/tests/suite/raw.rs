@@ -219,6 +219,19 @@ fn field(bytes: &[u8], at: usize, length: usize) -> (Vec<u64>, Option<Values>) {
     (field, (refusal == 0).then_some(values))
 }
 
+/// A number that no request has is 15, at any leaf, after what the sheet itself is refused for.
+#[test]
+fn numbers_of_no_request() {
+    let ward = sheet(WARD);
+    for request in [9, 10, 1 << 32, u64::MAX] {
+        for leaf in [0, 9, 10, u64::MAX] {
+            assert_eq!(text(&ward, (7, 0), request, leaf), Err(15));
+            assert_eq!(text(&ward[1..], (7, 0), request, leaf), Err(2));
+            assert_eq!(text(&vec![b' '; 65_537], (7, 0), request, leaf), Err(1));
+        }
+    }
+}
+
 #[test]
 fn the_size_of_an_index() {
     assert!((0..70_000).chain([usize::MAX, usize::MAX / 2 + 1]).all(|length| index_size(length) <= 1025));

@@ -12,13 +12,15 @@ use Rattle.requests.proofs.answer_field.Tie as tie
 
 returns : tie.Need-returns
 returns c =
-    let at-locate = c .before .before in
+    let at-enum-told = c .before in
+    let at-locate = at-enum-told .before .before in
     let start = at-locate .before .before .before .before in
-    let a = start .args in (
+    let a = start .args in
+    rw (c .refused .ensures) (
       λ nodes x.
           nowhere (a .s .now) (at-locate .locate .result) (λ at. accessorText (sheetOf (textAt (rows (a .s .now))) nodes) at
           (a .accessor)) _ _
-          (fieldAt nodes (a .id) (a .place)) ((at-locate .locate .ensures) nodes x) (c .enum-told .given .1) (start .pre),
+          (fieldAt nodes (a .id) (a .place)) ((at-locate .locate .ensures) nodes x) (at-enum-told .enum-told .given .1) (start .pre),
       refl,
     )
 
@@ -43,6 +45,7 @@ answer-field-spec =
     (tie.spec
     (λ c κs. search needs)
     (λ c. search needs)
+    (λ c κs. search needs)
     (λ c κs. search needs)
     returns
     (λ c. search needs)

@@ -19,12 +19,13 @@ room c = search needs
 
 returns : tie.Need-returns
 returns c =
-    let at-refusal = c .before in
+    let at-refusal = c .before .before in
     let at-write-accessor = at-refusal .before .before .before in
     let at-at = at-write-accessor .before .before in
     let at-text = at-at .before in
     let start = at-text .before .before .before .before in
-    let a = start .args in (
+    let a = start .args in
+    rw (c .refused .ensures) (
       λ nodes x at e h.
           own-refusal (accessorText (sheetOf (textAt (rows (a .s .now))) nodes) at (a .accessor)) (a .buf .now) (a .t)
           (start .pre)
@@ -35,19 +36,21 @@ returns c =
 
 returns-2 : tie.Need-returns-2
 returns-2 c =
-    let at-fill2 = c .before in
+    let at-if1 = c .before in
+    let at-fill2 = at-if1 .before in
     let at-fill = at-fill2 .before in
     let at-enum-told = at-fill .before .before in
     let at-write-accessor = at-enum-told .before .before .before in
     let at-at = at-write-accessor .before .before in
     let at-text = at-at .before in
     let start = at-text .before .before .before .before in
-    let a = start .args in (
+    let a = start .args in
+    rw (c .refused2 .ensures) (
       λ nodes x at e h.
           own-long (accessorText (sheetOf (textAt (rows (a .s .now))) nodes) at (a .accessor)) (a .buf .now) (a .t) (start .pre)
           (at-at .at .ensures) _ _ _ (rw (at-text .text .ensures) at (at-write-accessor .write-accessor .ensures .0 nodes x at
           e h)) _ _ (room start)
-          (at-enum-told .enum-told .given .1) (at-fill .fill .ensures) (at-fill2 .fill2 .ensures) (c .if1 .taken),
+          (at-enum-told .enum-told .given .1) (at-fill .fill .ensures) (at-fill2 .fill2 .ensures) (at-if1 .if1 .taken),
       refl,
     )
 
@@ -95,11 +98,13 @@ answer-found-spec =
     (λ c. search needs)
     (λ c κs. search needs)
     (λ c. search needs)
+    (λ c κs. search needs)
     returns
     (λ c. search needs)
     (λ c κs. search needs)
     (λ c κs. search needs)
     (λ c. search needs)
+    (λ c κs. search needs)
     returns-2
     (λ c. search needs)
     (λ c. search needs)

@@ -7,9 +7,14 @@ use Rattle.requests.proofs.answer_request.Tie as tie
 
 returns : tie.Need-returns
 returns c =
-    let at-fill = c .before in
+    let at-if1 = c .before in
+    let at-fill = at-if1 .before in
     let start = at-fill .before .before .before in
-    past-end (start .args .buf .now) (start .args .t) _ (omega (arith, (at-fill .fill .ensures), (c .if1 .taken)))
+    rw (c .refused .ensures) (past-end (start .args .buf .now) (start .args .t) _ (omega (
+      arith,
+      at-fill .fill .ensures,
+      at-if1 .if1 .taken,
+    )))
 
 answer-short-requires : tie.Need-answer-short-requires
 answer-short-requires c κs =
@@ -24,6 +29,7 @@ pub answer-request-spec : {M : Type 1} → statement M
 answer-request-spec =
     tie.close
     (tie.spec
+    (λ c κs. search needs)
     (λ c κs. search needs)
     returns
     answer-short-requires
