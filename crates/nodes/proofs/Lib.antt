@@ -1,4 +1,5 @@
 pub mod NameLaws
+pub mod RowLaws
 pub mod Laws
 pub mod PutLaws
 pub mod SizeLaws

@@ -191,8 +191,7 @@ fn skip(s: &[u8], from: usize, count: u64) -> usize
     let mut at = from;
     let mut n = count;
     while 0 < n {
-        let g = row::next(s, at);
-        at = g.next;
+        at = row::row_end(s, at);
         n -= 1;
     }
     at

@@ -4,6 +4,7 @@ use lib.ListN.{drop}
 use borrow.Author.Needs.{needs}
 use Rattle.row.specs.Rows.{rows}
 use Rattle.nodes.specs.Index.{rowsAfter}
+use Rattle.nodes.proofs.RowLaws.{row-after}
 use Rattle.nodes.proofs.NameLaws.{after-more, after-none}
 use Rattle.nodes.proofs.skip.Statement.{statement}
 use Rattle.nodes.proofs.skip.Tie as tie
@@ -24,7 +25,7 @@ loop-again : tie.Need-loop-again Inv-loop μ-loop
 loop-again c =
     let at-test = c .before in
     let at-loop = at-test .before in
-    at-loop .loop .inv ∙ after-more _ _ (at-test .loop-test .taken) ∙ rw (c .next .ensures .1)
+    at-loop .loop .inv ∙ after-more _ _ (at-test .loop-test .taken) ∙ rw (row-after _ _ _ (c .row-end .ensures))
 
 returns : tie.Need-returns Inv-loop μ-loop
 returns c =

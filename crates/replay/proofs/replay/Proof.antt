@@ -8,10 +8,10 @@ use Rattle.replay.proofs.replay.Statement.{statement}
 use Rattle.replay.proofs.replay.Tie as tie
 
 abbrev Inv-loop : tie.InvT-loop
-Inv-loop buf₀ cases at₀ buf at = length buf ≡ length buf₀
+Inv-loop cases buf₀ at₀ buf at = length buf ≡ length buf₀
 
 abbrev μ-loop : tie.MeasureT-loop
-μ-loop buf₀ cases at₀ buf at = length cases - at
+μ-loop cases buf₀ at₀ buf at = length cases - at
 
 pub replay-spec : {M : Type 1} → statement M
 replay-spec =
