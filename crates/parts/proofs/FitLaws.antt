@@ -118,3 +118,8 @@ module _ (l l′ : Str) (n : ℕ) (h : n ≤ length l) where
       ap (λ (k : ℕ). take (k + m) (back l n l′)) (sym (length-take-le n l h))
       ∙ take-append-add (take n l) _ m
       ∙ ap (λ (x : Str). take n l ++ x) (take-append-le m l′ _ g)
+
+-- ---- a buffer of which the first n bytes are lent
+
+pub front-length : (l l′ : Str) (n : ℕ) → n ≤ length l → length l′ ≡ length (take n l) → length (l′ ++ drop n l) ≡ length l
+front-length l l′ n h e = simp (length-append, length-drop) (omega (arith, e, length-take-le n l h))

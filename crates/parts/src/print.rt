@@ -1,9 +1,9 @@
 // Prints a sheet piece by piece. Each piece is as many whole units as the output buffer holds; the unit that does not fit behind
-// them is the first of the next piece. No contract can say what is written: what is proved is that the pieces which `fill` makes
-// from `start` on, one after the other, are all that document 01 says (`claims`), over whatever buffers. That each is written
-// once, in this order, is what the loop of `print_pieces` is to be read for, and `print_sheet` for this: `print_large` goes on
-// at the place that `print_small` came to. `print_small` asks that all is left where it begins, and `print_large` for a place of
-// the same sheet (`Reached`) where something is left.
+// them is the first of the next piece. What is proved is that the pieces which `fill` makes from `start` on, one after the other,
+// are all that document 01 says (`claims`), over whatever buffers; and that nothing is handed to the system but such a piece, at
+// its place (`hand`). `print_small` asks that all is left where it begins, and `print_large` for a place of the same sheet
+// (`Reached`) where something is left. What no contract can say, that `print_large` goes on at the place that `print_small` came
+// to, is what `print_sheet` is to be read for.
 use crate::Came;
 use crate::Fit;
 use crate::Piece;
@@ -31,7 +31,7 @@ ghost use Rattle.tree.specs.Read.{admitted};
 ghost use Rattle.nodes.specs.Index.{indexSize, Indexed, nth};
 ghost use Rattle.parts.specs.Program.{refusedSheetText, programText};
 ghost use Rattle.parts.specs.Fit.{unitMost, Within, TakesAtMost, Puts};
-ghost use Rattle.parts.specs.Left.{Left, mostLeft, Enters, Turns, Filled, Reached, Comes};
+ghost use Rattle.parts.specs.Left.{Left, mostLeft, Enters, Gives, Turns, Filled, Reached, Comes};
 ghost use Rattle.parts.specs.Pieces.{PiecesHold};
 ghost use Rattle.parts.specs.declared.Place.the-variants.{At, End};
 
@@ -179,6 +179,14 @@ fn fill(s: &[u8], index: &[u64], place: Place, out: &mut [u8]) -> Piece
     }
 }
 
+// Hands a piece to standard output, and tells whether all of it was written. It and what is left at the next place are what was
+// left at the place before. Nothing is said of its bytes afterwards, so that they can't be handed over a second time.
+fn hand(s: &[u8], index: &[u64], place: Place, piece: &mut [u8], next: Place) -> bool
+    requires { ⌜ Gives (now s) (now index) place (now piece) next ⌝ }
+{
+    io::write_all(STDOUT_FILENO, piece)
+}
+
 // Prints a sheet from a place on, up to the end or to a unit that the buffer has no room for.
 fn print_pieces(s: &[u8], index: &[u64], start: Place, out: &mut [u8]) -> Came
     requires { ⌜ Reached (now s) (now index) start ⌝ }
@@ -192,7 +200,7 @@ fn print_pieces(s: &[u8], index: &[u64], start: Place, out: &mut [u8]) -> Came
         if n == 0 {
             return Came::To(next);
         }
-        if !io::write_all(STDOUT_FILENO, &out[..n]) {
+        if !hand(s, index, place, &mut out[..n], next) {
             return Came::Failed;
         }
         place = next;
