@@ -30,7 +30,8 @@ use Rattle.field.specs.declared.Field.{Field}
 use Rattle.field.specs.declared.Field.the-variants as field-is
 use Rattle.parts.specs.Program.{eachText, fieldText, nodeText, refusedSheetText, programText}
 use Rattle.parts.specs.Fit.{unitMost, TakesAtMost, Puts, FieldPut}
-use Rattle.parts.specs.Left.{sheetIn, LeftAt, Left, mostLeft, Enters, Goes, Gives, Turns, Filled, Reached, Comes}
+use Rattle.parts.specs.Left.{sheetIn, LeftAt, Left, Goes, Gives}
+use Rattle.parts.specs.Steps.{mostLeft, Enters, Turns, Filled, Reached, Comes}
 use Rattle.parts.specs.declared.Fit.{Fit}
 use Rattle.parts.specs.declared.Fit.the-variants.{Whole, Short}
 use Rattle.parts.specs.declared.Place.{Place}

@@ -1,9 +1,8 @@
--- The pieces that are written one after the other are what was left where they began. By induction on the pieces. Assumes
+-- The pieces that are handed over one after the other are what was left where they began. By induction on the pieces. Assumes
 -- nothing.
 use mathlib.Core.Path.{_≡_, sym, ap, _∙_}
 use mathlib.Core.List.{List, _++_}
 use Prim.Native.Nat.{ℕ}
-use lib.ListN.{take}
 use Rattle.text.specs.Bytes.{Str}
 use Rattle.row.specs.Rows.{joined}
 use Rattle.parts.specs.Left.{Left}
@@ -15,9 +14,9 @@ joined-pieces :
     → Printed s index place pieces → joined pieces ≡ text
 unfolding joined
 joined-pieces s index text left none = sym left
-joined-pieces s index text left (more {l′ = l′} {r = r} f later) =
-    let g = f .gives .goes text left in
-    ap (λ (x : Str). take (r .n) l′ ++ x) (joined-pieces s index (g .rest) (g .left) later) ∙ g .joined
+joined-pieces s index text left (more {piece = piece} f later) =
+    let g = f .goes text left in
+    ap (λ (x : Str). piece ++ x) (joined-pieces s index (g .rest) (g .left) later) ∙ g .joined
 
 pub pieces-hold : PiecesHold
 pieces-hold s index place pieces left printed = joined-pieces s index _ left printed

@@ -10,7 +10,8 @@ use Rattle.sheet.specs.declared.Answer.{Answer}
 use Rattle.sheet.specs.declared.Answer.the-variants as answer
 use Rattle.requests.proofs.SheetLaws.{of-sheet, of-refusal}
 use Rattle.parts.specs.Program.{programText}
-use Rattle.parts.specs.Left.{Left, Enters}
+use Rattle.parts.specs.Left.{Left}
+use Rattle.parts.specs.Steps.{Enters}
 use Rattle.parts.specs.declared.Place.{Place}
 use Rattle.parts.specs.declared.Place.the-variants.{Refused}
 

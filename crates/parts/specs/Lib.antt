@@ -2,4 +2,5 @@ pub mod Program
 pub mod Fit
 pub mod Left
 pub mod Pieces
+pub mod Steps
 pub mod Examples

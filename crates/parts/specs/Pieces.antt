@@ -1,23 +1,21 @@
--- The pieces that are written one after the other are the whole output. Assumes nothing.
+-- The pieces that are handed over one after the other are the whole output. Assumes nothing.
 use mathlib.Core.Path.{_≡_}
 use mathlib.Core.List.{List, [], _∷_}
 use Prim.Native.Nat.{ℕ}
-use lib.ListN.{take}
 use Rattle.text.specs.Bytes.{Str}
 use Rattle.row.specs.Rows.{joined}
 use Rattle.tree.specs.Read.{admitted}
 use Rattle.parts.specs.Program.{programText}
-use Rattle.parts.specs.Left.{Left, Filled}
+use Rattle.parts.specs.Left.{Left, Gives}
 use Rattle.parts.specs.declared.Place.{Place}
 use Rattle.parts.specs.declared.Place.the-variants.{End}
-use Rattle.parts.specs.declared.Piece.{Piece}
 
--- the pieces from a place on, as they are written: each is what `fill` leaves in a buffer, small or large, at the place after
--- the one before, up to the end; an empty one need not be written
+-- the pieces from a place on, as they are handed over: each is what `hand` asks for at the place after the one before, up to the
+-- end
 pub data Printed (s index : List ℕ) : Place → List Str → Type 0 where
   none : Printed s index End []
-  more : {place : Place} {l l′ : Str} {r : Piece} {pieces : List Str} → Filled s index place l l′ r
-      → Printed s index (r .next) pieces → Printed s index place (take (r .n) l′ ∷ pieces)
+  more : {place next : Place} {piece : Str} {pieces : List Str} → Gives s index place piece next
+      → Printed s index next pieces → Printed s index place (piece ∷ pieces)
 
 -- joined, they are what document 01 says of the sheet s, if that is left where they begin, as `start` says
 abbrev pub PiecesHold : Type 0

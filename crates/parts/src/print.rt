@@ -31,8 +31,9 @@ ghost use Rattle.tree.specs.Read.{admitted};
 ghost use Rattle.nodes.specs.Index.{indexSize, Indexed, nth};
 ghost use Rattle.parts.specs.Program.{refusedSheetText, programText};
 ghost use Rattle.parts.specs.Fit.{unitMost, Within, TakesAtMost, Puts};
-ghost use Rattle.parts.specs.Left.{Left, mostLeft, Enters, Gives, Turns, Filled, Reached, Comes};
+ghost use Rattle.parts.specs.Left.{Left, Gives};
 ghost use Rattle.parts.specs.Pieces.{PiecesHold};
+ghost use Rattle.parts.specs.Steps.{mostLeft, Enters, Turns, Filled, Reached, Comes};
 ghost use Rattle.parts.specs.declared.Place.the-variants.{At, End};
 
 // The bytes of the buffer that most sheets are printed over.

@@ -4,7 +4,7 @@ use Prim.Native.Nat.{_^_, _<_}
 use native.Mathlib.Omega.{arith}
 use borrow.Author.Needs.{needs}
 use lib.ListN.{length}
-use Rattle.parts.specs.Left.{mostLeft}
+use Rattle.parts.specs.Steps.{mostLeft}
 use Rattle.parts.proofs.FitLaws.{counted, lent-length, kept-within}
 use Rattle.parts.proofs.LeftLaws.{not-end, Filling, filling-none, filling-more, filled-end, filled-short}
 use Rattle.parts.proofs.print.fill.Statement.{statement}

@@ -4,7 +4,7 @@ use mathlib.Core.Path.{_≡_, refl, _∙_}
 use native.Mathlib.Omega.{arith}
 use borrow.Author.Needs.{needs}
 use lib.ListN.{length}
-use Rattle.parts.specs.Left.{mostLeft, Reached}
+use Rattle.parts.specs.Steps.{mostLeft, Reached}
 use Rattle.parts.proofs.FitLaws.{front-length}
 use Rattle.parts.proofs.LeftLaws.{reached-next, comes-to}
 use Rattle.parts.proofs.print.print_pieces.Statement.{statement}
