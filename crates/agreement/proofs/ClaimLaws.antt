@@ -29,7 +29,7 @@ use Rattle.agreement.specs.Claims.{GetHolds, DefaultHolds, OwnDefaultHol
 use Rattle.agreement.specs.Claims.{VoidHolds, VoidMeansHolds, VoidSetHolds, HaserHolds, HaserPastHolds, NoHaserHolds}
 use Rattle.agreement.proofs.AnsweredLaws.{ran-generated}
 use Rattle.agreement.proofs.GetterLaws.{own-default}
-use Rattle.agreement.proofs.HaserLaws.{openingOf, whole-opening, haser-given, no-haser, has-absent}
+use Rattle.agreement.proofs.HaserLaws.{openingOf, whole-opening, haser-given, no-haser}
 use Rattle.agreement.proofs.OutLaws.{ok-is}
 use Rattle.agreement.proofs.AloneLaws.{set-fits, tag-fits-at, own-fits, get-alone, set-alone}
 use Rattle.agreement.proofs.SetterLaws.{GivenVoid, void-given}
@@ -116,7 +116,7 @@ set-get-holds s id place a k w isReader isFn g v r c =
           get-holds s id place a k isReader isFn g (run .0) (c .has-bits) (c .getter)
           ∙ ap some (x .reads d (rw n fits))
           ∙ ap (λ (m : ℕ). some (bitXor (bitXor v (setterMask a k)) m)) (sym (get-mask-bits k d e))
-          ∙ ap some (expected-holds k d e v fits (c .value));
+          ∙ ap some (expected-holds k d e v);
       same = x .same;
       tagged = x .tagged (c .clear);
     }
@@ -167,7 +167,7 @@ haser-holds s id place a isReader h r p hs =
 pub haser-past-holds : HaserPastHolds
 haser-past-holds s id place a isReader h r p hs past =
     let i : PointerOffset = record { 0 = a .slot .offset } in
-    haser-holds s id place a isReader h r p hs ∙ ap some (has-absent (tagAt a) i r (null-past i r past))
+    haser-holds s id place a isReader h r p hs ∙ ap some (meaning.has-absent (tagAt a) i r (null-past i r past))
 
 pub no-haser-holds : NoHaserHolds
 no-haser-holds s id place a isReader h p hs =

@@ -1,14 +1,13 @@
 -- The text of a haser's request: for a pointer slot an opening line, the test of the tag if there is a tag and that the pointer
--- is not null; for any other slot one newline. A pointer that is null is absent whatever the tag. Assumes nothing.
+-- is not null; for any other slot one newline. Assumes nothing.
 use mathlib.Core.Path.{_≡_, refl}
 use mathlib.Core.Bool.{Bool, true, false}
-use mathlib.Core.Option.{Option, none, some}
+use mathlib.Core.Option.{none, some}
 use mathlib.Core.List.{_++_}
 use Prim.Native.Nat.{ℕ}
 use lib.Dec.{eqb}
 use Rattle.text.specs.Bytes.{Str, ascii, unit, cond}
 use Rattle.text.specs.Lines.{Branch, Line, none as noMore, _&_, toLines, flatMap, stringify}
-use Rattle.text.proofs.BytesLaws.{both-false}
 use Rattle.text.proofs.LinesLaws.{stringify-none}
 use Rattle.names.specs.Names.{camelToSnakeCase}
 use Rattle.tree.specs.Tree.{Slot}
@@ -16,11 +15,7 @@ use Rattle.codegen_types.specs.TypeString.{isPointer}
 use Rattle.calls.specs.Calls.{notNull, tagTest}
 use Rattle.codegen.specs.Function.{function}
 use Rattle.codegen.specs.Haser.{generateHaser, haserRequest}
-use Rattle.record.specs.Lines.{Tag, functionText, haserBody, haserText}
-use Rattle.record.specs.Record.{Record, get, null}
-use Rattle.record.specs.Types.{tagPlace}
-use Rattle.record.specs.declared.PointerOffset.{PointerOffset}
-use Rattle.meaning.specs.Claims.{hasAnswer}
+use Rattle.record.specs.Lines.{functionText, haserBody, haserText}
 use Rattle.agreement.specs.Slots.{tagOf}
 use Rattle.agreement.proofs.WholeLaws.{Whole, _⊹_, fixed, whole-camel}
 
@@ -47,7 +42,3 @@ module _ (to : ℕ) (name : Str) (d : ℕ) (s : Slot) (isReader : Bool) where
   pub no-haser : isPointer (s .ty) ≡ false → haserRequest to name d s isReader ≡ unit 10
   unfolding haserRequest generateHaser toLines flatMap
   no-haser h = rw h (stringify-none (Branch noMore) refl)
-
-pub has-absent : (tag : Option Tag) (i : PointerOffset) (r : Record) → null i r ≡ true → hasAnswer tag i r ≡ false
-has-absent none i r e = rw e
-has-absent (some t) i r e = rw e (both-false (eqb (get (tagPlace (t .0)) 0 r) (t .1)))

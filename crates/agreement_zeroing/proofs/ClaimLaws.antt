@@ -8,13 +8,13 @@ use Rattle.text.specs.Bytes.{Str}
 use Rattle.codegen_types.specs.Out.{ok}
 use Rattle.codegen.specs.Zeroing.{zeroingRequest}
 use Rattle.meaning.specs.Meaning.{runGetter}
+use Rattle.meaning.proofs.HaserLaws.{has-absent}
 use Rattle.requests.specs.Requests.{accessorText}
 use Rattle.requests.specs.declared.Accessor.the-variants.{Zeroing}
 use Rattle.agreement.specs.Slots.{Ran, tagAt}
 use Rattle.agreement.proofs.AnsweredLaws.{ran-generated}
 use Rattle.agreement.proofs.ClaimLaws.{given-ok, getter-text, haser-holds}
 use Rattle.agreement.proofs.GetterLaws.{getter-given}
-use Rattle.agreement.proofs.HaserLaws.{has-absent}
 use Rattle.agreement.proofs.AloneLaws.{own-fits}
 use Rattle.agreement.proofs.SheetLaws.{bounds}
 use Rattle.agreement_zeroing.specs.Zeroing.{GroupAt, ZeroingHolds}

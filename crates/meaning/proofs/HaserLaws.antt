@@ -1,16 +1,18 @@
--- A haser's text, run, is its tests. Assumes nothing.
-use mathlib.Core.Path.{_≡_, refl, ap, _∙_}
+-- A haser's text, run, is its tests; where the pointer is null they say false. Assumes nothing.
+use mathlib.Core.Path.{_≡_, ap, _∙_}
 use mathlib.Core.Bool.{Bool, true, false}
 use mathlib.Core.Option.{Option, none, some}
 use mathlib.Core.List.{List, [], _∷_, _++_}
 use Prim.Native.Nat.{ℕ}
 use lib.Dec.{eqb}
-use Rattle.text.specs.Bytes.{Str, both}
+use Rattle.text.specs.Bytes.{Str}
 use Rattle.text.specs.Lines.{spaces}
+use Rattle.text.proofs.BytesLaws.{both-false}
 use Rattle.calls.specs.Calls.{notNull, tagTest}
 use Rattle.record.specs.Lines.{Tag, haserText}
 use Rattle.record.specs.Record.{Record, get, null}
 use Rattle.record.specs.Types.{tagPlace}
+use Rattle.record.specs.declared.PointerOffset.{PointerOffset}
 use Rattle.meaning.specs.Claims.{TextHaserHolds, hasAnswer}
 use Rattle.meaning.specs.Meaning as meaning
 use Rattle.meaning.specs.Meaning.{Test, nullTest, whole, testsOf, runTests, runHaser}
@@ -59,14 +61,11 @@ haser-holds opening isReader (some t) i r h =
     rw (function-inner opening (haserLines isReader (some t) i) h w, tests-of isReader (some t) i)
 
 -- a pointer that is null: false, whatever the tag
+pub has-absent : (tag : Option Tag) (i : PointerOffset) (r : Record) → null i r ≡ true → hasAnswer tag i r ≡ false
+has-absent none i r e = rw e
+has-absent (some t) i r e = rw e (both-false (eqb (get (tagPlace (t .0)) 0 r) (t .1)))
+
 pub haser-null : (opening : Str) → whole opening ≡ true → (isReader : Bool) (tag : Option Tag) (i : ℕ) (r : Record)
     → null (record { 0 = i }) r ≡ true → runHaser (haserText opening isReader tag i) r ≡ some false
-haser-null opening h isReader tag i r e = haser-holds opening isReader tag i r h ∙ ap some (says tag)
-  where
-    neither : (b : Bool) → both b false ≡ false
-    neither true = refl
-    neither false = refl
-
-    says : (tag : Option Tag) → hasAnswer tag (record { 0 = i }) r ≡ false
-    says none = rw e
-    says (some t) = rw e (neither (eqb (get (tagPlace (t .0)) 0 r) (t .1)))
+haser-null opening h isReader tag i r e =
+    haser-holds opening isReader tag i r h ∙ ap some (has-absent tag (record { 0 = i }) r e)

@@ -7,7 +7,7 @@ use mathlib.Core.Option.{none, some}
 use mathlib.Core.List.{List, [], _∷_}
 use Prim.Native.Nat.{ℕ, zero, suc, _+_, _-_, _^_, _≤_, _<_}
 use native.Mathlib.Omega.{arith}
-use native.Mathlib.Decide.{ℕ-discrete}
+use native.Mathlib.Decide.{decLt, ℕ-discrete}
 use lib.Bits.{xor-zero-l}
 use lib.ListN.{length, getD, replicate}
 use lib.Pow.{pow-pos}
@@ -18,10 +18,10 @@ use Rattle.calls.specs.Calls.{clearPointer}
 use Rattle.record.specs.Lines.{Zero, ofSlot, ofTag, ofPointer, zeroCall, zeroingLine, zeroTexts}
 use Rattle.record.specs.Masks.{maskBits}
 use Rattle.record.specs.Offsets.{Place, from, bitCount}
-use Rattle.record.specs.Record.{Record, coded, get, null, Covers, Holds, HoldsPointer}
+use Rattle.record.specs.Record.{Record, coded, get, null, Covers, Holds}
 use Rattle.record.specs.Types.{Kind, placeOf, tagPlace}
 use Rattle.record.proofs.BitLaws.{xors-xor, toBits-zero}
-use Rattle.record.proofs.RecordLaws.{after, cleared, put-inside, after-length, after-at, after-out, get-ext, get-after}
+use Rattle.record.proofs.RecordLaws.{after, cleared, put-inside, after-length, after-at, after-out, get-past, get-ext, get-after}
 use Rattle.record.proofs.RecordLaws.{clear-inside, cleared-bits, cleared-length, cleared-at, cleared-other, null-flag}
 use Rattle.record.proofs.SectionLaws.{where?}
 use Rattle.meaning.specs.Claims.{In, HoldsZero, ZeroHas, ZeroClears, TextZeroed, TextZeroingHolds}
@@ -214,15 +214,6 @@ has-op (ofSlot k o) b x = x
 has-op (ofTag o) b x = x
 has-op (ofPointer i) b x = absurd x
 
-abbrev OpHolds : Op → Record → Type 0
-OpHolds (setOp p a m) r = Holds p r
-OpHolds (clearOp i) r = HoldsPointer i r
-
-holds-op : (z : Zero) (r : Record) → HoldsZero z r → OpHolds (zeroOp z) r
-holds-op (ofSlot k o) r x = x
-holds-op (ofTag o) r x = x
-holds-op (ofPointer i) r x = x
-
 abbrev OpClears : Op → ℕ → Type 0
 OpClears (setOp p a m) j = ⊥
 OpClears (clearOp i) j = j ≡ i .0
@@ -232,13 +223,17 @@ clears-op (ofSlot k o) j x = absurd x
 clears-op (ofTag o) j x = absurd x
 clears-op (ofPointer i) j x = x
 
--- a get of bits that are off is its mask
-get-off : (p : Place) (k : ℕ) (r : Record) → Holds p r → k < 2 ^ bitCount p → ((b : ℕ) → Covers p b → Off r b)
-    → get p k r ≡ k
-get-off p k r h l o =
-    sym (get-ext p k r (after p 0 0 r) (after-length p 0 0 r h) (λ b x. put-makes p r h b x ∙ sym (o b x)))
-    ∙ get-after p 0 0 r h k (pow-pos (bitCount p)) (pow-pos (bitCount p)) l
-    ∙ xor-zero-l k
+-- a get of bits that are off is its mask: inside the section it is that of a zero put there
+get-off : (p : Place) (k : ℕ) (r : Record) → k < 2 ^ bitCount p → ((b : ℕ) → Covers p b → Off r b) → get p k r ≡ k
+get-off p k r l o = go (decLt (length (r .bits)) (from p + bitCount p))
+  where
+    go : Dec (length (r .bits) < from p + bitCount p) → get p k r ≡ k
+    go (yes n) = get-past p k r l (λ h. omega arith)
+    go (no n) =
+        let h : Holds p r = omega arith in
+        sym (get-ext p k r (after p 0 0 r) (after-length p 0 0 r h) (λ b x. put-makes p r h b x ∙ sym (o b x)))
+        ∙ get-after p 0 0 r h k (pow-pos (bitCount p)) (pow-pos (bitCount p)) l
+        ∙ xor-zero-l k
 
 module _ (zs : List Zero) (r : Record) (h : Holding zs r) where
   left : Record
@@ -259,21 +254,14 @@ module _ (zs : List Zero) (r : Record) (h : Holding zs r) where
       let m : ZeroHas (y .0) b = has-op (y .0) b (rw (y .2) x) in
       steps-make (λ s. Off s b) (y .0) (λ z s g. step-keeps z s g b) (λ s g. step-makes (y .0) s g b m) zs r h (y .1)
 
-  slot-holds : (k : Kind) (o : ℕ) → In (zeroCall k o) (zeroTexts zs) → Holds (placeOf k o) left
-  slot-holds k o i =
-      let y = line-of (zeroCall k o) (zeroOp (ofSlot k o)) (says-zero (ofSlot k o)) zs i in
-      let g : OpHolds (zeroOp (y .0)) r = holds-op (y .0) r (h (y .0) (y .1)) in
-      rw (lengths .0) (subst (λ (x : Op). OpHolds x r) (y .2) g)
-
   pointer-null : (i : ℕ) → In (clearPointer i) (zeroTexts zs) → null (record { 0 = i }) left ≡ true
   unfolding left
   pointer-null i n =
       let y = line-of (clearPointer i) (zeroOp (ofPointer i)) (says-zero (ofPointer i)) zs n in
       let m : ZeroClears (y .0) i = clears-op (y .0) i (subst (λ (x : Op). OpClears x i) (sym (y .2)) refl) in
-      let g : OpHolds (zeroOp (y .0)) r = holds-op (y .0) r (h (y .0) (y .1)) in
       let s : Null left i =
       steps-make (λ x. Null x i) (y .0) (λ z x g. step-null z x g i) (λ x g. step-clears (y .0) x g i m) zs r h (y .1) in
-      null-flag (record { 0 = i }) left (rw (lengths .1) (subst (λ (x : Op). OpHolds x r) (y .2) g)) ∙ rw s
+      null-flag (record { 0 = i }) left ∙ rw s
 
   pub zeroed : (ft : FormattedText) → toLines ft 0 ≡ zeroTexts zs → TextZeroed zs ft r
   unfolding left
@@ -283,7 +271,7 @@ module _ (zs : List Zero) (r : Record) (h : Holding zs r) where
     defaults = λ k o i mg f typ w isReader.
         get-holds typ isReader k o mg left w f
         ∙ ap some
-        (get-off (placeOf k o) (maskBits mg) left (slot-holds k o i) (rw (slot-size k o) (mask-below k mg f)) (slot-off k o i));
+        (get-off (placeOf k o) (maskBits mg) left (rw (slot-size k o) (mask-below k mg f)) (slot-off k o i));
     absent = pointer-null;
     hasers = λ i n opening w isReader tag. haser-null opening w isReader tag i left (pointer-null i n);
     lengths = lengths;

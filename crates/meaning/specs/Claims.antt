@@ -138,7 +138,7 @@ expected enum d explicit v = cond explicit v (bitXor v d)
 
 abbrev pub ExpectedHolds : Type 0
 ExpectedHolds =
-    (k : Kind) (d : ℕ) (explicit : Bool) (v : ℕ) → d < 2 ^ slotBits k → v < 2 ^ slotBits k
+    (k : Kind) (d : ℕ) (explicit : Bool) (v : ℕ)
     → bitXor (bitXor v (maskBits (setMask k d explicit))) (maskBits (getMask k d explicit)) ≡ expected k d explicit v
 
 -- ---- the Void setter: just the tag

@@ -4,10 +4,11 @@ use mathlib.Core.Path.{_≡_, refl, sym, ap, ap₂, _∙_}
 use mathlib.Core.Bool.{Bool, false, not}
 use mathlib.Core.List.{List, [], _∷_, _++_, append-assoc}
 use Prim.Native.Nat.{ℕ, zero, suc, _+_, _*_, _/_, _%_, _^_, _≤_, _<_}
-use native.Mathlib.Nat.{mod-lt, zero-lt-suc, pow-suc, suc-mul}
+use native.Mathlib.Nat.{mod-lt, zero-div, zero-lt-suc, pow-suc, suc-mul}
 use native.Mathlib.Omega.{arith}
+use native.Mathlib.Decide.{decLt}
 use lib.Dec.{eqb}
-use lib.ListN.{length, take, drop, getD, List·getD-append}
+use lib.ListN.{length, take, drop, getD, drop-of-length-le, List·getD-append, List·getD-eq-default}
 use lib.Seq.{drop-append-add, take-append-add, drop-nil, take-nil, getD-drop, drop-cons, sets, sets-eq}
 use Rattle.record.specs.Bits.{toBits, ofBits, sectionBits, little, littleBytes, flags}
 use Rattle.record.specs.Bytes.{Bytes, BoolAtHolds, NumberAtHolds, SameBytesHolds}
@@ -84,16 +85,19 @@ section-injective (x ∷ a) (y ∷ b) ha hb e =
 
 -- ---- which bit a Bool is
 
--- bit j of byte k
-pub bit-of-byte : (bs : List ℕ) (k j : ℕ) → k < length bs → j < 8
+-- bit j of byte k; past the bytes both sides are false
+pub bit-of-byte : (bs : List ℕ) (k j : ℕ) → j < 8
     → getD (sectionBits bs) (k * 8 + j) false ≡ eqb (getD bs k 0 / 2 ^ j % 2) 1
-bit-of-byte bs k j h l =
-    sym (getD-drop (k * 8) (sectionBits bs) j false)
-    ∙ rw (drop-section k bs, drop-cons bs k 0 h)
-    (List·getD-append (toBits 8 (getD bs k 0)) (sectionBits (drop (suc k) bs)) false j l ∙ toBits-at 8 (getD bs k 0) j l)
+bit-of-byte bs k j l = sym (getD-drop (k * 8) (sectionBits bs) j false) ∙ rw (drop-section k bs) (go (decLt k (length bs)))
+  where
+    go : Dec (k < length bs) → getD (sectionBits (drop k bs)) j false ≡ eqb (getD bs k 0 / 2 ^ j % 2) 1
+    go (yes h) =
+        rw (drop-cons bs k 0 h)
+        (List·getD-append (toBits 8 (getD bs k 0)) (sectionBits (drop (suc k) bs)) false j l ∙ toBits-at 8 (getD bs k 0) j l)
+    go (no h) = rw (drop-of-length-le bs {i = k} (omega arith), List·getD-eq-default bs 0 {n = k} (omega arith), zero-div (2 ^ j))
 
 pub bool-at : BoolAtHolds
-bool-at bs o h = bit-of-byte bs (o .0 / 8) (o .0 % 8) h (mod-lt (o .0) (zero-lt-suc 7))
+bool-at bs o = bit-of-byte bs (o .0 / 8) (o .0 % 8) (mod-lt (o .0) (zero-lt-suc 7))
 
 -- ---- which bytes a number is
 
@@ -128,7 +132,7 @@ pub length-flags : (l : List ℕ) → length (flags l) ≡ length l
 length-flags [] = refl
 length-flags (b ∷ l) = ap suc (length-flags l)
 
-pub flag-at : (l : List ℕ) (i : ℕ) → i < length l → getD (flags l) i false ≡ not (eqb (getD l i 0) 0)
-flag-at [] i h = let z : ⊥ = omega arith in absurd z
-flag-at (b ∷ l) zero h = refl
-flag-at (b ∷ l) (suc i) h = flag-at l i (omega arith)
+pub flag-at : (l : List ℕ) (i : ℕ) → getD (flags l) i false ≡ not (eqb (getD l i 0) 0)
+flag-at [] i = refl
+flag-at (b ∷ l) zero = refl
+flag-at (b ∷ l) (suc i) = flag-at l i

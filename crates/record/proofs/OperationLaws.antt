@@ -112,7 +112,7 @@ module _ (l : List ℕ) (o : BitOffset) (h : o .0 / 8 < length l) where
         mask-bits 1 m (read (from (boolAt o)) 1 s) (length-read (from (boolAt o)) 1 s bool-inside),
         e,
         read-one (from (boolAt o)) s (omega (arith, bool-inside)),
-        bool-at l o h,
+        bool-at l o,
         odd-mod (getD l (o .0 / 8) 0 / 2 ^ (o .0 % 8)),
       )
 
@@ -250,7 +250,7 @@ module _ (l : List ℕ) (i : PointerOffset) where
       rw (
         found-inside (i .0) 1 (flags l) (omega arith),
         read-one (i .0) (flags l) g,
-        flag-at l (i .0) h,
+        flag-at l (i .0),
         not-bit (eqb (getD l (i .0) 0) 0),
       )
 

@@ -11,7 +11,7 @@ use native.Mathlib.Omega.{arith}
 use native.Mathlib.Decide.{decLt}
 use lib.Bits.{bitXor, xor-lt}
 use lib.Dec.{eqb}
-use lib.ListN.{length, getD}
+use lib.ListN.{length, getD, List·getD-eq-default}
 use lib.Seq.{drop-cons}
 use Rattle.record.specs.Bits.{bit}
 use Rattle.record.specs.Offsets.{Place, from, bitCount, pointerAddress}
@@ -161,19 +161,25 @@ module _ (i : PointerOffset) (r : Record) (h : HoldsPointer i r) where
   unfolding cleared
   cleared-other j n = write-out (pointerAddress i) (false ∷ []) (r .pointers) one-inside j (λ x. n (omega arith))
 
--- a null test says whether the flag is down
-pub null-flag : (i : PointerOffset) (r : Record) → HoldsPointer i r
-    → null i r ≡ not (getD (r .pointers) (pointerAddress i) false)
+-- past the pointers every pointer is null
+pub null-past : (i : PointerOffset) (r : Record) → (HoldsPointer i r → ⊥) → null i r ≡ true
 unfolding nullFlag
-null-flag i r h =
-    rw (found-inside (pointerAddress i) 1 (r .pointers) (omega arith), drop-cons (r .pointers) (pointerAddress i) false h)
-    (down (getD (r .pointers) (pointerAddress i) false))
+null-past i r h = rw (found-past (pointerAddress i) 1 (r .pointers) (omega arith))
+
+-- a null test says whether the flag is down; past the pointers it is
+pub null-flag : (i : PointerOffset) (r : Record) → null i r ≡ not (getD (r .pointers) (pointerAddress i) false)
+unfolding nullFlag
+null-flag i r = go (decLt (pointerAddress i) (length (r .pointers)))
   where
     down : (b : Bool) → eqb (bit b + 2 * 0) 0 ≡ not b
     down true = refl
     down false = refl
 
--- past the pointers every pointer is null
-pub null-past : (i : PointerOffset) (r : Record) → (HoldsPointer i r → ⊥) → null i r ≡ true
-unfolding nullFlag
-null-past i r h = rw (found-past (pointerAddress i) 1 (r .pointers) (omega arith))
+    inside : HoldsPointer i r → null i r ≡ not (getD (r .pointers) (pointerAddress i) false)
+    inside h =
+        rw (found-inside (pointerAddress i) 1 (r .pointers) (omega arith), drop-cons (r .pointers) (pointerAddress i) false h)
+        (down (getD (r .pointers) (pointerAddress i) false))
+
+    go : Dec (HoldsPointer i r) → null i r ≡ not (getD (r .pointers) (pointerAddress i) false)
+    go (yes h) = inside h
+    go (no h) = null-past i r h ∙ rw (List·getD-eq-default (r .pointers) false {n = pointerAddress i} (omega arith))

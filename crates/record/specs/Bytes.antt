@@ -21,10 +21,10 @@ use Rattle.record.specs.declared.Width.the-variants.{Two}
 abbrev pub Bytes : List ℕ → Type 0
 Bytes l = (i : ℕ) → getD l i 0 < 256
 
--- Bool at o: bit o modulo 8, lowest first, of the byte whose number is o divided by 8, rounded down
+-- Bool at o: bit o modulo 8, lowest first, of the byte whose number is o divided by 8, rounded down; past the bytes false
 abbrev pub BoolAtHolds : Type 0
 BoolAtHolds =
-    (l : List ℕ) (o : BitOffset) → o .0 / 8 < length l
+    (l : List ℕ) (o : BitOffset)
     → getD (sectionBits l) (from (boolAt o)) false ≡ eqb (getD l (o .0 / 8) 0 / 2 ^ (o .0 % 8) % 2) 1
 
 -- A type of w bytes at o: w bytes, little-endian, the first of them at o times w.
