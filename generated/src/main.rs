@@ -22,6 +22,10 @@ mod random;
 #[rustfmt::skip]
 #[path = "../../runtime/src/kitlubas.rs"]
 mod record;
+#[allow(dead_code)]
+#[rustfmt::skip]
+#[path = "../../runtime/src/roots.rs"]
+mod roots;
 mod runtime;
 mod samples;
 mod service;

@@ -1,8 +1,7 @@
 // Accessors of a struct in a real message, written by hand as capnpc writes them: each body is one call of StructReader or
 // StructBuilder.
-use capnp::private::layout::{PointerBuilder, StructBuilder, StructReader, StructSize};
-use capnp::traits::{FromPointerBuilder, IntoInternalStructReader};
-use capnp::{Result, Word};
+use capnp::private::layout::{StructBuilder, StructReader};
+use capnp::traits::IntoInternalStructReader;
 
 #[derive(Clone, Copy)]
 pub struct Reader<'a> {
@@ -12,18 +11,6 @@ pub struct Reader<'a> {
 #[derive(Clone, Copy)]
 pub struct Builder<'a> {
     pub builder: StructBuilder<'a>,
-}
-
-// The sizes are chosen at random, so they come with the request to build: data words in the high half, pointers in the low.
-impl<'a> FromPointerBuilder<'a> for Builder<'a> {
-    fn init_pointer(builder: PointerBuilder<'a>, sizes: u32) -> Builder<'a> {
-        let size = StructSize { data: (sizes >> 16) as u16, pointers: sizes as u16 };
-        Builder { builder: builder.init_struct(size) }
-    }
-
-    fn get_from_pointer(builder: PointerBuilder<'a>, default: Option<&'a [Word]>) -> Result<Builder<'a>> {
-        Ok(Builder { builder: builder.get_struct(StructSize { data: 0, pointers: 0 }, default)? })
-    }
 }
 
 impl<'a> IntoInternalStructReader<'a> for Reader<'a> {
@@ -40,6 +27,11 @@ impl<'a> Builder<'a> {
     // the data section's bytes, as they stand in the message
     pub fn bytes(self) -> &'a [u8] {
         capnp::raw::get_struct_data_section(self.as_reader())
+    }
+
+    // how many pointers it has
+    pub fn pointers(self) -> usize {
+        self.as_reader().reader.get_pointer_section_size() as usize
     }
 }
 

@@ -1,7 +1,7 @@
 // Records of 1, 2, 4 or 8 bytes, or of one pointer: the elements of a list of numbers or texts, read as structs, as by a schema
 // in which the list's elements became structs. Other sections are whole words, so that only these end in the middle of a slot.
 use crate::random::Random;
-use capnp::message::{self, HeapAllocator};
+use crate::roots::Message;
 use capnp::private::layout::{ElementSize, ListReader, PointerReader, StructReader};
 use capnp::traits::FromPointerReader;
 use capnp::{any_pointer, primitive_list, text_list, Result, Word};
@@ -23,7 +23,7 @@ pub struct Element {
 }
 
 // Fills a message with a list of random numbers of a random width, or of texts of which some are null.
-pub fn fill(message: &mut message::Builder<HeapAllocator>, random: &mut Random) -> Vec<Element> {
+pub fn fill(message: &mut Message, random: &mut Random) -> Vec<Element> {
     macro_rules! numbers {
         ($root:expr, $typ:ty) => {{
             let mut list: primitive_list::Builder<$typ> = $root.initn_as(COUNT);
@@ -57,7 +57,7 @@ pub fn fill(message: &mut message::Builder<HeapAllocator>, random: &mut Random) 
 }
 
 // The elements of a message's list as records.
-pub fn records(message: &message::Builder<HeapAllocator>) -> Vec<StructReader<'_>> {
+pub fn records(message: &Message) -> Vec<StructReader<'_>> {
     let Elements(list) = message.get_root_as_reader().expect("the list can be read");
     (0..COUNT).map(|i| list.get_struct_element(i)).collect()
 }

@@ -3,6 +3,7 @@
 use crate::accessors::{Builder, Kind, Reader, KINDS};
 use crate::kitlubas;
 use crate::random::Random;
+use crate::tally::Ends;
 
 #[derive(Clone, Copy)]
 pub enum Get {
@@ -69,15 +70,21 @@ impl Get {
         }
     }
 
-    pub fn place(self, section: &[u8], pointers: &[u8]) -> Place {
+    // Of a record's data bytes and pointers those that it is about.
+    pub fn choose<'b>(self, section: &'b [u8], pointers: &'b [u8]) -> &'b [u8] {
+        match self {
+            Get::Null { .. } => pointers,
+            _ => section,
+        }
+    }
+
+    // Where it lies in so many bytes, or pointers.
+    pub fn place(self, length: usize) -> Place {
         let (start, size, end) = match self {
-            Get::Bool { offset, .. } => (offset as u64, 1, section.len() as u64 * 8),
-            Get::Data { kind, offset, .. } => {
-                let width = kind.width() as u64;
-                (offset as u64 * width, width, section.len() as u64)
-            }
-            Get::Tag { offset, .. } => (offset as u64 * 2, 2, section.len() as u64),
-            Get::Null { offset } => (offset as u64, 1, pointers.len() as u64),
+            Get::Bool { offset, .. } => (offset as u64, 1, length as u64 * 8),
+            Get::Data { kind, offset, .. } => (offset as u64 * kind.width() as u64, kind.width() as u64, length as u64),
+            Get::Tag { offset, .. } => (offset as u64 * 2, 2, length as u64),
+            Get::Null { offset } => (offset as u64, 1, length as u64),
         };
         if start + size <= end {
             Place::Inside
@@ -89,7 +96,7 @@ impl Get {
     }
 
     // What the encoding says of a get that is not wholly inside: zero bits, under the mask; a pointer that is not there is null.
-    pub fn of_zeros(self) -> u64 {
+    fn of_zeros(self) -> u64 {
         match self {
             Get::Bool { mask, .. } => mask.unwrap_or(false) as u64,
             Get::Data { mask, .. } => mask.unwrap_or(0),
@@ -108,19 +115,25 @@ impl Get {
     }
 
     // None where the library says that a number has no such width.
-    pub fn of_bytes(self, section: &[u8], pointers: &[u8]) -> Option<u64> {
+    pub fn of_bytes(self, bytes: &[u8]) -> Option<u64> {
         match self {
-            Get::Bool { offset, mask } => Some(kitlubas::get_bool(section, offset, mask) as u64),
-            Get::Data { kind, offset, mask } => kitlubas::get_data(section, kind.width(), offset, mask),
-            Get::Tag { offset, member } => Some(kitlubas::tag_is(section, offset, member) as u64),
-            Get::Null { offset } => Some(kitlubas::is_pointer_null(pointers, offset) as u64),
+            Get::Bool { offset, mask } => Some(kitlubas::get_bool(bytes, offset, mask) as u64),
+            Get::Data { kind, offset, mask } => kitlubas::get_data(bytes, kind.width(), offset, mask),
+            Get::Tag { offset, member } => Some(kitlubas::tag_is(bytes, offset, member) as u64),
+            Get::Null { offset } => Some(kitlubas::is_pointer_null(bytes, offset) as u64),
         }
     }
 
-    // Whether reader and library give the same, and past the end what the encoding says.
-    pub fn agrees(self, record: Reader, section: &[u8], pointers: &[u8]) -> bool {
-        let answer = self.of_reader(record);
-        let is_inside = self.place(section, pointers) == Place::Inside;
-        self.of_bytes(section, pointers) == Some(answer) && (is_inside || answer == self.of_zeros())
+    // Whether an answer of the runtime on a record of these bytes is what the encoding says past the end, and the library's at
+    // each length that the bytes are cut to: the same where the get is still inside, else what the encoding says.
+    pub fn is_right_at_every_length(self, answer: u64, bytes: &[u8], ends: &mut Ends) -> bool {
+        let zeros = self.of_zeros();
+        let is_right = self.place(bytes.len()) == Place::Inside || answer == zeros;
+        is_right
+            && (0..=bytes.len()).all(|n| {
+                let place = self.place(n);
+                ends.count(self, place);
+                self.of_bytes(&bytes[..n]) == Some(if place == Place::Inside { answer } else { zeros })
+            })
     }
 }
