@@ -1,7 +1,8 @@
 //! Setters and getters of data slots: what the runtime reads and writes, and what the texts mean.
 
+use crate::elements::Element;
 use crate::known::{KnownFamily, KnownSlot};
-use crate::meaning;
+use crate::meaning::{self, Get, Op};
 use crate::pair::Pair;
 use crate::random::Random;
 use crate::tally::Tally;
@@ -51,20 +52,60 @@ pub fn set_and_get(pair: &mut Pair, known: &KnownSlot, random: &mut Random, tall
     }
 }
 
-/// The reader's getters on a record that was written out and read again, or that is too short for some slots: what is not
-/// wholly inside reads as exactly the default.
+/// An answer is what the get means on these bytes, and exactly the slot's default where it is not wholly inside them.
+fn compare(answer: u64, known: &KnownSlot, get: Get, section: &[u8], tally: &mut Tally) {
+    let meant = get.run(section);
+    let expected = if get.place.is_inside(section) { meant } else { known.slot.default };
+    let name = known.slot.name;
+    tally.count(answer == meant && answer == expected, || {
+        format!("{name} reads {answer}, its text means {meant}, and {expected} is expected")
+    });
+}
+
+/// The reader's getters on a record that was written out and read again, or that is too short for some slots.
 pub fn get_from_reader(reader: StructReader<'_>, family: &KnownFamily, tally: &mut Tally) {
     let section = reader.get_data_section_as_blob();
     for known in family.nodes.iter().flat_map(|node| &node.slots) {
         for (getter, get) in known.slot.readers.iter().zip(&known.gets) {
-            let (answer, meant) = ((getter.run)(reader), get.run(section));
-            let expected = if get.place.is_inside(section) { meant } else { known.slot.default };
-            tally.past += u64::from(!get.place.is_inside(section));
-            tally.split += u64::from(get.place.is_split(section));
-            let name = known.slot.name;
-            tally.count(answer == meant && answer == expected, || {
-                format!("{name} reads {answer}, its text means {meant}, and {expected} is expected")
-            });
+            tally.readers.get(get.place, section);
+            compare((getter.run)(reader), known, *get, section, tally);
         }
     }
+}
+
+/// The builder's getters on a record that was written short and opened with more: they read what their texts mean on the
+/// short bytes, but in a slot that was split by the end they find the bytes that were there.
+pub fn get_from_builder(pair: &Pair, short: &Element, family: &KnownFamily, tally: &mut Tally) {
+    for known in family.nodes.iter().flat_map(|node| &node.slots) {
+        let gets = known.gets.iter().skip(known.slot.readers.len());
+        for (getter, get) in known.slot.builders.iter().zip(gets) {
+            tally.builders.get(get.place, &short.section);
+            let section = if get.place.is_split(&short.section) { &pair.section } else { &short.section };
+            compare((getter.run)(pair.record), known, *get, section, tally);
+        }
+    }
+}
+
+/// The setters' and zeroings' texts on a short record. The runtime's builder has no test of the length: it is not asked.
+pub fn write_short(short: &Element, family: &KnownFamily, random: &mut Random, tally: &mut Tally) {
+    for node in &family.nodes {
+        for known in &node.slots {
+            write_all_or_nothing(known.slot.name, &known.set, Some(value(known, random)), short, tally);
+        }
+        for known in &node.groups {
+            write_all_or_nothing(known.group.name, &known.zero, None, short, tally);
+        }
+    }
+}
+
+/// A text that writes has a meaning exactly where each of its lines is inside; otherwise nothing of it is done.
+fn write_all_or_nothing(name: &str, ops: &[Op], value: Option<u64>, short: &Element, tally: &mut Tally) {
+    let (mut section, mut pointers) = (short.section.clone(), short.pointers.clone());
+    let has_meaning = meaning::run(ops, value, &mut section, &mut pointers);
+    let is_inside = |op: &Op| op.is_inside(&short.section, &short.pointers);
+    let is_undone = section == short.section && pointers == short.pointers;
+    tally.undone += u64::from(!has_meaning && ops.iter().any(is_inside));
+    tally.count(has_meaning == ops.iter().all(is_inside) && (has_meaning || is_undone), || {
+        format!("{name} in {} bytes has a meaning, or is done in part", section.len())
+    });
 }

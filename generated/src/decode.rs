@@ -1,13 +1,14 @@
 //! Messages that the generated setters write, read by Cap'n Proto's own tool: `capnp decode` with the schema bed.capnp.
 
 use crate::known::{KnownFamily, KnownGroup, KnownNode, KnownSlot};
-use crate::pair::record;
+use crate::pair;
 use crate::random::Random;
 use crate::record as library;
-use crate::slots::Slot;
+use crate::roots::{self, Message};
+use crate::slots::{PointerSlot, Slot};
 use crate::tally::Tally;
 use capnp::private::layout::StructBuilder;
-use capnp::{message, serialize};
+use capnp::serialize;
 use std::collections::BTreeMap;
 use std::io::Write;
 use std::process::{Command, Stdio};
@@ -24,68 +25,63 @@ enum Written {
 }
 
 /// By the field's name with the names of its groups.
-type Message = BTreeMap<String, Written>;
+type Fields = BTreeMap<String, Written>;
 
 /// Writes messages of a family, has them decoded, and compares every field.
 pub fn compare(family: &KnownFamily, count: usize, random: &mut Random) -> Tally {
     let mut tally = Tally::default();
     let (mut bytes, mut messages) = (Vec::new(), Vec::new());
     for _ in 0..count {
-        let mut message = message::Builder::new_default();
-        let record = record(&mut message, family.family.data, family.family.pointers);
+        let mut message = Message::new_default();
+        let record = roots::new_record(&mut message, family.family.data, family.family.pointers);
         messages.push(write(record, family, random));
         serialize::write_message(&mut bytes, &message).expect("a message can be written to memory");
     }
-    let decoded = decode(bytes);
-    let lines: Vec<&str> = decoded.lines().collect();
-    tally.count(lines.len() == count, || format!("{} messages of {count} were decoded", lines.len()));
-    for (line, message) in lines.into_iter().zip(&messages) {
+    for (line, message) in decode(bytes, count, &mut tally).lines().zip(&messages) {
         compare_message(line, message, &mut tally);
     }
     tally
 }
 
-/// Has the data bytes of such messages decoded after they were cut, without pointers: every field is what its getter's text
-/// means on these bytes, which is the default where it is not wholly inside, and a union has the member of its tag.
+/// A message that was cut: what the whole one was given, the data bytes that are left, and how many pointers.
+struct Cut {
+    written: Fields,
+    section: Vec<u8>,
+    pointers: u16,
+}
+
+/// Has such messages decoded after words and pointers were cut off: every data field is what its getter's text means on the
+/// bytes that are left, which is the default where it is not wholly inside, a pointer is the one that was written or absent,
+/// and a union has the member of its tag.
 pub fn compare_cut(family: &KnownFamily, count: usize, random: &mut Random) -> Tally {
     let mut tally = Tally::default();
-    let (mut bytes, mut sections) = (Vec::new(), Vec::new());
-    for _ in 0..count {
-        let mut message = message::Builder::new_default();
-        let whole = record(&mut message, family.family.data, family.family.pointers);
-        write(whole, family, random);
-        let words = random.below(family.family.data as u64) as usize;
-        let section = whole.into_reader().get_data_section_as_blob()[..words * 8].to_vec();
-        let mut message = message::Builder::new_default();
-        let cut = record(&mut message, words as u16, 0);
-        for (at, byte) in section.iter().enumerate() {
-            cut.set_data_field::<u8>(at, *byte);
-        }
-        sections.push(section);
-        serialize::write_message(&mut bytes, &message).expect("a message can be written to memory");
+    let (mut bytes, mut cuts) = (Vec::new(), Vec::new());
+    for size in family.short_sizes().into_iter().cycle().take(count) {
+        let (mut message, mut short, mut caps) = (Message::new_default(), Message::new_default(), Vec::new());
+        let whole = roots::new_record(&mut message, family.family.data, family.family.pointers);
+        let written = write(whole, family, random);
+        let cut = pair::cut(whole.into_reader(), size, &mut short, &mut caps).into_reader();
+        cuts.push(Cut { written, section: cut.get_data_section_as_blob().to_vec(), pointers: size.1 });
+        serialize::write_message(&mut bytes, &short).expect("a message can be written to memory");
     }
-    let decoded = decode(bytes);
-    let lines: Vec<&str> = decoded.lines().collect();
-    tally.count(lines.len() == count, || format!("{} messages of {count} were decoded", lines.len()));
-    for (line, section) in lines.into_iter().zip(&sections) {
-        compare_section(line, family, section, &mut tally);
+    for (line, cut) in decode(bytes, count, &mut tally).lines().zip(&cuts) {
+        compare_cut_message(line, family, cut, &mut tally);
     }
     tally
 }
 
-fn compare_section(line: &str, family: &KnownFamily, section: &[u8], tally: &mut Tally) {
+fn compare_cut_message(line: &str, family: &KnownFamily, cut: &Cut, tally: &mut Tally) {
     let mut fields = BTreeMap::new();
     let rest = read_struct(line, "", &mut fields);
-    let is_member = |(offset, member)| library::tag_is(section, offset, member);
+    let is_member = |(offset, member)| library::tag_is(&cut.section, offset, member);
     for node in &family.nodes {
         for known in node.slots.iter().filter(|known| known.slot.tag.is_none_or(is_member)) {
             let text = fields.remove(&format!("{}{}", node.node.path, known.slot.name)).unwrap_or_default();
-            compare_cut_slot(text, known, section, tally);
+            compare_cut_slot(text, known, &cut.section, tally);
         }
-        // A pointer that is absent is decoded only as the member of its union.
-        for slot in node.node.pointers.iter().filter(|slot| slot.tag.is_some_and(is_member)) {
-            let text = fields.remove(&format!("{}{}", node.node.path, slot.name)).unwrap_or_default();
-            tally.count(text == (slot.default)(), || format!("{}: {text} decoded of an absent pointer", slot.name));
+        for slot in node.node.pointers.iter().filter(|slot| slot.tag.is_none_or(is_member)) {
+            let name = format!("{}{}", node.node.path, slot.name);
+            compare_cut_pointer(fields.remove(&name), slot, cut.written.get(&name), cut.pointers, tally);
         }
     }
     tally.count(rest == Some("") && fields.is_empty(), || format!("decoded with other fields: {line}"));
@@ -96,13 +92,33 @@ fn compare_cut_slot(text: &str, known: &KnownSlot, section: &[u8], tally: &mut T
     let meant = get.map_or(0, |get| get.run(section));
     let is_past = get.is_some_and(|get| !get.place.is_inside(section));
     let right = is_text_of(slot.kind, text, meant) && (!is_past || meant == slot.default);
-    tally.past += u64::from(is_past);
+    if let Some(get) = get {
+        tally.decoded.get(get.place, section);
+    }
     tally.count(right, || format!("{}: {text} decoded, its getter's text means {meant}", slot.name));
 }
 
+/// A pointer that is left is decoded as it was written. One that is absent is decoded only as the member of its union.
+fn compare_cut_pointer(
+    text: Option<&str>,
+    slot: &PointerSlot,
+    written: Option<&Written>,
+    left: u16,
+    tally: &mut Tally,
+) {
+    let is_left = slot.offset < left.into();
+    let expected = match written {
+        Some(Written::Shown(shown)) if is_left => Some(shown.clone()),
+        _ => slot.tag.map(|_| (slot.default)()),
+    };
+    tally.decoded.pointer(is_left);
+    tally.kept += u64::from(is_left && text.is_some());
+    tally.count(text == expected.as_deref(), || format!("{}: {text:?} decoded, not {expected:?}", slot.name));
+}
+
 /// Sets every field that is in no union, and of each union one; then zeroes the groups of a message in four.
-fn write(record: StructBuilder<'_>, family: &KnownFamily, random: &mut Random) -> Message {
-    let mut message = Message::new();
+fn write(record: StructBuilder<'_>, family: &KnownFamily, random: &mut Random) -> Fields {
+    let mut message = Fields::new();
     for node in &family.nodes {
         let members = node.node.slots.iter().filter(|slot| slot.tag.is_some()).count()
             + node.node.pointers.iter().filter(|slot| slot.tag.is_some()).count();
@@ -118,7 +134,7 @@ fn write(record: StructBuilder<'_>, family: &KnownFamily, random: &mut Random) -
 }
 
 /// Zeroes a group: its union's first member is set, and its pointers are absent.
-fn zero(record: StructBuilder<'_>, family: &KnownFamily, group: &KnownGroup, message: &mut Message) {
+fn zero(record: StructBuilder<'_>, family: &KnownFamily, group: &KnownGroup, message: &mut Fields) {
     (group.group.zero)(record);
     for node in group.inside.iter().map(|place| family.nodes[*place].node) {
         message.retain(|name, _| !name.starts_with(node.path));
@@ -128,7 +144,7 @@ fn zero(record: StructBuilder<'_>, family: &KnownFamily, group: &KnownGroup, mes
     }
 }
 
-fn write_node(record: StructBuilder<'_>, known: &KnownNode, chosen: u16, random: &mut Random, message: &mut Message) {
+fn write_node(record: StructBuilder<'_>, known: &KnownNode, chosen: u16, random: &mut Random, message: &mut Fields) {
     let is_set = |tag: Option<(u32, u16)>| tag.is_none_or(|(_, member)| member == chosen);
     let node = known.node;
     for slot in node.slots.iter().filter(|slot| is_set(slot.tag)) {
@@ -141,9 +157,11 @@ fn write_node(record: StructBuilder<'_>, known: &KnownNode, chosen: u16, random:
     }
 }
 
-fn decode(bytes: Vec<u8>) -> String {
+/// The lines of so many messages, one for each.
+fn decode(bytes: Vec<u8>, count: usize, tally: &mut Tally) -> String {
     let mut tool = Command::new("capnp")
-        .args(["decode", "--short", SCHEMA, "Bed"])
+        // Quiet: it does not guess the form of its input, of which it takes an empty record for another.
+        .args(["decode", "--quiet", "--short", SCHEMA, "Bed"])
         .stdin(Stdio::piped())
         .stdout(Stdio::piped())
         .spawn()
@@ -152,10 +170,13 @@ fn decode(bytes: Vec<u8>) -> String {
     let feed = std::thread::spawn(move || stdin.write_all(&bytes));
     let output = tool.wait_with_output().expect("capnp comes to its end");
     feed.join().expect("the input is handed over").expect("capnp reads its input");
-    String::from_utf8(output.stdout).expect("capnp writes text")
+    let decoded = String::from_utf8(output.stdout).expect("capnp writes text");
+    let lines = decoded.lines().count();
+    tally.count(output.status.success() && lines == count, || format!("{lines} messages of {count} were decoded"));
+    decoded
 }
 
-fn compare_message(line: &str, message: &Message, tally: &mut Tally) {
+fn compare_message(line: &str, message: &Fields, tally: &mut Tally) {
     let mut fields = BTreeMap::new();
     let rest = read_struct(line, "", &mut fields);
     tally.count(rest == Some("") && fields.keys().eq(message.keys()), || format!("decoded with other fields: {line}"));

@@ -47,6 +47,12 @@ impl KnownFamily {
         KnownFamily { family, nodes: family.nodes.iter().map(|node| KnownNode::new(family, node)).collect() }
     }
 
+    /// The words of data and the pointers of every record that has fewer words than the family's.
+    pub fn short_sizes(&self) -> Vec<(u16, u16)> {
+        let pointers = || 0..=self.family.pointers;
+        (0..self.family.data).flat_map(|words| pointers().map(move |pointers| (words, pointers))).collect()
+    }
+
     pub fn has_groups(&self) -> bool {
         self.nodes.iter().any(|node| !node.groups.is_empty())
     }

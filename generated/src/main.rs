@@ -1,7 +1,7 @@
 //! Runs the accessors that Kitlubas wrote, compiled against the Cap'n Proto runtime for Rust, on records in real
-//! messages, and the meaning of their texts on a copy of the records' bytes, and compares every answer, every data byte
-//! and every pointer after each operation. Then has messages that the setters wrote, whole and cut, decoded by Cap'n
-//! Proto's own tool.
+//! messages, whole and short, and the meaning of their texts on a copy of the records' bytes, and compares every answer,
+//! every data byte and every pointer after each operation. Then has messages that the setters wrote, whole and cut,
+//! decoded by Cap'n Proto's own tool.
 //!
 //!     generated [operations [seed]]
 
@@ -22,7 +22,6 @@ mod random;
 #[rustfmt::skip]
 #[path = "../../runtime/src/kitlubas.rs"]
 mod record;
-#[allow(dead_code)]
 #[rustfmt::skip]
 #[path = "../../runtime/src/roots.rs"]
 mod roots;
@@ -41,13 +40,17 @@ mod accessors {
 }
 
 use capnp::private::layout::StructReader;
+use elements::Element;
 use known::KnownFamily;
 use pair::{AnyReader, Pair};
+use pointers::Owners;
 use random::Random;
+use roots::Message;
 use tally::Tally;
 
-/// Steps on one record, and messages that are decoded.
+/// Steps on one record and on one that was opened with more, and messages that are decoded.
 const STEPS: u64 = 200;
+const OPENED_STEPS: u64 = 20;
 const MESSAGES: usize = 5_000;
 
 fn main() {
@@ -60,11 +63,7 @@ fn main() {
     let mut all = Tally::default();
     for family in &families {
         print_family(family);
-        let mut tally = Tally::default();
-        while tally.operations < operations / families.len() as u64 {
-            work(family, &mut random, &mut tally);
-            read_short(family, &mut random, &mut tally);
-        }
+        let tally = work_family(family, operations / families.len() as u64, &mut random);
         tally.print(family.family.name);
         all.add(&tally);
     }
@@ -77,6 +76,7 @@ fn main() {
         all.add(&tally);
     }
     all.print("all");
+    all.print_left_out();
     println!("{} operations, {} different", all.operations, all.different);
     if !all.is_right() {
         std::process::exit(1);
@@ -96,16 +96,32 @@ fn print_family(family: &KnownFamily) {
     );
 }
 
-/// One record of a family: random steps, then its reader's accessors on the message read again.
-fn work(family: &KnownFamily, random: &mut Random, tally: &mut Tally) {
+/// Records of a family, until there were so many operations and a record was cut to every size.
+fn work_family(family: &KnownFamily, operations: u64, random: &mut Random) -> Tally {
+    let mut tally = Tally::default();
+    let sizes = family.short_sizes();
+    let mut round = 0;
+    while round < sizes.len() || tally.operations < operations {
+        work(family, sizes[round % sizes.len()], random, &mut tally);
+        work_list(family, random, &mut tally);
+        round += 1;
+    }
+    tally
+}
+
+/// One record of a family: random steps, then its reader's accessors on the message read again, and the accessors on the
+/// record cut to a size.
+fn work(family: &KnownFamily, size: (u16, u16), random: &mut Random, tally: &mut Tally) {
     let (data, pointers) = (family.family.data, family.family.pointers);
-    let mut message = capnp::message::Builder::new_default();
+    let mut message = Message::new_default();
     let mut caps = Vec::new();
-    let mut pair = Pair::new(pair::record(&mut message, data, pointers), &mut caps, random);
+    let mut pair = Pair::new(roots::new_record(&mut message, data, pointers), &mut caps, random);
     let mut owners = vec![None; pointers as usize];
     for _ in 0..STEPS {
         step(&mut pair, family, &mut owners, random, tally);
     }
+    work_short(&pair, family, size, owners.clone(), random, tally);
+
     let (section, flags) = (pair.section, pair.pointers);
     let bytes = capnp::serialize::write_message_to_words(&message);
     let options = capnp::message::ReaderOptions::new();
@@ -116,37 +132,85 @@ fn work(family: &KnownFamily, random: &mut Random, tally: &mut Tally) {
     pointers::get_from_reader(reader, family, &flags, &owners, tally);
 }
 
-/// The reader's accessors on records that end before some slots: one of fewer words and pointers, and those of a list of
-/// numbers or texts, which may end in the middle of a slot.
-fn read_short(family: &KnownFamily, random: &mut Random, tally: &mut Tally) {
-    let (data, pointers) = (family.family.data as u64, family.family.pointers as u64);
-    let mut message = capnp::message::Builder::new_default();
+/// The accessors on a record that was cut to so many words and pointers. Readers read it as it is; builders after it was opened
+/// with the family's sizes.
+fn work_short(
+    whole: &Pair,
+    family: &KnownFamily,
+    (words, pointers): (u16, u16),
+    mut owners: Owners,
+    random: &mut Random,
+    tally: &mut Tally,
+) {
+    let mut message = Message::new_default();
     let mut caps = Vec::new();
-    let record = pair::record(&mut message, random.below(data) as u16, random.below(pointers + 1) as u16);
-    let mut pair = Pair::new(record, &mut caps, random);
-    pair.set_some(random);
-    read(pair.record.into_reader(), family, &pair.pointers, tally);
+    let section = whole.section[..words as usize * 8].to_vec();
+    let short = Element { section, pointers: whole.pointers[..pointers as usize].to_vec() };
+    owners[pointers as usize..].fill(None);
+    let cut = pair::cut(whole.record.into_reader(), (words, pointers), &mut message, &mut caps);
+    read(cut.into_reader(), family, &short, &owners, random, tally);
+    let opened = roots::open_record(&mut message, family.family.data, family.family.pointers);
+    let mut pair = Pair::opened(opened, &mut caps, &short);
+    work_opened(&mut pair, family, &short, owners, random, tally);
+}
 
-    let mut message = capnp::message::Builder::new_default();
+/// The same on the elements of a list of numbers or texts, which may end in the middle of a slot. Their pointers were set
+/// through no slot.
+fn work_list(family: &KnownFamily, random: &mut Random, tally: &mut Tally) {
+    let mut message = Message::new_default();
     let filled = elements::fill(&mut message, random);
+    let owners = |element: &Element| {
+        let mut owners = vec![None; family.family.pointers as usize];
+        for (owner, _) in owners.iter_mut().zip(&element.pointers).filter(|(_, flag)| **flag != 0) {
+            *owner = Some(("", String::new()));
+        }
+        owners
+    };
     for (reader, element) in elements::records(&message).into_iter().zip(&filled) {
-        let is_same = reader.get_data_section_as_blob() == element.section;
-        tally.count(is_same, || "a list's element read as a record has other bytes".into());
-        read(reader, family, &element.pointers, tally);
+        read(reader, family, element, &owners(element), random, tally);
+    }
+    let opened = roots::open_elements(&mut message, family.family.data, family.family.pointers);
+    for (record, element) in opened.into_iter().zip(&filled) {
+        let mut caps = Vec::new();
+        let mut pair = Pair::opened(record, &mut caps, element);
+        work_opened(&mut pair, family, element, owners(element), random, tally);
     }
 }
 
-/// The reader's accessors on a record whose pointers were set through no slot.
-fn read(reader: StructReader<'_>, family: &KnownFamily, flags: &[u8], tally: &mut Tally) {
-    let mut owners = vec![None; family.family.pointers as usize];
-    for (owner, _) in owners.iter_mut().zip(flags).filter(|(_, flag)| **flag != 0) {
-        *owner = Some(("", String::new()));
-    }
+/// The reader's accessors on a short record, and the texts that write.
+fn read(
+    reader: StructReader<'_>,
+    family: &KnownFamily,
+    short: &Element,
+    owners: &Owners,
+    random: &mut Random,
+    tally: &mut Tally,
+) {
+    let is_same = reader.get_data_section_as_blob() == short.section;
+    tally.count(is_same, || "a short record has other bytes".into());
     data::get_from_reader(reader, family, tally);
-    pointers::get_from_reader(reader, family, flags, &owners, tally);
+    pointers::get_from_reader(reader, family, &short.pointers, owners, tally);
+    data::write_short(short, family, random, tally);
 }
 
-fn step(pair: &mut Pair, family: &KnownFamily, owners: &mut pointers::Owners, random: &mut Random, tally: &mut Tally) {
+/// The builder's accessors on a short record that was opened with the family's sizes, which then is worked on like any other.
+fn work_opened(
+    pair: &mut Pair,
+    family: &KnownFamily,
+    short: &Element,
+    mut owners: Owners,
+    random: &mut Random,
+    tally: &mut Tally,
+) {
+    tally.count(pair.same(), || "a record opened with more is another".into());
+    data::get_from_builder(pair, short, family, tally);
+    pointers::get_from_builder(pair, short, family, &mut owners, tally);
+    for _ in 0..OPENED_STEPS {
+        step(pair, family, &mut owners, random, tally);
+    }
+}
+
+fn step(pair: &mut Pair, family: &KnownFamily, owners: &mut Owners, random: &mut Random, tally: &mut Tally) {
     let node = &family.nodes[random.below(family.nodes.len() as u64) as usize];
     let pick = |count: usize, random: &mut Random| random.below(count as u64) as usize;
     match random.below(8) {

@@ -44,6 +44,16 @@ pub enum Op {
     Clear(u32),
 }
 
+impl Op {
+    /// Whether all that it writes is inside the record.
+    pub fn is_inside(self, section: &[u8], pointers: &[u8]) -> bool {
+        match self {
+            Op::Set { place, .. } => place.is_inside(section),
+            Op::Clear(pointer) => (pointer as usize) < pointers.len(),
+        }
+    }
+}
+
 /// The get of a getter.
 #[derive(Clone, Copy, Debug, PartialEq)]
 pub struct Get {
@@ -59,10 +69,18 @@ pub struct Has {
 }
 
 impl Has {
+    fn tag_place(self) -> Option<Place> {
+        self.tag.map(|(offset, _)| Place::Data { width: 2, offset })
+    }
+
     /// Whether the record has its pointer and, in a union, its tag.
     pub fn is_inside(self, section: &[u8], pointers: &[u8]) -> bool {
-        let has_tag = |(offset, _)| Place::Data { width: 2, offset }.is_inside(section);
-        self.tag.is_none_or(has_tag) && (self.pointer as usize) < pointers.len()
+        self.tag_place().is_none_or(|tag| tag.is_inside(section)) && (self.pointer as usize) < pointers.len()
+    }
+
+    /// Whether the section has one byte of its tag.
+    pub fn is_split(self, section: &[u8]) -> bool {
+        self.tag_place().is_some_and(|tag| tag.is_split(section))
     }
 }
 
@@ -324,13 +342,19 @@ pub fn haser(text: &str) -> Option<Has> {
 
 // ---- running, on data bytes and a byte for each pointer, which is 0 where the pointer is null
 
-/// Whether every line had a meaning; `value` is the setter's, where there is one.
+/// Whether every line has a meaning, and only then all of them are done; `value` is the setter's, where there is one.
 pub fn run(ops: &[Op], value: Option<u64>, section: &mut [u8], pointers: &mut [u8]) -> bool {
-    ops.iter().all(|op| match *op {
-        Op::Clear(pointer) => record::clear(pointers, pointer),
-        Op::Set { place, arg: Arg::Value, mask } => value.is_some_and(|bits| set(place, bits, mask, section)),
-        Op::Set { place, arg: Arg::Constant(bits), mask } => set(place, bits, mask, section),
-    })
+    let (mut data, mut flags) = (section.to_vec(), pointers.to_vec());
+    let has_meaning = ops.iter().all(|op| match *op {
+        Op::Clear(pointer) => record::clear(&mut flags, pointer),
+        Op::Set { place, arg: Arg::Value, mask } => value.is_some_and(|bits| set(place, bits, mask, &mut data)),
+        Op::Set { place, arg: Arg::Constant(bits), mask } => set(place, bits, mask, &mut data),
+    });
+    if has_meaning {
+        section.copy_from_slice(&data);
+        pointers.copy_from_slice(&flags);
+    }
+    has_meaning
 }
 
 fn set(place: Place, bits: u64, mask: Option<u64>, section: &mut [u8]) -> bool {

@@ -1,24 +1,12 @@
 //! A record in a real message, and a copy of it: its data bytes, and a byte for each pointer, which is 0 where the
 //! pointer is null. The compiled accessors work on the record, and the meaning of their texts on the copy.
 
+use crate::elements::Element;
 use crate::random::Random;
-use capnp::private::layout::{CapTable, CapTableBuilder, PointerBuilder, PointerReader};
-use capnp::private::layout::{StructBuilder, StructReader, StructSize};
-use capnp::traits::{FromPointerBuilder, FromPointerReader};
-use capnp::{any_pointer, message, Result, Word};
-
-/// A struct of any size. The size comes with the request to build it: data words in the high half, pointers in the low.
-struct AnyStruct<'a>(StructBuilder<'a>);
-
-impl<'a> FromPointerBuilder<'a> for AnyStruct<'a> {
-    fn init_pointer(builder: PointerBuilder<'a>, sizes: u32) -> AnyStruct<'a> {
-        AnyStruct(builder.init_struct(StructSize { data: (sizes >> 16) as u16, pointers: sizes as u16 }))
-    }
-
-    fn get_from_pointer(builder: PointerBuilder<'a>, default: Option<&'a [Word]>) -> Result<AnyStruct<'a>> {
-        Ok(AnyStruct(builder.get_struct(StructSize { data: 0, pointers: 0 }, default)?))
-    }
-}
+use crate::roots::{self, Message};
+use capnp::private::layout::{CapTable, CapTableBuilder, PointerReader, StructBuilder, StructReader};
+use capnp::traits::FromPointerReader;
+use capnp::{Result, Word};
 
 /// A struct that is read.
 pub struct AnyReader<'a>(pub StructReader<'a>);
@@ -29,10 +17,22 @@ impl<'a> FromPointerReader<'a> for AnyReader<'a> {
     }
 }
 
-/// A new record as the root of a message, all zero.
-pub fn record(message: &mut message::Builder<message::HeapAllocator>, data: u16, pointers: u16) -> StructBuilder<'_> {
-    let root: any_pointer::Builder = message.init_root();
-    root.initn_as::<AnyStruct>((data as u32) << 16 | pointers as u32).0
+/// A new record that has the first words and pointers of a whole one. Its capabilities go into `caps`.
+pub fn cut<'a>(
+    whole: StructReader<'_>,
+    (words, pointers): (u16, u16),
+    message: &'a mut Message,
+    caps: &'a mut CapTable,
+) -> StructBuilder<'a> {
+    let mut record = roots::new_record(message, words, pointers);
+    record.imbue(CapTableBuilder::Plain(caps));
+    for at in 0..words as usize {
+        record.set_data_field::<u64>(at, whole.get_data_field(at));
+    }
+    for at in 0..pointers as usize {
+        record.get_pointer_field(at).copy_from(whole.get_pointer_field(at), false).expect("a pointer can be copied");
+    }
+    record
 }
 
 pub struct Pair<'a> {
@@ -53,12 +53,15 @@ impl<'a> Pair<'a> {
         Pair { record, section, pointers }
     }
 
-    /// Sets some of the pointers, to a text.
-    pub fn set_some(&mut self, random: &mut Random) {
-        for (at, flag) in self.pointers.iter_mut().enumerate().filter(|_| random.below(2) == 1) {
-            self.record.get_pointer_field(at).set_text("bed");
-            *flag = 1;
-        }
+    /// A record that was written short and opened with more: zeros stand behind what was written. Its capabilities are in
+    /// `caps`.
+    pub fn opened(mut record: StructBuilder<'a>, caps: &'a mut CapTable, short: &Element) -> Pair<'a> {
+        record.imbue(CapTableBuilder::Plain(caps));
+        let reader = record.into_reader();
+        let (mut section, mut pointers) = (short.section.clone(), short.pointers.clone());
+        section.resize(reader.get_data_section_size() as usize / 8, 0);
+        pointers.resize(reader.get_pointer_section_size() as usize, 0);
+        Pair { record, section, pointers }
     }
 
     pub fn is_null(&self, pointer: usize) -> bool {

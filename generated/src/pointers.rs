@@ -1,6 +1,7 @@
 //! Setters, initializers, getters and hasers of pointer slots, and the zeroing of groups.
 
 use crate::data;
+use crate::elements::Element;
 use crate::known::{KnownFamily, KnownGroup, KnownPointer};
 use crate::meaning;
 use crate::pair::Pair;
@@ -110,13 +111,35 @@ pub fn get_from_reader(
     for known in family.nodes.iter().flat_map(|node| &node.pointers) {
         let slot = known.slot;
         let (answer, meant) = ((slot.has_reader.run)(reader), known.has[0].run(section, flags));
-        tally.past_hasers += u64::from(!known.has[0].is_inside(section, flags));
+        tally.readers.pointer(known.has[0].is_inside(section, flags));
         tally.count(meant == answer, || format!("{} says {answer}, its text means {meant}", slot.name));
         let Some(expected) = shown(known, owners).filter(|_| slot.kind != INTERFACE) else { continue };
         for getter in &slot.readers {
             let answer = (getter.run)(reader);
             tally.count(answer == expected, || format!("{} reads {answer}, not {expected}", slot.name));
         }
+    }
+}
+
+/// The builder's hasers on a record that was written short and opened with more, which say what their texts mean on the short
+/// bytes; then the getters. A tag that was split by the end is found with the byte that was there.
+pub fn get_from_builder(
+    pair: &mut Pair,
+    short: &Element,
+    family: &KnownFamily,
+    owners: &mut Owners,
+    tally: &mut Tally,
+) {
+    let all = || family.nodes.iter().flat_map(|node| &node.pointers);
+    for known in all() {
+        let [_, has] = known.has;
+        let section = if has.is_split(&short.section) { &pair.section } else { &short.section };
+        let (answer, meant) = ((known.slot.has_builder.run)(pair.record), has.run(section, &short.pointers));
+        tally.builders.pointer(has.is_inside(&short.section, &short.pointers));
+        tally.count(meant == answer, || format!("{} says {answer}, its text means {meant}", known.slot.name));
+    }
+    for known in all() {
+        get(pair, known, owners, tally);
     }
 }
 

@@ -1,9 +1,46 @@
 //! What was compared, and what differed.
 
+use crate::meaning::Place;
 use crate::slots::Slot;
 
 /// Differences that are printed; the others are only counted.
 const SHOWN: u64 = 20;
+
+/// Reads that are not wholly inside their record.
+#[derive(Default)]
+pub struct Past {
+    /// Gets of data slots, and those of them of which some bytes are there.
+    gets: u64,
+    split: u64,
+    /// Hasers, or decoded pointers, whose pointer or tag is not there.
+    pointers: u64,
+}
+
+impl Past {
+    pub fn get(&mut self, place: Place, section: &[u8]) {
+        self.gets += u64::from(!place.is_inside(section));
+        self.split += u64::from(place.is_split(section));
+    }
+
+    pub fn pointer(&mut self, is_inside: bool) {
+        self.pointers += u64::from(!is_inside);
+    }
+
+    fn add(&mut self, part: &Past) {
+        self.gets += part.gets;
+        self.split += part.split;
+        self.pointers += part.pointers;
+    }
+
+    fn print(&self, of: &str) {
+        let Past { gets, split, pointers } = self;
+        if gets + pointers > 0 {
+            println!(
+                "    past the end, {of}: {gets} gets ({split} of slots that begin inside), {pointers} of pointers"
+            );
+        }
+    }
+}
 
 #[derive(Default)]
 pub struct Tally {
@@ -20,11 +57,14 @@ pub struct Tally {
     pub other: u64,
     /// Those that the theorem excepts.
     pub excepted: u64,
-    /// Reads of slots that are not wholly inside their record, and those of them of which some bytes are there.
-    pub past: u64,
-    pub split: u64,
-    /// Hasers whose pointer or tag is not inside their record.
-    pub past_hasers: u64,
+    /// Of readers, of builders on records that were written short, and of `capnp decode`.
+    pub readers: Past,
+    pub builders: Past,
+    pub decoded: Past,
+    /// Pointers that a cut message kept and that were decoded.
+    pub kept: u64,
+    /// Texts that write of which nothing is done, though some of their lines are inside.
+    pub undone: u64,
 }
 
 impl Tally {
@@ -61,14 +101,39 @@ impl Tally {
         self.combined += part.combined;
         self.other += part.other;
         self.excepted += part.excepted;
-        self.past += part.past;
-        self.split += part.split;
-        self.past_hasers += part.past_hasers;
+        self.readers.add(&part.readers);
+        self.builders.add(&part.builders);
+        self.decoded.add(&part.decoded);
+        self.kept += part.kept;
+        self.undone += part.undone;
     }
 
-    /// Whether nothing differed, and the exceptions are those of the theorem and no others.
+    /// What a run must meet. A cut message has whole words, so that no slot of it is split.
+    fn met(&self) -> [(u64, &'static str); 10] {
+        [
+            (self.readers.gets, "gets of readers past the end"),
+            (self.readers.split, "gets of readers of slots split by the end"),
+            (self.readers.pointers, "hasers of readers past the end"),
+            (self.builders.gets, "gets of builders past the end"),
+            (self.builders.split, "gets of builders of slots split by the end"),
+            (self.builders.pointers, "hasers of builders past the end"),
+            (self.decoded.gets, "slots past the end of decoded messages"),
+            (self.decoded.pointers, "pointers cut from decoded messages"),
+            (self.kept, "pointers kept in cut messages"),
+            (self.undone, "texts that write in part past the end"),
+        ]
+    }
+
+    /// Whether nothing differed, the exceptions are those of the theorem and no others, and nothing was left out.
     pub fn is_right(&self) -> bool {
-        self.different == 0 && self.other == 0 && self.flipped + self.combined == self.excepted
+        let is_whole = self.met().iter().all(|(count, _)| *count > 0);
+        self.different == 0 && self.other == 0 && self.flipped + self.combined == self.excepted && is_whole
+    }
+
+    pub fn print_left_out(&self) {
+        for (_, what) in self.met().iter().filter(|(count, _)| *count == 0) {
+            println!("left out: {what}");
+        }
     }
 
     pub fn print(&self, part: &str) {
@@ -80,10 +145,13 @@ impl Tally {
                 self.reads, self.flipped, self.combined, self.other, self.excepted
             );
         }
-        if self.past + self.past_hasers > 0 {
+        self.readers.print("readers");
+        self.builders.print("builders of records written short");
+        self.decoded.print("decoded");
+        if self.kept + self.undone > 0 {
             println!(
-                "    past the end: {} reads, of which {} found the first bytes of their slot, and {} hasers",
-                self.past, self.split, self.past_hasers
+                "    {} pointers kept in cut messages, {} texts that write in part past the end",
+                self.kept, self.undone
             );
         }
     }
