@@ -1,8 +1,9 @@
 //! The commands of the comparison with capnpc: `oracle` with no words says which there are.
 
-use oracle::measure::{self, Side};
+use oracle::measure::{self, Round, Side};
 use oracle::sheet::read::Refusal;
 use oracle::{compare, generate, program, sample};
+use std::fs;
 use std::io::{self, Read, Write};
 use std::path::Path;
 use std::process::ExitCode;
@@ -13,11 +14,13 @@ oracle sample WHAT FOLDER write FOLDER/stdin and FOLDER/stdout, which a program 
                           numbers and lines), `sheets` (what is admitted), `accessors` (what whole sheets give) or
                           `requests` (what single requests are answered)
 oracle bounds             print the name of each sheet at a bound and its answer
-oracle cases              print the names of the cases that bench/run measures
-oracle measure SIDE CASE COUNT
-                          do a case COUNT times, by `rust`, `rust-from-bytes` or `kitlubas`; status 3 if it can't be done
-oracle time SIDE CASE     print the nanoseconds of a case
-oracle sheet CASE         print the sheet of a case about whole sheets
+oracle measure TABLE SIDE print the names of the cases of a table of bench/run and do each twice, by `rust`, `rust-from-bytes`
+                          or `kitlubas`; TABLE is `names`, `admission` or `requests`; callgrind counts the second round
+oracle time TABLE SIDE    print the nanoseconds of the cases of a table
+oracle sheets FOLDER      write the sheets that requests and the program are measured on, and print the worst: name, how much
+                          of it there is, file
+oracle ask SIDE SHEET     print the names of the requests that a file's last field takes, and do each once;
+                          callgrind counts them
 oracle accessors          print what the program `accessors` must print for the sheet on standard input";
 
 fn main() -> ExitCode {
@@ -31,10 +34,14 @@ fn main() -> ExitCode {
         ["sample", "accessors", folder] => done(sample::accessors::sample().write(Path::new(folder))),
         ["sample", "requests", folder] => done(sample::requests::sample().write(Path::new(folder))),
         ["bounds"] => bounds(),
-        ["cases"] => cases(),
-        ["measure", side, case, count] => measure(side, case, count),
-        ["time", side, case] => time(side, case),
-        ["sheet", case] => measure::sheet(case).map_or_else(usage, |bytes| done(io::stdout().write_all(&bytes))),
+        ["measure", table, side] => table_cases(table, side, |name, mut round| {
+            println!("{name}");
+            round();
+            measure::measured_round(&mut round);
+        }),
+        ["time", table, side] => table_cases(table, side, |_, round| println!("{:.0}", measure::nanoseconds(round))),
+        ["sheets", folder] => done(sheets(Path::new(folder))),
+        ["ask", side, sheet] => Side::of(side).map_or_else(usage, |side| done(ask(side, Path::new(sheet)))),
         ["accessors"] => done(accessors()),
         _ => usage(),
     }
@@ -58,29 +65,29 @@ fn bounds() -> ExitCode {
     ExitCode::SUCCESS
 }
 
-fn cases() -> ExitCode {
-    measure::names().iter().for_each(|name| println!("{name}"));
+/// Does something with each case of a table.
+fn table_cases(table: &str, side: &str, mut each: impl FnMut(&str, Round)) -> ExitCode {
+    let Some(cases) = Side::of(side).and_then(|side| measure::cases(table, side)) else {
+        return usage();
+    };
+    cases.into_iter().for_each(|(name, round)| each(&name, round));
     ExitCode::SUCCESS
 }
 
-fn measure(side: &str, case: &str, count: &str) -> ExitCode {
-    let (Some(side), Ok(count)) = (Side::of(side), count.parse::<u64>()) else {
-        return usage();
-    };
-    measure::work(case, side).map_or(ExitCode::from(3), |mut round| {
-        (0..count).for_each(|_| round());
-        ExitCode::SUCCESS
-    })
+fn sheets(folder: &Path) -> io::Result<()> {
+    measure::write_all(folder)?.iter().for_each(|line| println!("{line}"));
+    Ok(())
 }
 
-fn time(side: &str, case: &str) -> ExitCode {
-    let Some(side) = Side::of(side) else {
-        return usage();
-    };
-    measure::work(case, side).map_or(ExitCode::from(3), |round| {
-        println!("{:.0}", measure::nanoseconds(round));
-        ExitCode::SUCCESS
-    })
+/// Every kind of request on the last field of a sheet, by one side.
+fn ask(side: Side, sheet: &Path) -> io::Result<()> {
+    let bytes = fs::read(sheet)?;
+    measure::warm_up(side);
+    for ((name, _), mut round) in measure::asked(&bytes).into_iter().zip(measure::of_sheet(&bytes, side)) {
+        println!("{name}");
+        measure::measured_round(&mut round);
+    }
+    Ok(())
 }
 
 fn accessors() -> io::Result<()> {

@@ -48,6 +48,11 @@ fn shorten(sheet: &mut Sheet) {
 
 /// The largest sheet of this shape, of some count of pieces, that is not over `size` bytes.
 pub fn filled(size: usize, nodes: impl Fn(usize) -> Vec<Node>) -> Sheet {
+    Sheet::of(nodes(most(size, &nodes)))
+}
+
+/// Of how many pieces that sheet is.
+pub fn most(size: usize, nodes: impl Fn(usize) -> Vec<Node>) -> usize {
     let fits = |count: usize| print(&Sheet::of(nodes(count))).len() <= size;
     let mut count = 1;
     while fits(count * 2) {
@@ -60,5 +65,5 @@ pub fn filled(size: usize, nodes: impl Fn(usize) -> Vec<Node>) -> Sheet {
         }
         step /= 2;
     }
-    Sheet::of(nodes(count))
+    count
 }

@@ -6,18 +6,19 @@ use crate::codegen::exact;
 use crate::codegen::FormattedText::{Indent, Line};
 use std::hint::black_box;
 
-pub const NAMES: [&str; 6] =
-    ["snake-short", "snake-64", "module-keyword", "number-20-digits", "signed-64-bits", "line"];
+const NAMES: [&str; 6] = ["snake-short", "snake-64", "module-keyword", "number-20-digits", "signed-64-bits", "line"];
 
 const LONG: &str = "aPatientTransportFromTheWardToTheOperatingTheatreOfTheRegionalHo";
 const LINE: &str = "self.builder.set_data_field_mask::<u16>(12, value as u16, 2);";
 
-pub fn work(name: &str, side: Side) -> Option<Round> {
-    match side {
-        Side::Rust => rust(name),
-        Side::RustFromBytes => None,
-        Side::Kitlubas => kitlubas(name),
-    }
+/// The cases of a side; none for the Rust from bytes, which has no sheet here.
+pub fn cases(side: Side) -> Option<Vec<(String, Round)>> {
+    let work = match side {
+        Side::Rust => rust,
+        Side::RustFromBytes => return None,
+        Side::Kitlubas => kitlubas,
+    };
+    NAMES.iter().map(|name| Some((name.to_string(), work(name)?))).collect()
 }
 
 fn rust(name: &str) -> Option<Round> {

@@ -4,12 +4,15 @@ use crate::generate::corners::{group, node, slot};
 use crate::generate::{filled, hostile};
 use crate::sheet::print::print;
 use crate::sheet::{Binding, Node, Scope, Sheet, Slot, Type, MAX_BYTES};
+use std::path::Path;
+use std::{fs, io};
 
 /// Sizes of the ordinary sheets that the whole program is measured on.
-const ORDINARY: [(&str, usize); 4] = [("1K", 1_024), ("8K", 8_192), ("32K", 32_768), ("64K", MAX_BYTES)];
+const ORDINARY: [(&str, usize); 5] =
+    [("1K", 1_024), ("8K", 8_192), ("16K", 16_384), ("32K", 32_768), ("64K", MAX_BYTES)];
 
 /// Sizes at which growth is measured.
-pub const SIZES: [(&str, usize); 3] = [("16K", MAX_BYTES / 4), ("32K", MAX_BYTES / 2), ("64K", MAX_BYTES)];
+const SIZES: [(&str, usize); 3] = [("16K", MAX_BYTES / 4), ("32K", MAX_BYTES / 2), ("64K", MAX_BYTES)];
 
 /// A case's name and how its sheet is made.
 type Made = (String, Box<dyn Fn() -> Vec<u8>>);
@@ -17,22 +20,24 @@ type Made = (String, Box<dyn Fn() -> Vec<u8>>);
 /// A sheet by its size.
 type OfSize = fn(usize) -> Sheet;
 
-/// The sheets that the whole program is measured on: ordinary ones, growing shapes, and nodes without fields.
-pub fn whole() -> Vec<Made> {
-    let mut sheets: Vec<Made> = Vec::new();
-    for (name, size) in ORDINARY {
-        sheets.push((name.to_string(), Box::new(move || print(&ordinary(size)))));
+/// Writes the sheets that all requests and the program are measured on: ordinary ones as `ordinary/SIZE`, and the worst, of
+/// which each has a line: its name, how much of it there is, and its file.
+pub fn write_all(folder: &Path) -> io::Result<Vec<String>> {
+    for (size, bytes) in ORDINARY {
+        write(&folder.join("ordinary").join(size), &print(&ordinary(bytes)))?;
     }
-    for (name, shape) in hostile::GROWING {
-        for (label, size) in SIZES {
-            sheets.push((format!("{name}-{label}"), Box::new(move || print(&hostile::growing(shape, size)))));
-        }
+    let mut lines = Vec::new();
+    for (name, part, bytes) in hostile::measured() {
+        let file = folder.join("worst").join(lines.len().to_string());
+        write(&file, &bytes)?;
+        lines.push(format!("{name}\t{part}\t{}", file.display()));
     }
-    sheets.push((
-        "64-nodes".to_string(),
-        Box::new(|| print(&Sheet::of((1..=64).map(|id| node(id, 0, "bed", &[])).collect()))),
-    ));
-    sheets
+    Ok(lines)
+}
+
+fn write(file: &Path, bytes: &[u8]) -> io::Result<()> {
+    fs::create_dir_all(file.parent().unwrap_or(Path::new(".")))?;
+    fs::write(file, bytes)
 }
 
 /// The sheets that admission is measured on.
@@ -56,7 +61,7 @@ pub fn admitted() -> Vec<Made> {
 }
 
 /// Structs with the fields that schemas have.
-pub fn ordinary(size: usize) -> Sheet {
+fn ordinary(size: usize) -> Sheet {
     filled(size, structs)
 }
 
