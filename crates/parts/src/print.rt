@@ -1,9 +1,9 @@
 // Prints a sheet piece by piece. Each piece is as many whole units as the output buffer holds; the unit that does not fit behind
-// them is the first of the next piece. What is proved is that the pieces which `fill` makes from `start` on, one after the other,
-// are all that document 01 says (`claims`), over whatever buffers; and that nothing is handed to the system but such a piece, at
-// its place (`hand`). `print_small` asks that all is left where it begins, and `print_large` for a place of the same sheet
-// (`Reached`) where something is left. What no contract can say, that `print_large` goes on at the place that `print_small` came
-// to, is what `print_sheet` is to be read for.
+// them is the first of the next piece. Nothing is handed to the system but by `hand`, which asks that the piece and what is left
+// after it are what was left before it; such pieces from `start` on, one after the other up to the end, are all that document 01
+// says (`claims`), over whatever buffers. `print_small` asks that all is left where it begins, and `print_large` for a place of
+// the same sheet (`Reached`) where something is left. What no contract can say, that `print_large` goes on at the place that
+// `print_small` came to, is what `print_sheet` is to be read for.
 use crate::Came;
 use crate::Fit;
 use crate::Piece;
