@@ -27,7 +27,7 @@ bool kitlubas_get_bool(const uint8_t *section, size_t section_len, uint32_t offs
 /* The same, with a mask. */
 bool kitlubas_get_bool_mask(const uint8_t *section, size_t section_len, uint32_t offset, bool mask);
 
-/* Sets a Bool: true; or false past the section, which is then as it was. */
+/* Sets a Bool: true; or false where its bit is not inside the section, which is then as it was. */
 bool kitlubas_set_bool(uint8_t *section, size_t section_len, uint32_t offset, bool value);
 
 /* The same, with a mask. */
@@ -40,14 +40,15 @@ bool kitlubas_get_data(const uint8_t *section, size_t section_len, uint32_t widt
 bool kitlubas_get_data_mask(const uint8_t *section, size_t section_len, uint32_t width, uint32_t offset, uint64_t mask,
                             uint64_t *value);
 
-/* Sets a number or an enum by its bits: true; or false where the width is none or past the section, which is then as it was. */
+/* Sets a number or an enum by its bits: true; or false where the width is none or the number is not wholly inside the section,
+ * which is then as it was. */
 bool kitlubas_set_data(uint8_t *section, size_t section_len, uint32_t width, uint32_t offset, uint64_t value);
 
 /* The same, with a mask. */
 bool kitlubas_set_data_mask(uint8_t *section, size_t section_len, uint32_t width, uint32_t offset, uint64_t value,
                             uint64_t mask);
 
-/* Whether the tag at an offset of 16 bits has this number; past the section it is 0. */
+/* Whether the tag at an offset of 16 bits has this number; one that is not wholly inside the section is 0. */
 bool kitlubas_tag_is(const uint8_t *section, size_t section_len, uint32_t offset, uint16_t member);
 
 /* Whether a pointer is null; past the pointers it is. */

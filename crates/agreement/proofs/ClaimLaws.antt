@@ -1,10 +1,12 @@
 -- The claims, from what runs of the entry left: the bytes are a text that `codegen` gives, for the slot that stands at the place.
 -- Set and get follows from what a setter alone leaves and what a getter alone answers. Assumes nothing.
-use mathlib.Core.Path.{_≡_, sym, ap, _∙_}
+use mathlib.Core.Path.{_≡_, refl, sym, ap, _∙_}
 use mathlib.Core.Bool.{Bool}
 use mathlib.Core.Option.{Option, none, some}
 use Prim.Native.Nat.{ℕ}
+use native.Mathlib.Omega.{arith}
 use lib.Bits.{bitXor}
+use lib.Pow.{pow-pos}
 use Rattle.text.specs.Bytes.{Str}
 use Rattle.codegen_types.specs.Out.{Out, ok, refused}
 use Rattle.codegen.specs.Getter.{getterRequest}
@@ -12,7 +14,7 @@ use Rattle.codegen.specs.Haser.{haserRequest}
 use Rattle.codegen.specs.Setter.{setterRequest}
 use Rattle.record.specs.Lines.{Tag}
 use Rattle.record.specs.Masks.{setMask}
-use Rattle.record.specs.Record.{Record}
+use Rattle.record.specs.Record.{Record, Holds}
 use Rattle.record.specs.Types.{tagPlace}
 use Rattle.record.specs.declared.PointerOffset.{PointerOffset}
 use Rattle.record.proofs.RecordLaws.{get-past, put-held, null-past}
@@ -25,8 +27,9 @@ use Rattle.requests.specs.Requests.{accessorText, gives, outcome}
 use Rattle.requests.specs.declared.Accessor.{Accessor}
 use Rattle.requests.specs.declared.Accessor.the-variants.{Getter, Setter, Haser}
 use Rattle.agreement.specs.Slots.{isExplicit, Ran, SlotAt, slotKind, tagAt, placeAt, setterMask}
-use Rattle.agreement.specs.Claims.{GetHolds, DefaultHolds, OwnDefaultHolds, SetCase, SetHolds, SetMeansHolds, SetGetHolds}
-use Rattle.agreement.specs.Claims.{VoidHolds, VoidMeansHolds, VoidSetHolds, HaserHolds, HaserPastHolds, NoHaserHolds}
+use Rattle.agreement.specs.Claims.{GetHolds, DefaultHolds, OwnDefaultHolds, SetCase, SetHolds, Means, SetMeansHolds}
+use Rattle.agreement.specs.Claims.{NoMeaningHolds, SetGetHolds, VoidHolds, VoidMeansHolds, VoidSetHolds, HaserHolds}
+use Rattle.agreement.specs.Claims.{TagPastHolds, HaserPastHolds, NoHaserHolds}
 use Rattle.agreement.proofs.AnsweredLaws.{ran-generated}
 use Rattle.agreement.proofs.GetterLaws.{own-default}
 use Rattle.agreement.proofs.HaserLaws.{openingOf, whole-opening, haser-given, no-haser}
@@ -94,6 +97,25 @@ set-means-holds s id place a k w v r c =
     let leaves = set-holds s id place a k w v r c in
     let means = setting.setter-means (tagAt a) (placeAt a k) v (setterMask a k) r in
     ((λ long tag-long. let x = means .0 long tag-long in (x .0, leaves ∙ x .1)), λ m. means .1 (m .0) (sym leaves ∙ m .1))
+
+-- the getter is given, so the default is of the slot's kind; a run that leaves no record has no meaning
+pub no-meaning-holds : NoMeaningHolds
+no-meaning-holds s id place a k w isReader isFn g v r bits setter getter =
+    (λ past. go past (runSetter w v r) refl, λ e held. let m = means .0 (held .0) (held .1) in clash (m .0) (sym e ∙ m .1))
+  where
+    means : (Holds (placeAt a k) r → TagHolds (tagAt a) r → Means w v r)
+        × (Means w v r → Holds (placeAt a k) r × TagHolds (tagAt a) r)
+    means =
+        let own = own-default-holds s id place a isReader isFn g getter in
+        set-means-holds s id place a k w v r (record { has-bits = bits; own-default = own; setter = setter })
+
+    clash : (left : Record) → none ≡ some left → ⊥
+    clash left e = let z : _≡_ {A = ℕ} 0 1 = cc in omega arith
+
+    go : (Holds (placeAt a k) r × TagHolds (tagAt a) r → ⊥) → (o : Option Record) → runSetter w v r ≡ o
+        → runSetter w v r ≡ none
+    go past none e = e
+    go past (some left) e = absurd (past (means .1 (left, e)))
 
 -- ---- set and get, from the two: the getter is given, so the default is of the slot's kind
 
@@ -163,6 +185,11 @@ haser-holds s id place a isReader h r p hs =
     ap (λ (x : Str). runHaser x r) text
     ∙ meaning.haser-holds (openingOf to name d (a .slot) isReader) isReader (tagAt a) (a .slot .offset) r
     (whole-opening to name d (a .slot) isReader (b .named) .is)
+
+pub tag-past-holds : TagPastHolds
+tag-past-holds s id place a isReader h r t p hs e past =
+    haser-holds s id place a isReader h r p hs
+    ∙ rw (e, get-past (tagPlace (t .0)) 0 r (pow-pos 16) past)
 
 pub haser-past-holds : HaserPastHolds
 haser-past-holds s id place a isReader h r p hs past =

@@ -1,15 +1,17 @@
 -- What is claimed of the texts of a slot's accessors, each as a run of the entry left it: a getter alone, a setter alone, set and
 -- then get, the Void setter, hasers. `expected` (crate meaning) is v but for document 01's two exceptions. Assumes nothing.
 use mathlib.Core.Path.{_≡_}
-use mathlib.Core.Bool.{Bool, true, false}
+use mathlib.Core.Bool.{Bool, true, false, not}
 use mathlib.Core.Logic.{_⊎_}
-use mathlib.Core.Option.{some}
+use mathlib.Core.Option.{none, some}
 use Prim.Native.Nat.{ℕ, _^_, _<_}
-use Rattle.text.specs.Bytes.{Str, unit}
+use lib.Dec.{eqb}
+use Rattle.text.specs.Bytes.{Str, both, unit}
 use Rattle.text.specs.declared.Text.{Text}
 use Rattle.tree.specs.Read.{admitted}
 use Rattle.codegen_types.specs.TypeString.{isPointer}
-use Rattle.record.specs.Record.{Record, get, Covers, Holds, HoldsPointer, Same}
+use Rattle.record.specs.Lines.{Tag}
+use Rattle.record.specs.Record.{Record, get, null, Covers, Holds, HoldsPointer, Same}
 use Rattle.record.specs.Types.{Kind, slotBits, kindOf}
 use Rattle.meaning.specs.Claims.{TagHolds, TagHas, TagClear, TagIs, setterLeaves, voidLeaves, hasAnswer}
 use Rattle.meaning.specs.Meaning.{runSetter, runGetter, runHaser}
@@ -86,6 +88,15 @@ SetMeansHolds =
     → (Holds (placeAt a k) r → TagHolds (tagAt a) r → Means w v r)
     × (Means w v r → Holds (placeAt a k) r × TagHolds (tagAt a) r)
 
+-- In the words of request N6, for a slot whose setter and one of whose getters are generated: no meaning exactly where slot or
+-- tag is not wholly inside.
+abbrev pub NoMeaningHolds : Type 0
+NoMeaningHolds =
+    (s : Str) (id place : ℕ) (a : SlotAt s id place) (k : Kind) (w : Str) (isReader isFn : Bool) (g : Str) (v : ℕ) (r : Record)
+    → kindOf (slotKind a) ≡ some k → Ran s id place Setter w → Ran s id place (Getter isReader isFn) g
+    → ((Holds (placeAt a k) r × TagHolds (tagAt a) r → ⊥) → runSetter w v r ≡ none)
+    × (runSetter w v r ≡ none → Holds (placeAt a k) r × TagHolds (tagAt a) r → ⊥)
+
 -- ---- set and get
 
 -- A case of demand 3: a Bool, numeric or enum slot, its setter's text and the text of one of its getters, a value of its width,
@@ -154,6 +165,13 @@ HaserHolds =
     (s : Str) (id place : ℕ) (a : SlotAt s id place) (isReader : Bool) (h : Str) (r : Record)
     → isPointer (a .slot .ty) ≡ true → Ran s id place (Haser isReader) h
     → runHaser h r ≡ some (hasAnswer (tagAt a) (record { 0 = a .slot .offset }) r)
+
+-- a tag that is not wholly inside reads 0: the member with discriminant 0 goes on to its pointer, any other says false
+abbrev pub TagPastHolds : Type 0
+TagPastHolds =
+    (s : Str) (id place : ℕ) (a : SlotAt s id place) (isReader : Bool) (h : Str) (r : Record) (t : Tag)
+    → isPointer (a .slot .ty) ≡ true → Ran s id place (Haser isReader) h → tagAt a ≡ some t → (TagHolds (some t) r → ⊥)
+    → runHaser h r ≡ some (both (eqb 0 (t .1)) (not (null (record { 0 = a .slot .offset }) r)))
 
 -- false on every record that does not have the pointer
 abbrev pub HaserPastHolds : Type 0

@@ -48,7 +48,7 @@ abbrev pub TagClear : Option Tag → Place → Type 0
 TagClear none p = Unit {0}
 TagClear (some t) p = Clear p (tagPlace (t .0))
 
--- the tag holds the member's discriminant value
+-- the tag reads as the member's discriminant value; past the end of the section it reads 0
 abbrev pub TagIs : Option Tag → Record → Type 0
 TagIs none r = Unit {0}
 TagIs (some t) r = get (tagPlace (t .0)) 0 r ≡ t .1
@@ -60,10 +60,6 @@ abbrev pub TextGetHolds : Type 0
 TextGetHolds =
     (typ : Str) (isReader : Bool) (k : Kind) (o : ℕ) (mg : Option ℕ) (r : Record) → whole typ ≡ true → MaskFits k mg
     → runGetter (getterLines typ (getLine isReader k o (mapO (getMaskText k) mg))) r ≡ some (get (placeOf k o) (maskBits mg) r)
-
--- Where the section does not hold the place whole, a get finds zero bits, so it answers its mask, the slot's default.
-abbrev pub DefaultGetHolds : Type 0
-DefaultGetHolds = (p : Place) (m : ℕ) (r : Record) → m < 2 ^ bitCount p → (Holds p r → ⊥) → get p m r ≡ m
 
 -- what the tag's line leaves, and after it the value's line
 abbrev pub voidLeaves : Option Tag → Record → Option Record
@@ -166,10 +162,6 @@ abbrev pub TextHaserHolds : Type 0
 TextHaserHolds =
     (opening : Str) (isReader : Bool) (tag : Option Tag) (i : ℕ) (r : Record) → whole opening ≡ true
     → runHaser (haserText opening isReader tag i) r ≡ some (hasAnswer tag (record { 0 = i }) r)
-
--- A pointer past the pointers tests absent.
-abbrev pub AbsentHolds : Type 0
-AbsentHolds = (i : PointerOffset) (r : Record) → (HoldsPointer i r → ⊥) → null i r ≡ true
 
 -- ---- zeroing
 

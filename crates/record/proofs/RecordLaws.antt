@@ -17,6 +17,7 @@ use Rattle.record.specs.Bits.{bit}
 use Rattle.record.specs.Offsets.{Place, from, bitCount, pointerAddress}
 use Rattle.record.specs.Record.{Record, read, write, masked, coded, getBits, putBits, nullFlag, clearFlag, get, putValue}
 use Rattle.record.specs.Record.{null, clear, Covers, Clear, Holds, HoldsPointer, Same}
+use Rattle.record.specs.Past.{DefaultGetHolds, AbsentHolds}
 use Rattle.record.specs.declared.PointerOffset.{PointerOffset}
 use Rattle.record.proofs.BitLaws.{length-xors, of-to, xors-twice, xors-xor, mask-alone}
 use Rattle.record.proofs.SectionLaws.{length-write, read-write, write-at, write-out, found-ext, found-inside}
@@ -35,7 +36,7 @@ unfolding getBits
 get-inside p k r h = rw (found-inside (from p) (bitCount p) (r .bits) h)
 
 -- a place that the section does not hold whole: the mask alone
-pub get-past : (p : Place) (k : ℕ) (r : Record) → k < 2 ^ bitCount p → (Holds p r → ⊥) → get p k r ≡ k
+pub get-past : DefaultGetHolds
 unfolding getBits
 get-past p k r l h =
     rw (found-past (from p) (bitCount p) (r .bits) (omega arith)) (mask-alone (bitCount p) k ∙ mod-eq-of-lt l)
@@ -162,7 +163,7 @@ module _ (i : PointerOffset) (r : Record) (h : HoldsPointer i r) where
   cleared-other j n = write-out (pointerAddress i) (false ∷ []) (r .pointers) one-inside j (λ x. n (omega arith))
 
 -- past the pointers every pointer is null
-pub null-past : (i : PointerOffset) (r : Record) → (HoldsPointer i r → ⊥) → null i r ≡ true
+pub null-past : AbsentHolds
 unfolding nullFlag
 null-past i r h = rw (found-past (pointerAddress i) 1 (r .pointers) (omega arith))
 

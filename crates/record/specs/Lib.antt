@@ -2,6 +2,7 @@ pub mod Bits
 pub mod Offsets
 pub mod Record
 pub mod Bytes
+pub mod Past
 pub mod Answers
 pub mod Types
 pub mod Masks

@@ -43,7 +43,7 @@ inside a n l = leb (a + n) (length l)
 unfoldable pub found : ℕ → ℕ → List Bool → List Bool
 found a n l = cond (inside a n l) (read a n l) (replicate n false)
 
--- What a set or a clear leaves: past its section it has no meaning.
+-- What a set or a clear leaves: it has no meaning where it is not wholly inside its section.
 unfoldable pub stored : ℕ → List Bool → List Bool → Option (List Bool)
 stored a vs l = only (inside a (length vs) l) (write a vs l)
 

@@ -11,6 +11,7 @@ ghost use Rattle.record.specs.Offsets.{bytesOf, bitAddress, elementAddre
 ghost use Rattle.record.specs.Record.{getBits, tagIs, nullFlag};
 ghost use Rattle.record.specs.Answers.{Put, Cleared};
 ghost use Rattle.record.specs.Bytes.{BoolAtHolds, NumberAtHolds, SetBytesHolds, SameBytesHolds};
+ghost use Rattle.record.specs.Past.{DefaultGetHolds, AbsentHolds};
 
 // An offset of a Bool, in bits.
 pub struct BitOffset(pub u32);
@@ -35,7 +36,7 @@ pub enum Width {
     Eight,
 }
 
-// What becomes of a set or a clear; past the section it has no meaning, and the record is as before.
+// What becomes of a set or a clear; where it is not wholly inside its section it has no meaning, and the record is as before.
 pub enum Set {
     Done,
     NoMeaning,
@@ -289,7 +290,9 @@ pub fn clear(pointers: &mut [u8], o: PointerOffset) -> Set
     }
 }
 
-// Makes it a promise of this crate which bytes the bits of a record are: a Bool's, a number's, and those that a set changes.
+// Makes it a promise of this crate which bytes the bits of a record are: a Bool's, a number's, and those that a set changes; and
+// what is found where a record ends before a slot.
 pub fn claims()
-    ensures { λ r. ⌜ BoolAtHolds × NumberAtHolds × SetBytesHolds × SameBytesHolds ⌝ }
+    ensures bytes { λ r. ⌜ BoolAtHolds × NumberAtHolds × SetBytesHolds × SameBytesHolds ⌝ }
+    ensures past { λ r. ⌜ DefaultGetHolds × AbsentHolds ⌝ }
 {}

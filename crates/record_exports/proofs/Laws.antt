@@ -12,7 +12,8 @@ use Rattle.record.specs.declared.ElementOffset.{ElementOffset}
 use Rattle.record.specs.declared.PointerOffset.{PointerOffset}
 use Rattle.record.specs.declared.Set.{Set}
 use Rattle.record.specs.declared.Width.{Width}
-use Rattle.record_exports.specs.Boundary.{asWidth, measured, getOf, putOf, Gave, SetLeft}
+use Rattle.record_exports.specs.Boundary.{asWidth, getOf, putOf, Gave, SetLeft}
+use Rattle.record_exports.specs.Enums.{measured}
 use Rattle.record_exports.specs.declared.Measure.{Measure}
 use Rattle.record_exports.specs.declared.Measure.the-variants.{Is, No}
 

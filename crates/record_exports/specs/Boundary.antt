@@ -15,8 +15,6 @@ use Rattle.record.specs.declared.ElementOffset.{ElementOffset}
 use Rattle.record.specs.declared.PointerOffset.{PointerOffset}
 use Rattle.record.specs.declared.Width.{Width}
 use Rattle.record.specs.declared.Width.the-variants.{One, Two, Four, Eight}
-use Rattle.record_exports.specs.declared.Measure.{Measure}
-use Rattle.record_exports.specs.declared.Measure.the-variants.{Is, No}
 
 -- offsets by their numbers
 abbrev pub bits : ℕ → BitOffset
@@ -33,11 +31,6 @@ abbrev pub asWidth : ℕ → Option Width
 asWidth n =
     cond (eqb n 1) (some One)
     (cond (eqb n 2) (some Two) (cond (eqb n 4) (some Four) (cond (eqb n 8) (some Eight) none)))
-
--- the width that was measured, if any
-abbrev pub measured : Measure → Option Width
-measured (Is w) = some w
-measured No = none
 
 -- a get and a set of a Bool
 abbrev pub getsBool : ℕ → ℕ → List ℕ → ℕ

@@ -10,8 +10,9 @@ ghost use lib.ListN.{set};
 ghost use Rattle.record.specs.Bits.{bit, sectionBits, flags};
 ghost use Rattle.record.specs.Record.{tagIs, nullFlag, clearFlag};
 ghost use Rattle.record.specs.Answers.{setMeans};
-ghost use Rattle.record_exports.specs.Boundary.{getsBool, putBool, elements, pointerAt, asWidth, measured, getOf, putOf};
+ghost use Rattle.record_exports.specs.Boundary.{getsBool, putBool, elements, pointerAt, asWidth, getOf, putOf};
 ghost use Rattle.record_exports.specs.Boundary.{Gave, SetLeft};
+ghost use Rattle.record_exports.specs.Enums.{measured};
 
 // The width that a number of bytes is, if it is one.
 enum Measure {

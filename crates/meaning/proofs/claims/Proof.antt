@@ -1,5 +1,4 @@
 -- `meaning::claims` meets its contract: each claim is a law. Assumes nothing.
-use Rattle.record.proofs.RecordLaws.{get-past, null-past}
 use Rattle.meaning.proofs.HaserLaws.{haser-holds}
 use Rattle.meaning.proofs.MaskLaws.{expected-holds}
 use Rattle.meaning.proofs.SetLaws.{get-holds, set-holds, setter-means, setter-leaves, void-holds, set-get-holds}
@@ -11,7 +10,6 @@ use Rattle.meaning.proofs.claims.Tie as tie
 returns : tie.Need-returns
 returns c = (
   get-holds,
-  get-past,
   set-holds,
   setter-means,
   setter-leaves,
@@ -20,7 +18,6 @@ returns c = (
   expected-holds,
   void-set-holds,
   haser-holds,
-  null-past,
   zeroing-holds,
 )
 
