@@ -93,7 +93,8 @@ uint64_t kitlubas_index(const uint8_t *s, size_t s_len, uint64_t *index, size_t 
 
 /*
  * Answers and leaves what kitlubas_answer does, over the index that kitlubas_index filled for these bytes, without
- * admitting them again. Over any other index it returns, no byte of buf before *fill has changed, and *fill has not fallen.
+ * admitting them again. Over any other index it returns, no byte of buf before *fill has changed, and *fill has neither fallen
+ * nor passed the end of buf; after a number other than 0 nothing has changed.
  */
 uint64_t kitlubas_answer_in(const uint8_t *s, size_t s_len, const uint64_t *index, size_t index_len, uint64_t id,
                             uint64_t place, uint64_t request, uint64_t leaf, size_t *fill, size_t *line, uint8_t *buf,

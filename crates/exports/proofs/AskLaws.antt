@@ -17,6 +17,7 @@ use Rattle.requests.specs.declared.Answer.the-variants.{Done, Refused}
 use Rattle.nodes.proofs.NameLaws.{names-out}
 use Rattle.requests.proofs.LeafLaws.{more}
 use Rattle.exports.specs.Boundary.{numberIn, lineIn, fillIn, replyOf, ask, accessors, accessorNumbered, Said, Asked}
+use Rattle.exports.specs.Boundary.{AskedWithin}
 
 -- a request that comes to o, asked at the state t of a fill count
 module _ (l : Str) (fill : ℕ) (o : Outcome) (t : Text) (l′ : Str) (r : Answer) (at : t ≡ stateAt fill)
@@ -46,15 +47,23 @@ asked-in l fill sh id q q′ t l′ r e at answered =
     asked l fill (outcome (requestText sh id q′)) t l′ r at
     (subst (λ (x : Request). Answered l t (outcome (requestText sh id x)) l′ r) e answered)
 
--- over any index: no byte before the fill count changes, and the count does not fall
+-- over any index: what is promised of the answer is told
 pub told-within : (l l′ : Str) (fill : ℕ) (t : Text) (r : Answer) (fill′ number line : ℕ) → t ≡ stateAt fill
-    → AnswerWithin l t l′ r → Said (inNumbers r) fill fill′ number line → (take fill l′ ≡ take fill l) × (fill ≤ fill′)
+    → AnswerWithin l t l′ r → Said (inNumbers r) fill fill′ number line → AskedWithin l fill l′ fill′ number
 told-within l l′ fill t (Done u) fill′ number line e h s =
     let x : take fill l′ ≡ take fill l = rw e at (h .0) in
-    let y : fill ≤ u .at = rw e at (h .1) in
-    (x, omega (arith, y, s .fill-is))
-told-within l l′ fill t (Refused k line₁) fill′ number line e h s =
-    (ap (λ (x : Str). take fill x) h, omega (arith, s .fill-is))
+    let y : fill ≤ u .at = rw e at (h .1) in record {
+      before = x;
+      not-below = omega (arith, y, s .fill-is);
+      not-past = λ within. omega (arith, h .2, s .fill-is);
+      refused-so = λ n. absurd (n (s .number-is));
+    }
+told-within l l′ fill t (Refused k line₁) fill′ number line e h s = record {
+  before = ap (λ (x : Str). take fill x) h;
+  not-below = omega (arith, s .fill-is);
+  not-past = λ within. omega (arith, s .fill-is);
+  refused-so = λ n. (h, s .fill-is);
+}
 
 -- the two cases of an answer
 pub said-done : (fill n : ℕ) (r : Answer) (t : Text) → r ≡ Done t → n ≡ t .at → Said (inNumbers r) fill n 0 0

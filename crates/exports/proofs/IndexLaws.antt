@@ -4,12 +4,11 @@ use mathlib.Core.Path.{_≡_, refl, sym, ap, _∙_}
 use mathlib.Core.List.{List, [], _∷_}
 use mathlib.Core.Option.{Option, none, some}
 use Prim.Native.Nat.{ℕ, _-_, _≤_}
-use native.Mathlib.Omega.{arith}
 use lib.ListN.{length, drop}
 use Rattle.text.specs.Bytes.{Str}
 use Rattle.row.specs.Rows.{rows, restOf}
 use Rattle.row.specs.Line.{textAt}
-use Rattle.row.specs.Span.{spanned}
+use Rattle.row.specs.Span.{spanned, spanBetween}
 use Rattle.row.specs.declared.Span.{Span}
 use Rattle.tree.specs.Tree as tree
 use Rattle.tree.specs.Tree.{Arm, slot, group, Node}
@@ -18,10 +17,10 @@ use Rattle.tree.proofs.OtherLines.{never}
 use Rattle.codegen_types.specs.Out.{Out, ok, refused, _then_}
 use Rattle.nodes.specs.Index.{nth, entryWith, Indexed, Finds}
 use Rattle.nodes.specs.declared.Entry.{Entry}
+use Rattle.nodes.specs.declared.Found.{Found}
 use Rattle.nodes.specs.declared.Found.the-variants as found
 use Rattle.nodes.proofs.Laws.{nth-is}
-use Rattle.nodes.proofs.NameLaws.{names-out}
-use Rattle.field.specs.Field.{SlotIn, GroupIn, ReadsFirst, FindsField}
+use Rattle.field.specs.Field.{SlotIn, GroupIn, ReadsFirst, Fewer, FindsField}
 use Rattle.field.specs.Numbers.{withField}
 use Rattle.field.specs.declared.Slot.{Slot}
 use Rattle.field.specs.declared.Group.{Group}
@@ -33,7 +32,8 @@ use Rattle.requests.specs.Told.{passNumbers, Passed, PassWithin, inNode}
 use Rattle.requests.specs.declared.Accessor.{Accessor}
 use Rattle.requests.specs.declared.Pass.{Pass}
 use Rattle.requests.specs.declared.Pass.the-variants.{Whole}
-use Rattle.exports.specs.Boundary.{lengthTold, PassTold, NodeSaid, kindTold, FieldSaid, FirstPut}
+use Rattle.exports.specs.Boundary.{lengthTold, PassTold, SpanTold, NodeSaid, EntryTold, kindTold, FieldSaid, FirstPut}
+use Rattle.exports.specs.Boundary.{ValueRead}
 
 -- a pass, told by its number and length
 pub pass-told : (o : Out Str) (l l′ : Str) (r p : Pass) (number size : ℕ) → Passed o l l′ r → r ≡ p
@@ -67,12 +67,21 @@ whole-within l r n h e = rw e at h
 abbrev Spans : Str → Span → ℕ → ℕ → Type 0
 Spans s p at next = rows (drop next s) ≡ restOf (rows (drop at s)) → spanned s p ≡ textAt (rows (drop at s))
 
+-- what is told of a span that is known
+span-told : {p q : Span} → p ≡ q → SpanTold q (p .start) (p .end - p .start)
+span-told e = (ap (λ (x : Span). x .start) e, ap (λ (x : Span). x .end - x .start) e)
+
 -- ---- the node with a number
 
-module _ (s : Str) (ns : List Node) (index : List ℕ) (x : Indexed s ns index) (k : ℕ) where
-  pub node-past : 64 ≤ k → NodeSaid s (nth k ns) 15 0 0 0 0
-  node-past h = rw (names-out k ns (omega (arith, x .few))) (refl, refl, refl, refl, refl)
+-- over any index
+pub entry-none : (s : Str) {f : Found} → found.Nothing ≡ f → EntryTold s f 15 0 0 0 0
+entry-none s e = rw (← e) (refl, refl, refl, refl, refl)
 
+pub entry-some : (s : Str) {f : Found} (e : Entry) (p : Span) → found.At e ≡ f → p ≡ spanBetween s (e .at) (e .params)
+    → EntryTold s f 0 (e .id) (p .start) (p .end - p .start) (e .fields)
+entry-some s e p i is = rw (← i) (refl, refl, span-told is, refl)
+
+module _ (s : Str) (ns : List Node) (index : List ℕ) (x : Indexed s ns index) (k : ℕ) where
   pub node-none : found.Nothing ≡ entryWith index k → NodeSaid s (nth k ns) 15 0 0 0 0
   node-none e = go (nth k ns) (rw (← e) at (nth-is s ns index k x))
     where
@@ -136,6 +145,39 @@ module _ (s : Str) (p : Span) where
 pub nothing-told : (s : Str) (fs : List tree.Field) → ReadsFirst s field.Nothing fs → FieldSaid s fs 15 0 0 0 0
 nothing-told s [] h = (refl, refl, refl, refl, refl)
 nothing-told s (f ∷ fs) h = absurd (h .0)
+
+-- over any bytes: the field r that was read, of which the numbers were put
+module _ (s : Str) (from : ℕ) (r : Field) (l l′ : List ℕ)
+    (first : (fs : List tree.Field) → FieldsHere (rows (drop from s)) fs → ReadsFirst s r fs) (fewer : Fewer s from r)
+    (put : l′ ≡ withField l r) where
+  pub slot-read : (x : Slot) (p : Span) → r ≡ field.Slot x → p ≡ spanBetween s (x .at) (x .typ)
+      → ValueRead s from l l′ 0 (x .kind) (p .start) (p .end - p .start) (x .next)
+  slot-read x p e is = record {
+    value = r;
+    first = first;
+    fewer = fewer;
+    told = rw e (refl, refl, span-told is, refl);
+    numbers = put;
+  }
+
+  pub group-read : (x : Group) (p : Span) → r ≡ field.Group x → p ≡ spanBetween s (x .at) (x .next)
+      → ValueRead s from l l′ 0 19 (p .start) (p .end - p .start) (x .next)
+  group-read x p e is = record {
+    value = r;
+    first = first;
+    fewer = fewer;
+    told = rw e (refl, refl, span-told is, refl);
+    numbers = put;
+  }
+
+  pub nothing-read : r ≡ field.Nothing → ValueRead s from l l′ 15 0 0 0 0
+  nothing-read e = record {
+    value = r;
+    first = first;
+    fewer = fewer;
+    told = rw e (refl, refl, refl, refl, refl);
+    numbers = put;
+  }
 
 -- the numbers that were put are those of the field that was read
 pub first-put : (s : Str) (from : ℕ) (r : Field) (l l′ : List ℕ)

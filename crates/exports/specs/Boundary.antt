@@ -14,15 +14,21 @@ use Rattle.names.specs.Names.{taken}
 use Rattle.text.specs.Answer as text
 use Rattle.row.specs.Rows.{rows}
 use Rattle.row.specs.Line as line
+use Rattle.row.specs.Span.{spanBetween}
+use Rattle.row.specs.declared.Span.{Span}
 use Rattle.tree.specs.Tree as tree
 use Rattle.tree.specs.Tree.{Arm, slot, group, Node, Sheet}
 use Rattle.tree.specs.Read.{Admitted, sheet, refused, admitted}
 use Rattle.tree.specs.Fields.{FieldsHere}
 use Rattle.nodes.specs.Index.{nth, Indexed, ForAll}
+use Rattle.nodes.specs.declared.Found.{Found}
+use Rattle.nodes.specs.declared.Found.the-variants as found
 use Rattle.sheet.specs.Admission.{IndexOf}
 use Rattle.codegen_types.specs.Out.{Out, ok, _then_}
-use Rattle.field.specs.Field.{FindsField}
-use Rattle.field.specs.Numbers.{fieldSize, fieldIn}
+use Rattle.field.specs.Field.{ReadsFirst, Fewer, FindsField}
+use Rattle.field.specs.Numbers.{fieldSize, fieldIn, withField}
+use Rattle.field.specs.declared.Field.{Field}
+use Rattle.field.specs.declared.Field.the-variants as field
 use Rattle.requests.specs.Requests.{there, accessorText, ofField, Outcome, outcomeOf, entryAnswer, entryBuffer}
 use Rattle.requests.specs.Told.{passOf, inNode}
 use Rattle.requests.specs.declared.Request.{Request}
@@ -128,6 +134,14 @@ pub record Asked (l : Str) (fill : ℕ) (reply : Str → ℕ → Reply) (l′ : 
 abbrev pub OverIndex : Str → List ℕ → (Admitted → Type 0) → Type 0
 OverIndex s index P = ForAll (line.textAt (rows s)) s index (λ sh. P (sheet sh))
 
+-- over any index and any bytes: no byte before the fill count changes, and the count neither falls nor passes the end; a refusal
+-- changes nothing
+pub record AskedWithin (l : Str) (fill : ℕ) (l′ : Str) (fill′ number : ℕ) : Type 0 where
+  pub before : take fill l′ ≡ take fill l
+  pub not-below : fill ≤ fill′
+  pub not-past : fill ≤ length l → fill′ ≤ length l
+  pub refused-so : (number ≡ 0 → ⊥) → (l′ ≡ l) × (fill′ ≡ fill)
+
 -- over the index that `kitlubas_index` fills for an admitted sheet, what `kitlubas_answer_in` promises of a request is what
 -- `kitlubas_answer` promises
 abbrev pub SameAnswersHold : Type 0
@@ -155,6 +169,10 @@ TextTold s index node numbers accessor l l′ number size =
     (λ sh. (o : Option tree.Field) → FindsField s (fieldIn numbers) o
     → PassTold (inNode (sh .nodes) node o then λ at. there accessor then accessorText sh at) l l′ number size)
 
+-- a span is told by its place and its length
+abbrev pub SpanTold : Span → ℕ → ℕ → Type 0
+SpanTold p at size = (at ≡ p .start) × (size ≡ p .end - p .start)
+
 -- a node is told by its id, the place and the length of its module in s, and where its first field stands
 pub record NodeIs (s : Str) (n : Node) (number id at size first : ℕ) : Type 0 where
   pub number-is : number ≡ 0
@@ -171,6 +189,13 @@ NodeSaid s none number id at size first = (number ≡ 15) × (id ≡ 0) × (at �
 abbrev pub NodeTold : Str → List ℕ → ℕ → ℕ → ℕ → ℕ → ℕ → ℕ → Type 0
 NodeTold s index k number id at size first =
     (ns : List Node) → Indexed s ns index → NodeSaid s (nth k ns) number id at size first
+
+-- over any index: what is told is of the entry with the number, its module being the text of the row where it says that the N
+-- line stands; 15 and zeros where there is none
+abbrev pub EntryTold : Str → Found → ℕ → ℕ → ℕ → ℕ → ℕ → Type 0
+EntryTold s (found.At e) number id at size first =
+    (number ≡ 0) × (id ≡ e .id) × SpanTold (spanBetween s (e .at) (e .params)) at size × (first ≡ e .fields)
+EntryTold s found.Nothing number id at size first = (number ≡ 15) × (id ≡ 0) × (at ≡ 0) × (size ≡ 0) × (first ≡ 0)
 
 -- a field's kind: that of a slot's type, or 19 for a group
 abbrev pub kindTold : Arm → ℕ
@@ -199,3 +224,21 @@ abbrev pub FirstPut : Str → ℕ → List ℕ → List ℕ → Type 0
 FirstPut s from l numbers =
     fieldSize ≤ length l → (fs : List tree.Field) → FieldsHere (rows (drop from s)) fs
     → FindsField s (fieldIn numbers) (nth 0 fs)
+
+-- what is told of a field by value: its name is the text of the row where it says that its F or G line stands; 15 and zeros for
+-- nothing
+abbrev pub ValueTold : Str → Field → ℕ → ℕ → ℕ → ℕ → ℕ → Type 0
+ValueTold s (field.Slot r) number kind at size next =
+    (number ≡ 0) × (kind ≡ r .kind) × SpanTold (spanBetween s (r .at) (r .typ)) at size × (next ≡ r .next)
+ValueTold s (field.Group g) number kind at size next =
+    (number ≡ 0) × (kind ≡ 19) × SpanTold (spanBetween s (g .at) (g .next)) at size × (next ≡ g .next)
+ValueTold s field.Nothing number kind at size next = (number ≡ 15) × (kind ≡ 0) × (at ≡ 0) × (size ≡ 0) × (next ≡ 0)
+
+-- over any bytes: what is told and what is put into l is of one field by value, which leaves fewer rows, and is the first of the
+-- fields at the position where these are fields
+pub record ValueRead (s : Str) (from : ℕ) (l l′ : List ℕ) (number kind at size next : ℕ) : Type 0 where
+  pub value : Field
+  pub first : (fs : List tree.Field) → FieldsHere (rows (drop from s)) fs → ReadsFirst s value fs
+  pub fewer : Fewer s from value
+  pub told : ValueTold s value number kind at size next
+  pub numbers : l′ ≡ withField l value

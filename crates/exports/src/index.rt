@@ -13,12 +13,13 @@ use terms::refusals;
 use text::Text;
 ghost use mathlib.Core.Path.{_≡_};
 ghost use Prim.Native.Nat.{_+_, _≤_};
-ghost use lib.ListN.{length, take};
+ghost use lib.ListN.{length};
 ghost use Rattle.tree.specs.Read.{admitted};
-ghost use Rattle.nodes.specs.Index.{indexSize};
+ghost use Rattle.nodes.specs.Index.{indexSize, entryWith};
 ghost use Rattle.sheet.specs.Admission.{IndexOf};
 ghost use Rattle.exports.specs.Boundary.{Told, Asked, ask, accessorNumbered, requestOf};
-ghost use Rattle.exports.specs.Boundary.{SameAnswersHold, OverIndex, TextTold, NodeTold, FirstTold, FirstPut};
+ghost use Rattle.exports.specs.Boundary.{SameAnswersHold, OverIndex, AskedWithin, TextTold, NodeTold, EntryTold};
+ghost use Rattle.exports.specs.Boundary.{FirstTold, FirstPut, ValueRead};
 
 // What stands for the kind of a group.
 const GROUP: u64 = 19;
@@ -51,8 +52,8 @@ pub extern "C" fn kitlubas_index(s: &[u8], index: &mut [u64], line: &mut usize) 
     }
 }
 
-// The answer to the request with a number, in the sheet with this index. Over any index no byte before the fill count changes,
-// and the count does not fall.
+// The answer to the request with a number, in the sheet with this index. Over any index a refusal changes nothing; no byte before
+// the fill count changes, and the count neither falls nor passes the end.
 #[no_mangle]
 pub extern "C" fn kitlubas_answer_in(
     s: &[u8],
@@ -67,8 +68,7 @@ pub extern "C" fn kitlubas_answer_in(
 ) -> u64
     ensures asked { λ r. ⌜ OverIndex (now (s .entry)) (now (index .entry)) (λ sheet. Asked (now (buf .entry)) (now (fill .entry))
         (ask sheet id (requestOf request place leaf)) (now (buf .exit)) (now (fill .exit)) r (now (line .exit))) ⌝ }
-    ensures before { λ r. ⌜ take (now (fill .entry)) (now (buf .exit)) ≡ take (now (fill .entry)) (now (buf .entry)) ⌝ }
-    ensures after { λ r. ⌜ now (fill .entry) ≤ now (fill .exit) ⌝ }
+    ensures within { λ r. ⌜ AskedWithin (now (buf .entry)) (now (fill .entry)) (now (buf .exit)) (now (fill .exit)) r ⌝ }
 {
     let asked = request_of(request, place, leaf);
     let answer = requests::answer_in(s, index, id, asked, Text::at(*fill), buf);
@@ -130,14 +130,13 @@ pub extern "C" fn kitlubas_node(
     ensures node { λ r. ⌜ NodeTold (now (s .entry)) (now (index .entry)) number r (now (id .exit))
         (now (at .exit)) (now (size .exit)) (now (first .exit)) ⌝ }
     ensures within { λ r. ⌜ now (at .exit) + now (size .exit) ≤ length (now (s .entry)) ⌝ }
+    ensures entry { λ r. ⌜ EntryTold (now (s .entry)) (entryWith (now (index .entry)) number) r (now (id .exit))
+        (now (at .exit)) (now (size .exit)) (now (first .exit)) ⌝ }
 {
     *id = 0;
     *at = 0;
     *size = 0;
     *first = 0;
-    if 64 <= number {
-        return refusals::NOT_THERE;
-    }
     let Found::At(node) = nodes::nth(index, number) else {
         return refusals::NOT_THERE;
     };
@@ -166,6 +165,8 @@ pub extern "C" fn kitlubas_field(
         (now (next .exit)) ⌝ }
     ensures within { λ r. ⌜ now (at .exit) + now (size .exit) ≤ length (now (s .entry)) ⌝ }
     ensures put { λ r. ⌜ FirstPut (now (s .entry)) from (now (field .entry)) (now (field .exit)) ⌝ }
+    ensures value { λ r. ⌜ ValueRead (now (s .entry)) from (now (field .entry)) (now (field .exit)) r (now (kind .exit))
+        (now (at .exit)) (now (size .exit)) (now (next .exit)) ⌝ }
 {
     let read = field::read(s, from);
     field::put(read, field);

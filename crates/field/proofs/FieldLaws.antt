@@ -8,7 +8,7 @@ use native.Mathlib.Numerals.{sub-one}
 use native.Mathlib.Omega.{arith}
 use package.types.Run.{OneOf}
 use denote.Enum.Declared.{tagOf}
-use lib.ListN.{drop}
+use lib.ListN.{drop, length}
 use Rattle.text.specs.Bytes.{Str}
 use Rattle.row.specs.Rows.{rows, restOf}
 use Rattle.row.specs.Line as content
@@ -153,3 +153,10 @@ module _ (s : Str) (at : ℕ) (r : Field)
   place-here zero h [] here = first [] here
   place-here zero h (f ∷ fs) here = first (f ∷ fs) here .0
   place-here (suc n) h fs here = let z : ⊥ = omega arith in absurd z
+
+-- a field that leaves fewer rows than there are at a position leaves fewer than at any before it
+pub fewer-from : (s : Str) (at from : ℕ) (r : Field) → length (rows (drop at s)) ≤ length (rows (drop from s)) → Fewer s at r
+    → Fewer s from r
+fewer-from s at from (field.Slot x) h f = omega arith
+fewer-from s at from (field.Group x) h f = omega arith
+fewer-from s at from field.Nothing h f = tt

@@ -226,8 +226,9 @@ pub fn read(s: &[u8], at: usize) -> Field
 
 // The field with a number, from 0, of those that stand at a position.
 pub fn at_place(s: &[u8], from: usize, place: u64) -> Field
-    ensures { λ r. ⌜ ((fs : List tree.Field) → FieldsHere (rows (drop from (now (s .entry)))) fs
+    ensures found { λ r. ⌜ ((fs : List tree.Field) → FieldsHere (rows (drop from (now (s .entry)))) fs
         → FindsField (now (s .entry)) r (nth place fs)) ⌝ }
+    ensures fewer { λ r. ⌜ Fewer (now (s .entry)) from r ⌝ }
 {
     let mut at = from;
     let mut n = place;

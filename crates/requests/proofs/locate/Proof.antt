@@ -12,7 +12,7 @@ returns : tie.Need-returns
 returns c =
     let at-node = c .before .before in
     let at-find = at-node .before .before in
-    λ nodes x. located _ _ nodes _ _ _ _ x (sym (at-node .node .given .1) ∙ (at-find .find .ensures)) (c .at-place .ensures)
+    λ nodes x. located _ _ nodes _ _ _ _ x (sym (at-node .node .given .1) ∙ (at-find .find .ensures)) (c .at-place .ensures .0)
 
 returns-2 : tie.Need-returns-2
 returns-2 c =

@@ -1,7 +1,7 @@
 -- `exports::index::kitlubas_field` meets its contract: by what stands at the position, the span of its name, and the numbers
 -- that were put of it. Assumes nothing.
 use native.Mathlib.Omega.{arith}
-use Rattle.exports.proofs.IndexLaws.{slot-told, group-told, nothing-told, first-put}
+use Rattle.exports.proofs.IndexLaws.{slot-told, group-told, nothing-told, slot-read, group-read, nothing-read, first-put}
 use borrow.Author.Needs.{needs}
 use Rattle.exports.proofs.index.kitlubas_field.Statement.{statement}
 use Rattle.exports.proofs.index.kitlubas_field.Tie as tie
@@ -27,7 +27,11 @@ returns c =
           (rw (at-slot .read2 .given .1) at ((at-read .read .ensures .0) fs here)) (c .text-span .ensures .1 .0),
       (
         omega (arith, inside .0, inside .1),
-        first-put (a .s .now) (a .from) _ (a .field .now) _ (at-read .read .ensures .0) (at-put .put .ensures),
+        (
+          first-put (a .s .now) (a .from) _ (a .field .now) _ (at-read .read .ensures .0) (at-put .put .ensures),
+          slot-read (a .s .now) (a .from) (at-read .read .result) (a .field .now) _ (at-read .read .ensures .0)
+              (at-read .read .ensures .1) (at-put .put .ensures) _ (c .text-span .result) (at-slot .read2 .given .1) (c .text-span .ensures .1 .1),
+        ),
       ),
     )
 
@@ -44,7 +48,11 @@ returns-2 c =
           (rw (at-group .read3 .given .1) at ((at-read .read .ensures .0) fs here)) (c .text-span2 .ensures .1 .0),
       (
         omega (arith, inside .0, inside .1),
-        first-put (a .s .now) (a .from) _ (a .field .now) _ (at-read .read .ensures .0) (at-put .put .ensures),
+        (
+          first-put (a .s .now) (a .from) _ (a .field .now) _ (at-read .read .ensures .0) (at-put .put .ensures),
+          group-read (a .s .now) (a .from) (at-read .read .result) (a .field .now) _ (at-read .read .ensures .0)
+              (at-read .read .ensures .1) (at-put .put .ensures) _ (c .text-span2 .result) (at-group .read3 .given .1) (c .text-span2 .ensures .1 .1),
+        ),
       ),
     )
 
@@ -57,7 +65,11 @@ returns-3 c =
       λ fs here. nothing-told (a .s .now) fs (rw (c .enum-told .given .1) at ((at-read .read .ensures .0) fs here)),
       (
         omega arith,
-        first-put (a .s .now) (a .from) _ (a .field .now) _ (at-read .read .ensures .0) (at-put .put .ensures),
+        (
+          first-put (a .s .now) (a .from) _ (a .field .now) _ (at-read .read .ensures .0) (at-put .put .ensures),
+          nothing-read (a .s .now) (a .from) (at-read .read .result) (a .field .now) _ (at-read .read .ensures .0)
+              (at-read .read .ensures .1) (at-put .put .ensures) (c .enum-told .given .1),
+        ),
       ),
     )
 

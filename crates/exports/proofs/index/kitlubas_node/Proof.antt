@@ -2,54 +2,45 @@
 -- nothing.
 use mathlib.Core.Path.{sym, _∙_}
 use native.Mathlib.Omega.{arith}
-use Rattle.exports.proofs.IndexLaws.{node-past, node-none, node-some}
+use Rattle.exports.proofs.IndexLaws.{entry-none, entry-some, node-none, node-some}
 use borrow.Author.Needs.{needs}
 use Rattle.exports.proofs.index.kitlubas_node.Statement.{statement}
 use Rattle.exports.proofs.index.kitlubas_node.Tie as tie
 
 returns : tie.Need-returns
 returns c =
-    let start = c .before .before .before in
-    let a = start .args in
-    (λ ns x. node-past (a .s .now) ns (a .index .now) x _ (c .if1 .taken), omega arith)
-
-returns-2 : tie.Need-returns-2
-returns-2 c =
     let at-nth = c .before .before in
-    let at-if1 = at-nth .before in
-    let start = at-if1 .before .before .before in
-    let a = start .args in (
-      λ ns x. node-none (a .s .now) ns (a .index .now) x _ (sym (c .enum-told .given .1) ∙ at-nth .nth .ensures),
-      omega arith,
-    )
+    let start = at-nth .before .before .before in
+    let a = start .args in
+    let none = sym (c .enum-told .given .1) ∙ at-nth .nth .ensures in
+    (λ ns x. node-none (a .s .now) ns (a .index .now) x _ none, (omega arith, entry-none (a .s .now) none))
 
 sub-size : tie.Need-sub-size
 sub-size c =
     omega (arith, c .text-span .ensures .0 .0)
 
-returns-3 : tie.Need-returns-3
-returns-3 c =
+returns-2 : tie.Need-returns-2
+returns-2 c =
     let at-node = c .before .before in
     let at-nth = at-node .before .before in
-    let at-if1 = at-nth .before in
-    let start = at-if1 .before .before .before in
-    let a = start .args in (
-      λ ns x.
-          node-some (a .s .now) ns (a .index .now) x _ _ (c .text-span .result) (sym (at-node .node .given .1) ∙
-          at-nth .nth .ensures)
-          (c .text-span .ensures .1 .0),
-      omega (arith, c .text-span .ensures .0 .0, c .text-span .ensures .0 .1),
+    let start = at-nth .before .before .before in
+    let a = start .args in
+    let some = sym (at-node .node .given .1) ∙ at-nth .nth .ensures in (
+      λ ns x. node-some (a .s .now) ns (a .index .now) x _ _ (c .text-span .result) some (c .text-span .ensures .1 .0),
+      (
+        omega (arith, c .text-span .ensures .0 .0, c .text-span .ensures .0 .1),
+        entry-some (a .s .now) _ (c .text-span .result) some (c .text-span .ensures .1 .1),
+      ),
     )
 
 pub kitlubas-node-spec : {M : Type 1} → statement M
 kitlubas-node-spec =
     tie.close
     (tie.spec
+    (λ c κs. search needs)
+    (λ c. search needs)
+    (λ c. search needs)
     returns
     (λ c κs. search needs)
-    (λ c. search needs)
-    (λ c. search needs)
-    returns-2
-    (λ c κs. search needs)
     sub-size
-    returns-3)
+    returns-2)
