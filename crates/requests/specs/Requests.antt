@@ -31,6 +31,19 @@ use Rattle.requests.specs.declared.Request.the-variants as request
 abbrev pub there : {A : Type 0} → Option A → Out A
 there = orRefused 15
 
+-- the number of each leaf
+abbrev pub leafNumber : Leaf → ℕ
+leafNumber (Reader A) = 0
+leafNumber (Reader Anonymous) = 2
+leafNumber (Builder A) = 1
+leafNumber (Builder Anonymous) = 3
+leafNumber Owned = 4
+leafNumber Client = 5
+leafNumber Server = 6
+leafNumber ServerDispatch = 7
+leafNumber Pipeline = 8
+leafNumber GetType = 9
+
 -- the leaves by their numbers
 abbrev pub leafNumbers : List Leaf
 leafNumbers =

@@ -19,10 +19,10 @@ ghost use lib.ListN.{length};
 ghost use Rattle.text.specs.Bytes.{Str};
 ghost use Rattle.text.specs.Text.{WroteSome};
 ghost use Rattle.tree.specs.Read.{admitted};
-ghost use Rattle.nodes.specs.Index.{nth, indexSize};
+ghost use Rattle.nodes.specs.Index.{indexSize};
 ghost use Rattle.field.specs.declared.Field.the-variants as field-is;
-ghost use Rattle.requests.specs.Requests.{leafNumbers, outcomeOf};
-ghost use Rattle.requests.specs.Enums.{leafSaid};
+ghost use Rattle.requests.specs.Requests.{outcomeOf};
+ghost use Rattle.requests.specs.Enums.{leafSaid, leafAsked};
 ghost use Rattle.requests.specs.Told.{LocatedIn, AccessorWritten, FieldAnswered, PlaceAnswered, RequestAnswered, Answered};
 ghost use Rattle.requests.specs.Told.{AnswerWithin, FieldPassed, TextPassed, PassWithin};
 ghost use Rattle.requests.specs.declared.Accessor.the-variants.{TypeText, Haser};
@@ -83,7 +83,7 @@ fn refused(number: u64) -> Answer
 
 // The leaf with a number: 0 to 3 are Reader and Builder, first with 'a, then with '_.
 fn leaf_of(number: u64) -> LeafNumber
-    ensures { λ r. ⌜ leafSaid r ≡ nth number leafNumbers ⌝ }
+    ensures { λ r. ⌜ leafSaid r ≡ leafAsked number ⌝ }
 {
     match number {
         0 => LeafNumber::Is(Leaf::Reader(Lifetime::A)),
