@@ -16,7 +16,8 @@ use Rattle.requests.specs.declared.Answer.{Answer}
 use Rattle.requests.specs.declared.Answer.the-variants.{Done, Refused}
 use Rattle.nodes.proofs.NameLaws.{names-out}
 use Rattle.requests.proofs.LeafLaws.{more}
-use Rattle.exports.specs.Boundary.{numberIn, lineIn, fillIn, replyOf, ask, accessors, accessorNumbered, Said, Asked}
+use Rattle.exports.specs.Boundary.{numberIn, lineIn, fillIn, replyOf, ask, accessors, accessorNumbered, Asked}
+use Rattle.exports.specs.Parts.{Said}
 use Rattle.exports.specs.Boundary.{AskedWithin}
 
 -- a request that comes to o, asked at the state t of a fill count

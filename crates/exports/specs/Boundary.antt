@@ -115,12 +115,6 @@ requested place none = Unknown
 abbrev pub requestOf : ℕ → ℕ → ℕ → Request
 requestOf number place leaf = requested place (accessorNumbered number leaf)
 
--- over a fill count, an answer leaves fill′, and is told by a number and a line
-pub record Said (a : text.Answer) (fill fill′ number line : ℕ) : Type 0 where
-  pub number-is : number ≡ numberIn a
-  pub line-is : line ≡ lineIn a
-  pub fill-is : fill′ ≡ fillIn fill a
-
 -- over the buffer l and a fill count, a reply leaves l′ and fill′, and is told by a number and a line
 pub record Asked (l : Str) (fill : ℕ) (reply : Str → ℕ → Reply) (l′ : Str) (fill′ number line : ℕ) : Type 0 where
   pub number-is : number ≡ numberIn (reply l fill .answer)

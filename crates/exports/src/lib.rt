@@ -22,8 +22,8 @@ ghost use Rattle.names.specs.Names.{camelToSnakeCase, defaultName, moduleName};
 ghost use Rattle.text.specs.Decimal.{decimal};
 ghost use Rattle.text.specs.Lines.{Line, BlankLine, Branch, none, toLines, stringify, ended};
 ghost use Rattle.requests.specs.Told.{inNumbers};
-ghost use Rattle.exports.specs.Boundary.{Fills, FillsName, Signed, Told, Asked, ask, Said, accessorNumbered, requestOf};
-ghost use Rattle.exports.specs.Parts.{accessorSaid};
+ghost use Rattle.exports.specs.Boundary.{Fills, FillsName, Signed, Told, Asked, ask, accessorNumbered, requestOf};
+ghost use Rattle.exports.specs.Parts.{accessorSaid, Said};
 ghost use mathlib.Core.Path.{_≡_};
 ghost use Prim.Native.Nat.{_-_, _^_, min};
 

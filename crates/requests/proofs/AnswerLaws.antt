@@ -17,7 +17,8 @@ use Rattle.codegen_types.specs.Written.{Writes}
 use Rattle.codegen_types.specs.declared.Written.{Written}
 use Rattle.codegen_types.proofs.WrittenLaws.{text-of}
 use Rattle.requests.specs.Requests.{Outcome, gives, refuses, outcome}
-use Rattle.requests.specs.Told.{Locates, Answered}
+use Rattle.requests.specs.Told.{Answered}
+use Rattle.requests.specs.Parts.{Locates}
 use Rattle.requests.specs.declared.Located.{Located}
 use Rattle.tree.specs.Tree as tree
 use Rattle.tree.specs.Tree.{Node}

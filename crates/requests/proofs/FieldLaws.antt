@@ -39,7 +39,7 @@ use Rattle.codegen.specs.Zeroing.{Zeroing, zeroFieldsOfGroup, zeroingRequest}
 use Rattle.zeroing.specs.Told.{Zeroes}
 use Rattle.zeroing.specs.declared.Zeroed.{Zeroed}
 use Rattle.requests.specs.Requests.{there, leafOf, fieldAt, typeText, slotNamed, slotField, groupOf}
-use Rattle.requests.specs.Told.{Locates}
+use Rattle.requests.specs.Parts.{Locates}
 use Rattle.requests.specs.declared.Located.{Located}
 
 -- ---- where a field is

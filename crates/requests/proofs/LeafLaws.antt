@@ -16,7 +16,7 @@ use Rattle.codegen_types.specs.declared.Lifetime.the-variants.{A, Anonymous}
 use Rattle.nodes.specs.Index.{nth}
 use Rattle.nodes.proofs.NameLaws.{names-out}
 use Rattle.requests.specs.Requests.{there, leafNumber, leafNumbers, leafOf}
-use Rattle.requests.specs.Enums.{leafAsked}
+use Rattle.requests.specs.Parts.{leafAsked}
 
 -- n is past k, where it is not below it and not k
 pub more : (n k : ℕ) → k ≤ n → (n ≡ k → ⊥) → suc k ≤ n

@@ -1,3 +1,3 @@
 pub mod Requests
 pub mod Told
-pub mod Enums
+pub mod Parts

@@ -1,4 +1,4 @@
--- What the entry answers, and what its parts tell of every sheet that has these bytes and this index. Assumes nothing.
+-- What the entry answers, and what is told of every sheet that has these bytes and this index. Assumes nothing.
 use mathlib.Core.Path.{_≡_}
 use mathlib.Core.List.{List}
 use mathlib.Core.Option.{Option, none, some}
@@ -15,16 +15,14 @@ use Rattle.tree.specs.Tree.{Node, Sheet}
 use Rattle.codegen_types.specs.Out.{Out, ok, refused, _then_}
 use Rattle.codegen_types.specs.Written.{Writes}
 use Rattle.codegen_types.specs.declared.Written.{Written}
-use Rattle.nodes.specs.Index.{nth, Indexed, ForAll}
+use Rattle.nodes.specs.Index.{nth, ForAll}
 use Rattle.field.specs.Field.{FieldIs, FindsField}
 use Rattle.field.specs.declared.Field.{Field}
-use Rattle.field.specs.declared.Field.the-variants as field
-use Rattle.requests.specs.Requests.{there, fieldAt, accessorText, requestText, Outcome, outcome, entryAnswer, entryBuffer}
+use Rattle.requests.specs.Requests.{there, accessorText, requestText, Outcome, outcome, entryAnswer, entryBuffer}
 use Rattle.requests.specs.declared.Accessor.{Accessor}
 use Rattle.requests.specs.declared.Request.{Request}
 use Rattle.requests.specs.declared.Pass.{Pass}
 use Rattle.requests.specs.declared.Pass.the-variants as pass
-use Rattle.requests.specs.declared.Located.{Located}
 use Rattle.requests.specs.declared.Answer.{Answer}
 use Rattle.requests.specs.declared.Answer.the-variants.{Done, Refused}
 
@@ -70,11 +68,6 @@ PassWithin l (pass.Refused k) = Unit {0}
 abbrev pub inNode : List Node → ℕ → Option tree.Field → Out (Node × tree.Field)
 inNode nodes number o = there (nth number nodes) then λ n. there o then λ f. ok (n, f)
 
--- a field that was found and the offset of its node's tag; nothing where there is none, which is 15
-abbrev pub Locates : Str → Located → Out (Node × tree.Field) → Type 0
-Locates s r (ok at) = (at .0 .tagOffset ≡ r .tag) × FieldIs s (r .field) (at .1)
-Locates s r (refused k) = (k ≡ 15) × (r .field ≡ field.Nothing)
-
 -- what is told of a field that was read and of a node with this tag, in every sheet with a root whose nodes the index has
 abbrev pub OfField : (root s index : List ℕ) → ℕ → Field → (Sheet → Node × tree.Field → Type 0) → Type 0
 OfField root s index tag f P =
@@ -82,32 +75,16 @@ OfField root s index tag f P =
 
 -- the contracts, over the sheet's bytes and its index
 module _ (s index : List ℕ) where
-  abbrev pub LocatedIn : ℕ → ℕ → Located → Type 0
-  LocatedIn id place r = (nodes : List Node) → Indexed s nodes index → Locates s r (fieldAt nodes id place)
-
   abbrev pub AccessorWritten : Str → ℕ → Field → Accessor → List ℕ → Text → List ℕ → Written → Type 0
   AccessorWritten root tag f accessor l t l′ r =
       OfField root s index tag f (λ sheet at. Writes (accessorText sheet at accessor) l t l′ r)
 
-  -- the answer for a field that was found, for a field by its place, and to any request of a node
-  abbrev pub FieldAnswered : ℕ → Field → Accessor → List ℕ → Text → List ℕ → Answer → Type 0
-  FieldAnswered tag f accessor l t l′ r =
-      OfField (textAt (rows s)) s index tag f (λ sheet at. Answered l t (outcome (accessorText sheet at accessor)) l′ r)
-
-  abbrev pub PlaceAnswered : ℕ → ℕ → Accessor → List ℕ → Text → List ℕ → Answer → Type 0
-  PlaceAnswered id place accessor l t l′ r =
-      ForAll (textAt (rows s)) s index
-      (λ sheet. Answered l t (outcome (fieldAt (sheet .nodes) id place then λ at. accessorText sheet at accessor)) l′ r)
-
+  -- the answer to any request of a node
   abbrev pub RequestAnswered : ℕ → Request → List ℕ → Text → List ℕ → Answer → Type 0
   RequestAnswered id request l t l′ r =
       ForAll (textAt (rows s)) s index (λ sheet. Answered l t (outcome (requestText sheet id request)) l′ r)
 
-  -- one pass for a field that was read, by the tag of its node, and by the number of its node
-  abbrev pub FieldPassed : ℕ → Field → Accessor → Str → Str → Pass → Type 0
-  FieldPassed tag f accessor l l′ r =
-      OfField (textAt (rows s)) s index tag f (λ sheet at. Passed (accessorText sheet at accessor) l l′ r)
-
+  -- one pass for a field that was read, in the node with a number
   abbrev pub TextPassed : ℕ → Field → Accessor → Str → Str → Pass → Type 0
   TextPassed number f accessor l l′ r =
       ForAll (textAt (rows s)) s index

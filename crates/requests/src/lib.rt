@@ -22,9 +22,11 @@ ghost use Rattle.tree.specs.Read.{admitted};
 ghost use Rattle.nodes.specs.Index.{indexSize};
 ghost use Rattle.field.specs.declared.Field.the-variants as field-is;
 ghost use Rattle.requests.specs.Requests.{outcomeOf};
-ghost use Rattle.requests.specs.Enums.{leafSaid, leafAsked};
-ghost use Rattle.requests.specs.Told.{LocatedIn, AccessorWritten, FieldAnswered, PlaceAnswered, RequestAnswered, Answered};
-ghost use Rattle.requests.specs.Told.{AnswerWithin, FieldPassed, TextPassed, PassWithin};
+ghost use Rattle.requests.specs.Parts.{leafSaid, leafAsked};
+ghost use Rattle.requests.specs.Told.{AccessorWritten, RequestAnswered, Answered};
+ghost use Rattle.requests.specs.Parts.{LocatedIn, FieldAnswered, PlaceAnswered};
+ghost use Rattle.requests.specs.Told.{AnswerWithin, TextPassed, PassWithin};
+ghost use Rattle.requests.specs.Parts.{FieldPassed};
 ghost use Rattle.requests.specs.declared.Accessor.the-variants.{TypeText, Haser};
 ghost use Rattle.requests.specs.declared.Answer.the-variants.{Refused};
 

@@ -3,7 +3,7 @@ use mathlib.Core.Path.{sym, ap, _∙_}
 use Rattle.text.proofs.Laws.{no-text}
 use Rattle.codegen_types.proofs.WrittenLaws as written
 use Rattle.requests.specs.Requests.{accessorText}
-use Rattle.requests.specs.Enums.{leafSaid}
+use Rattle.requests.specs.Parts.{leafSaid}
 use Rattle.requests.proofs.LeafLaws.{leaf-is, leaf-none}
 use Rattle.requests.proofs.FieldLaws.{slot-type, slot-no-leaf}
 use borrow.Author.Needs.{needs}
