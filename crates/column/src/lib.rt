@@ -1,4 +1,5 @@
 // The columns of a sheet's line: a number, right-justified in 21 columns, and a text after one space.
+use terms::limits;
 ghost use mathlib.Core.Path.{_≡_};
 ghost use Prim.Native.Nat.{_≤_, _<_};
 ghost use lib.ListN.{length, drop};
@@ -234,7 +235,7 @@ fn ends_in_text(t: &[u8], a: usize, most: usize) -> bool
 pub fn ends_in_name(t: &[u8], a: usize) -> bool
     ensures { λ r. ⌜ r ≡ endsIn isName (now (t .entry)) a ⌝ }
 {
-    if !ends_in_text(t, a, 64) {
+    if !ends_in_text(t, a, limits::NAME_BYTES) {
         return false;
     }
     let b = a + 1;

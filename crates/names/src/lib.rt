@@ -2,6 +2,7 @@
 pub mod keywords;
 
 use crate::keywords::is_keyword;
+use terms::limits;
 use text::Text;
 ghost use mathlib.Core.Path.{_≡_};
 ghost use mathlib.Core.Bool.{true};
@@ -50,7 +51,7 @@ fn to_ascii_uppercase(c: u8) -> u8
 pub fn takes(name: &[u8]) -> bool
     ensures { λ r. ⌜ r ≡ taken (now (name .entry)) ⌝ }
 {
-    if name.len() > 64 {
+    if name.len() > limits::NAME_BYTES {
         return false;
     }
     let mut i = 0;

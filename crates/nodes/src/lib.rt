@@ -1,5 +1,6 @@
 // The index of a sheet's nodes: one flat slice of numbers that the caller lends. Admission fills it, and every request finds
 // its nodes there: what their N rows say, and where their P rows and fields begin.
+use terms::limits;
 ghost use mathlib.Core.Path.{_≡_};
 ghost use mathlib.Core.List.{List};
 ghost use Prim.Native.Nat.{ℕ, _+_, _≤_};
@@ -160,7 +161,7 @@ pub fn find(index: &[u64], id: u64) -> Found
 pub fn nth(index: &[u64], k: usize) -> Found
     ensures { λ r. ⌜ r ≡ entryWith (now (index .entry)) k ⌝ }
 {
-    if 64 <= k {
+    if limits::NODES <= k {
         return Found::Nothing;
     }
     if index.len() == 0 {

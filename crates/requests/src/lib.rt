@@ -10,6 +10,7 @@ use field::Field;
 use field::Group;
 use field::Slot;
 use nodes::Found;
+use terms::leaves;
 use terms::refusals;
 use text::Text;
 ghost use mathlib.Core.Path.{_≡_};
@@ -88,16 +89,16 @@ fn leaf_of(number: u64) -> LeafNumber
     ensures { λ r. ⌜ leafSaid r ≡ leafAsked number ⌝ }
 {
     match number {
-        0 => LeafNumber::Is(Leaf::Reader(Lifetime::A)),
-        1 => LeafNumber::Is(Leaf::Builder(Lifetime::A)),
-        2 => LeafNumber::Is(Leaf::Reader(Lifetime::Anonymous)),
-        3 => LeafNumber::Is(Leaf::Builder(Lifetime::Anonymous)),
-        4 => LeafNumber::Is(Leaf::Owned),
-        5 => LeafNumber::Is(Leaf::Client),
-        6 => LeafNumber::Is(Leaf::Server),
-        7 => LeafNumber::Is(Leaf::ServerDispatch),
-        8 => LeafNumber::Is(Leaf::Pipeline),
-        9 => LeafNumber::Is(Leaf::GetType),
+        leaves::READER_A => LeafNumber::Is(Leaf::Reader(Lifetime::A)),
+        leaves::BUILDER_A => LeafNumber::Is(Leaf::Builder(Lifetime::A)),
+        leaves::READER_ANONYMOUS => LeafNumber::Is(Leaf::Reader(Lifetime::Anonymous)),
+        leaves::BUILDER_ANONYMOUS => LeafNumber::Is(Leaf::Builder(Lifetime::Anonymous)),
+        leaves::OWNED => LeafNumber::Is(Leaf::Owned),
+        leaves::CLIENT => LeafNumber::Is(Leaf::Client),
+        leaves::SERVER => LeafNumber::Is(Leaf::Server),
+        leaves::SERVER_DISPATCH => LeafNumber::Is(Leaf::ServerDispatch),
+        leaves::PIPELINE => LeafNumber::Is(Leaf::Pipeline),
+        leaves::GET_TYPE => LeafNumber::Is(Leaf::GetType),
         _ => LeafNumber::Nothing,
     }
 }

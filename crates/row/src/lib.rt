@@ -4,6 +4,7 @@ mod ends;
 use column::Number;
 pub use ends::row_end;
 use terms::kinds;
+use terms::limits;
 ghost use mathlib.Core.Path.{_≡_};
 ghost use mathlib.Core.List.{_++_};
 ghost use Prim.Native.Nat.{_+_, _-_, _*_, _≤_, _<_};
@@ -16,28 +17,29 @@ ghost use Rattle.row.specs.Line.{textStart, textAt};
 ghost use Rattle.row.specs.Span.{SpanWithin, spanned, spanTo, spanBetween, textBetween};
 ghost use Rattle.text.specs.Bytes.{Str};
 
-// The greatest numbers of 64, 32 and 16 bits.
-const MOST_64: u64 = 0xffff_ffff_ffff_ffff;
-
+// The greatest numbers of 32 and 16 bits.
 const MOST_32: u64 = 0xffff_ffff;
 
 const MOST_16: u64 = 0xffff;
 
+// How many kinds there are.
+const KINDS: usize = 19;
+
 // The greatest bits of a value of each kind: Void, Bool, Int8 to Int64, Uint8 to Uint64, Float32, Float64, Text, Data, List,
 // Enum, Struct, Interface, AnyPointer.
-const MOST_BITS: [u64; 19] = [
+const MOST_BITS: [u64; KINDS] = [
     0,
     1,
     0xff,
     MOST_16,
     MOST_32,
-    MOST_64,
+    u64::MAX,
     0xff,
     MOST_16,
     MOST_32,
-    MOST_64,
+    u64::MAX,
     MOST_32,
-    MOST_64,
+    u64::MAX,
     0,
     0,
     0,
@@ -122,7 +124,7 @@ pub struct Span {
 fn root_line(t: &[u8]) -> Line
     ensures { λ r. ⌜ lineSaid r ≡ rootLine (now (t .entry)) ⌝ }
 {
-    if !column::ends_in_graphic(t, 1, 64) {
+    if !column::ends_in_graphic(t, 1, limits::ROOT_BYTES) {
         return Line::Bad;
     }
     Line::Root
@@ -132,13 +134,13 @@ fn root_line(t: &[u8]) -> Line
 fn node_line(t: &[u8]) -> Line
     ensures { λ r. ⌜ lineSaid r ≡ nodeLine (now (t .entry)) ⌝ }
 {
-    let Number::Is(id) = column::column(t, 1, 1, MOST_64) else {
+    let Number::Is(id) = column::column(t, 1, 1, u64::MAX) else {
         return Line::Bad;
     };
-    let Number::Is(parent) = column::column(t, 22, 0, MOST_64) else {
+    let Number::Is(parent) = column::column(t, 22, 0, u64::MAX) else {
         return Line::Bad;
     };
-    let Number::Is(scope) = column::column(t, 43, 0, MOST_64) else {
+    let Number::Is(scope) = column::column(t, 43, 0, u64::MAX) else {
         return Line::Bad;
     };
     let Number::Is(is_struct) = column::column(t, 64, 0, 1) else {
@@ -153,7 +155,7 @@ fn node_line(t: &[u8]) -> Line
     let Number::Is(tag_offset) = column::column(t, 127, 0, MOST_32) else {
         return Line::Bad;
     };
-    if !column::ends_in_graphic(t, 148, 128) {
+    if !column::ends_in_graphic(t, 148, limits::MODULE_BYTES) {
         return Line::Bad;
     }
     Line::Node {
@@ -208,7 +210,7 @@ fn field_line(t: &[u8]) -> Line
 fn group_line(t: &[u8]) -> Line
     ensures { λ r. ⌜ lineSaid r ≡ groupLine (now (t .entry)) ⌝ }
 {
-    let Number::Is(id) = column::column(t, 1, 1, MOST_64) else {
+    let Number::Is(id) = column::column(t, 1, 1, u64::MAX) else {
         return Line::Bad;
     };
     let Number::Is(discriminant) = column::column(t, 22, 0, MOST_16) else {
@@ -226,7 +228,7 @@ fn most_a(kind: u64) -> u64
 {
     match kind {
         kinds::VOID..=kinds::LIST => 0,
-        kinds::ENUM..=kinds::INTERFACE => MOST_64,
+        kinds::ENUM..=kinds::INTERFACE => u64::MAX,
         _ => 1,
     }
 }
@@ -237,10 +239,10 @@ fn most_b(kind: u64, a: u64) -> u64
 {
     match kind {
         kinds::VOID..=kinds::LIST => 0,
-        kinds::ENUM..=kinds::INTERFACE => MOST_64,
+        kinds::ENUM..=kinds::INTERFACE => u64::MAX,
         _ => match a {
             0 => 0,
-            _ => MOST_64,
+            _ => u64::MAX,
         },
     }
 }
@@ -262,7 +264,7 @@ fn most_c(kind: u64, a: u64) -> u64
 fn type_line(t: &[u8]) -> Line
     ensures { λ r. ⌜ lineSaid r ≡ typeLine (now (t .entry)) ⌝ }
 {
-    let Number::Is(kind) = column::column(t, 1, 0, 18) else {
+    let Number::Is(kind) = column::column(t, 1, 0, kinds::ANY_POINTER) else {
         return Line::Bad;
     };
     let Number::Is(a) = column::column(t, 22, 0, most_a(kind)) else {
@@ -287,14 +289,14 @@ fn most_count(bind: u64) -> u64
     if bind == 0 {
         return 0;
     }
-    MOST_64
+    u64::MAX
 }
 
 // S: the scope id, whether it binds, and how many bindings follow.
 fn scope_line(t: &[u8]) -> Line
     ensures { λ r. ⌜ lineSaid r ≡ scopeLine (now (t .entry)) ⌝ }
 {
-    let Number::Is(id) = column::column(t, 1, 0, MOST_64) else {
+    let Number::Is(id) = column::column(t, 1, 0, u64::MAX) else {
         return Line::Bad;
     };
     let Number::Is(bind) = column::column(t, 22, 0, 1) else {
@@ -324,7 +326,7 @@ fn most_bits(kind: u64) -> u64
     ensures { λ r. ⌜ r ≡ mostBits kind ⌝ }
 {
     let k = kind as usize;
-    if k < 19 {
+    if k < KINDS {
         return MOST_BITS[k];
     }
     0
@@ -334,7 +336,7 @@ fn most_bits(kind: u64) -> u64
 fn value_line(t: &[u8]) -> Line
     ensures { λ r. ⌜ lineSaid r ≡ valueLine (now (t .entry)) ⌝ }
 {
-    let Number::Is(kind) = column::column(t, 1, 0, 18) else {
+    let Number::Is(kind) = column::column(t, 1, 0, kinds::ANY_POINTER) else {
         return Line::Bad;
     };
     let Number::Is(bits) = column::column(t, 22, 0, most_bits(kind)) else {
@@ -350,7 +352,7 @@ fn value_line(t: &[u8]) -> Line
 fn word_line(t: &[u8]) -> Line
     ensures { λ r. ⌜ lineSaid r ≡ wordLine (now (t .entry)) ⌝ }
 {
-    let Number::Is(value) = column::column(t, 1, 0, MOST_64) else {
+    let Number::Is(value) = column::column(t, 1, 0, u64::MAX) else {
         return Line::Bad;
     };
     if t.len() != 22 {

@@ -1,6 +1,7 @@
 // A sheet, read once: admitted, with the index of its nodes, or refused at its first bad line.
 use nodes::Entry;
 use row::Line;
+use terms::limits;
 use terms::refusals;
 use tree::Walk;
 ghost use mathlib.Core.Path.{_≡_};
@@ -305,13 +306,13 @@ fn nodes(s: &[u8], index: &mut [u64], from: usize, groups: &mut [u64]) -> Walk
     requires { ⌜ Room (now groups) 0 (size (rows (drop from (now s)))) × (size (rows (drop from (now s))) ≤ 65536) ⌝ }
     ensures { λ r. ⌜ NodesRead (now (s .entry)) r (now (index .exit)) (readNodes 64 [] [] (rows (drop from (now (s .entry))))) ⌝ }
 {
-    let mut ids = [0u64; 64];
+    let mut ids = [0u64; limits::NODES];
     let mut flags = [0u8; 2048];
     let mut count: usize = 0;
     let mut n: usize = 0;
     let mut marks = nodes::first_mark(s.len());
     let mut at = from;
-    while count < 64 {
+    while count < limits::NODES {
         let held = Held {
             nodes: count,
             groups: n,
