@@ -23,7 +23,7 @@ use Rattle.tree.proofs.OtherLines.{never, not-value}
 use Rattle.field.specs.Field.{Fewer}
 use Rattle.field.specs.Parts.{Gets, TypeIs, mostWords, SlotRead}
 use Rattle.field.specs.declared.Slot.{Slot}
-use Rattle.field.specs.declared.TypeRow.{TypeRow}
+use Rattle.field.specs.declared.TypeSpan.{TypeSpan}
 use Rattle.field.specs.declared.Field.the-variants as field
 use Rattle.field.proofs.WordsLaws.{words-counted, counted-fewer}
 
@@ -64,7 +64,7 @@ row-fewer [] rest l here after h = let z : ⊥ = rw here at h in absurd z
 row-fewer (r ∷ rs) rest l here after h = rw after (omega arith)
 
 -- the type t that stands at a position, and what the code says of the row after it
-module _ (s : Str) (typ : ℕ) (t : TypeRow) (type-is : Gets (readType 16 (rows (drop typ s))) (TypeIs s t)) (l : Line)
+module _ (s : Str) (typ : ℕ) (t : TypeSpan) (type-is : Gets (readType 16 (rows (drop typ s))) (TypeIs s t)) (l : Line)
     (here : lineSaid l ≡ lineAt (rows (drop (t .past) s))) where
   -- no V row
   pub slot-no-value :
@@ -81,7 +81,7 @@ module _ (s : Str) (typ : ℕ) (t : TypeRow) (type-is : Gets (readType 16 (rows 
           never cc
 
 -- a slot by value, whose type t, V row l and words these are
-module _ (s : Str) (r : Slot) (t : TypeRow) (type-is : Gets (readType 16 (rows (drop (r .typ) s))) (TypeIs s t))
+module _ (s : Str) (r : Slot) (t : TypeSpan) (type-is : Gets (readType 16 (rows (drop (r .typ) s))) (TypeIs s t))
     (kind : r .kind ≡ t .kind) (id : r .id ≡ t .id) (l : Line) (here : lineSaid l ≡ lineAt (rows (drop (t .past) s)))
     (after : rows (drop (r .words) s) ≡ restOf (rows (drop (t .past) s))) (is : l ≡ line.Value (r .default) (r .bits))
     (has : Bool) (has-is : has ≡ hasWords (r .explicit) (r .default))

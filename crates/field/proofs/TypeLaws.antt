@@ -28,7 +28,7 @@ use Rattle.types.proofs.Laws.{as-type, on-map, on-all, past-type, past-next, pa
 use Rattle.types.proofs.TypeLaws.{type-kind}
 use Rattle.field.specs.Slot.{HasId}
 use Rattle.field.specs.Parts.{Gets, TypeIs}
-use Rattle.field.specs.declared.TypeRow.{TypeRow}
+use Rattle.field.specs.declared.TypeSpan.{TypeSpan}
 
 -- T's a
 abbrev idAt : Rows → ℕ
@@ -64,7 +64,7 @@ type-id (suc n) rs =
     go k a b c false false false false f e q = eqb-false a 0 e
 
 -- the type that is read, by its row
-type-gets : (s : Str) (r : TypeRow) (rs : Rows) → r .kind ≡ kindAt rs → r .id ≡ idAt rs → rows (drop (r .past) s) ≡ pastRows rs 1
+type-gets : (s : Str) (r : TypeSpan) (rs : Rows) → r .kind ≡ kindAt rs → r .id ≡ idAt rs → rows (drop (r .past) s) ≡ pastRows rs 1
     → Gets (readType 16 rs) (TypeIs s r)
 type-gets s r rs k i p = go (readType 16 rs) (type-kind 16 rs) (type-id 16 rs) (past-type 16 rs)
   where
@@ -90,7 +90,7 @@ nested-fewer rs rest q n e f =
     let g = rest-fewer rs rest e in let h = past-fewer rest n in rw f (omega arith)
 
 -- what the code says of the row that stands first, and the rows after it
-module _ (s : Str) (r : TypeRow) (rs rest : Rows) (l : Line) (here : lineSaid l ≡ lineAt rs) (after : rest ≡ restOf rs) where
+module _ (s : Str) (r : TypeSpan) (rs rest : Rows) (l : Line) (here : lineSaid l ≡ lineAt rs) (after : rest ≡ restOf rs) where
   pub type-other : OneOf (0 ∷ 1 ∷ 2 ∷ 3 ∷ 4 ∷ 6 ∷ 7 ∷ 8 ∷ 9 ∷ 10 ∷ []) (tagOf the-type l) → Gets (readType 16 rs) (TypeIs s r)
   unfolding readType
   type-other other = rw (← here, not-type {A = Reader _} l _ _ other) tt

@@ -14,7 +14,7 @@ use Rattle.tree.specs.Read as read
 use Rattle.field.specs.Slot.{HasId}
 use Rattle.field.specs.Field.{FieldIs, nextOf}
 use Rattle.field.specs.declared.Field.{Field}
-use Rattle.field.specs.declared.TypeRow.{TypeRow}
+use Rattle.field.specs.declared.TypeSpan.{TypeSpan}
 
 -- a fact of what is read and of the rows after it, if anything is read
 abbrev pub Gets : {A : Type 0} → Reading A → (A → Rows → Type 0) → Type 0
@@ -22,7 +22,7 @@ Gets (got a rest) P = P a rest
 Gets (no k rest) P = Unit {0}
 
 -- r has the kind and the a of a type, and the position in s of the rows after it
-pub record TypeIs (s : Str) (r : TypeRow) (ty : Ty) (rest : Rows) : Type 0 where
+pub record TypeIs (s : Str) (r : TypeSpan) (ty : Ty) (rest : Rows) : Type 0 where
   pub kind : tree.kind ty ≡ r .kind
   pub id : HasId ty (r .id)
   pub past : rows (drop (r .past) s) ≡ rest

@@ -2,6 +2,7 @@
 // words stand, and where the next field begins. A caller may hold it as numbers.
 use row::Line;
 use terms::kinds;
+use tree::Counted;
 ghost use mathlib.Core.Path.{_≡_};
 ghost use mathlib.Core.List.{List};
 ghost use Prim.Native.Nat.{ℕ, _≤_};
@@ -83,74 +84,57 @@ impl Group {
 }
 
 // What the row of a type says, kind and a, and where the rows after the type begin.
-struct TypeRow {
+struct TypeSpan {
     kind: u64,
     id: u64,
     past: usize,
 }
 
 // The type at a position: its row is read, and what is nested is passed over.
-fn type_row(s: &[u8], at: usize) -> TypeRow
+fn type_span(s: &[u8], at: usize) -> TypeSpan
     ensures is { λ r. ⌜ Gets (readType 16 (rows (drop at (now (s .entry))))) (TypeIs (now (s .entry)) r) ⌝ }
     ensures fewer { λ r. ⌜ length (rows (drop (r .past) (now (s .entry)))) ≤ length (rows (drop at (now (s .entry)))) ⌝ }
 {
     let g = row::next(s, at);
     let line = g.line;
     let Line::Typ { kind, a, b, c: _ } = line else {
-        return TypeRow {
+        return TypeSpan {
             kind: kinds::VOID,
             id: 0,
             past: g.next,
         };
     };
-    if kind < kinds::LIST {
-        return TypeRow {
+    match kind {
+        kinds::VOID..=kinds::DATA => TypeSpan {
             kind,
             id: a,
             past: g.next,
-        };
+        },
+        kinds::LIST => {
+            let past = types::past(s, g.next, 1);
+            TypeSpan { kind, id: a, past }
+        },
+        kinds::ENUM..=kinds::INTERFACE => {
+            let past = types::past(s, g.next, b);
+            TypeSpan { kind, id: a, past }
+        },
+        _ => TypeSpan {
+            kind: kinds::ANY_POINTER,
+            id: a,
+            past: g.next,
+        },
     }
-    if kind == kinds::LIST {
-        let past = types::past(s, g.next, 1);
-        return TypeRow { kind, id: a, past };
-    }
-    if kind < kinds::ANY_POINTER {
-        let past = types::past(s, g.next, b);
-        return TypeRow { kind, id: a, past };
-    }
-    TypeRow {
-        kind: kinds::ANY_POINTER,
-        id: a,
-        past: g.next,
-    }
-}
-
-// How many W rows there are, and where the rows after them begin.
-struct Words {
-    count: u64,
-    next: usize,
 }
 
 // The W rows at a position, up to 255, where there may be any.
-fn words_from(s: &[u8], from: usize, any: bool) -> Words
+fn words_from(s: &[u8], from: usize, any: bool) -> Counted
     ensures { λ r. ⌜ got (r .count) (rows (drop (r .next) (now (s .entry))))
         ≡ mapR length (readWordsUpTo (mostWords any)) (rows (drop from (now (s .entry)))) ⌝ }
 {
-    let mut next = from;
-    let mut count: u64 = 0;
-    if !any {
-        return Words { count, next };
+    if any {
+        return tree::words_up_to(s, from, 255);
     }
-    while count < 255 {
-        let g = row::next(s, next);
-        let line = g.line;
-        let Line::Word { value: _ } = line else {
-            return Words { count, next };
-        };
-        next = g.next;
-        count += 1;
-    }
-    Words { count, next }
+    tree::words_up_to(s, from, 0)
 }
 
 // The slot whose F row stands at a position and says these numbers; its type follows.
@@ -168,7 +152,7 @@ fn slot_from(
         (SlotRead (now (s .entry)) r at discriminant)) ⌝ }
     ensures fewer { λ r. ⌜ Fewer (now (s .entry)) typ r ⌝ }
 {
-    let t = type_row(s, typ);
+    let t = type_span(s, typ);
     let g = row::next(s, t.past);
     let value = g.line;
     let words = g.next;

@@ -1,10 +1,11 @@
--- Laws of a slot's walk: its words, and its parts one after the other. Assumes nothing.
-use mathlib.Core.Path.{_≡_, refl, sym, _∙_}
+-- Laws of a slot's walk: its words, which are counted, and its parts one after the other. Assumes nothing.
+use mathlib.Core.Path.{_≡_, refl, sym, ap, _∙_}
 use mathlib.Core.Bool.{Bool, true, false}
 use mathlib.Core.List.{List, [], _∷_}
-use Prim.Native.Nat.{ℕ, zero, suc, _-_, _<_, _≤_}
+use Prim.Native.Nat.{ℕ, zero, suc, _+_, _-_, _<_, _≤_}
 use native.Mathlib.Omega.{arith}
 use native.Mathlib.Numerals.{sub-one}
+use lib.ListN.{length}
 use types.Run.{OneOf}
 use denote.Enum.Declared.{tagOf}
 use Rattle.row.proofs.Line.{the-type}
@@ -19,14 +20,29 @@ use Rattle.tree.proofs.OtherLines.{not-value, not-word}
 use Rattle.tree.proofs.WalkLaws.{passed-map, passed-then}
 use Rattle.row.specs.declared.Line.the-variants as line
 
-pub words-none : (n : ℕ) (rs : Rows) → n ≤ 0 → passed (readWordsUpTo n rs) ≡ got tt rs
-unfolding readWordsUpTo
-words-none n rs h = let z : n ≡ 0 = omega arith in rw z
-
-pub words-more : (n : ℕ) (rs : Rows) → 0 < n → readWordsUpTo n rs ≡ onWord (λ w. mapR (w ∷_) (readWordsUpTo (n - 1))) (got []) rs
+words-more : (n : ℕ) (rs : Rows) → 0 < n → readWordsUpTo n rs ≡ onWord (λ w. mapR (w ∷_) (readWordsUpTo (n - 1))) (got []) rs
 unfolding readWordsUpTo
 words-more zero rs h = let z : ⊥ = omega arith in absurd z
 words-more (suc n) rs h = rw (sub-one (suc n))
+
+-- k words were counted, and at most so many are
+unfoldable pub counting : ℕ → ℕ → Reader ℕ
+counting most k = mapR (λ ws. k + length ws) (readWordsUpTo (most - k))
+
+pub count-start : (most : ℕ) (rs : Rows) → counting most 0 rs ≡ mapR length (readWordsUpTo most) rs
+unfolding counting
+count-start most rs =
+    let e : most - 0 ≡ most = omega arith in
+    ap (λ (n : ℕ). mapR (λ ws. 0 + length ws) (readWordsUpTo n) rs) e ∙ go (readWordsUpTo most rs)
+  where
+    go : (g : Reading (List ℕ)) → (g then λ ws. got (0 + length ws)) ≡ (g then λ ws. got (length ws))
+    go (got ws q) = let e : 0 + length ws ≡ length ws = omega arith in rw e refl
+    go (no k q) = refl
+
+pub count-full : (most k : ℕ) (rs : Rows) → most ≤ k → counting most k rs ≡ got k rs
+unfolding counting readWordsUpTo
+count-full most k rs h =
+    let e : most - k ≡ 0 = omega arith in let f : k + 0 ≡ k = omega arith in rw e (ap (λ (n : ℕ). got n rs) f)
 
 -- what follows a slot's type: its V row and its words
 afterType : ℕ → Reader (List ℕ)
@@ -49,21 +65,32 @@ slot-type o e p k rs q h = sym (slot-passed o e p rs ∙ rw (← h))
 
 -- what the code says of the first row, and the rows after it
 module _ (rs rest : Rows) (l : Line) (here : lineSaid l ≡ lineAt rs) (after : rest ≡ restOf rs) where
-  pub words-on :
-      (n w : ℕ) → 0 < n → l ≡ line.Word w → passed (readWordsUpTo n rs) ≡ passed (readWordsUpTo (n - 1) rest)
-  unfolding lineSaid
-  words-on n w h i = rw (words-more n rs h, ← here, i, ← after) (passed-map _ (readWordsUpTo (n - 1) rest))
+  pub count-on : (most k w : ℕ) → k < most → l ≡ line.Word w → counting most k rs ≡ counting most (k + 1) rest
+  unfolding lineSaid counting
+  count-on most k w h is =
+      let e : most - k - 1 ≡ most - (k + 1) = omega arith in
+      rw (words-more (most - k) rs (omega arith), ← here, is, ← after, e) (go (readWordsUpTo (most - (k + 1)) rest))
+    where
+      go : (g : Reading (List ℕ))
+          → ((g then λ ws. got (w ∷ ws)) then λ ws. got (k + length ws)) ≡ (g then λ ws. got (k + 1 + length ws))
+      go (got ws q) = let e : k + length (w ∷ ws) ≡ k + 1 + length ws = omega arith in ap (λ (n : ℕ). got n q) e
+      go (no j q) = refl
 
-  pub words-stop :
-      (n : ℕ) → 0 < n → OneOf (0 ∷ 1 ∷ 2 ∷ 3 ∷ 4 ∷ 5 ∷ 6 ∷ 7 ∷ 8 ∷ 10 ∷ []) (tagOf the-type l)
-      → passed (readWordsUpTo n rs) ≡ got tt rs
-  words-stop n h o = rw (words-more n rs h, ← here, not-word {A = Reader _} l _ _ o)
+  pub count-stop : (most k : ℕ) → k < most → OneOf (0 ∷ 1 ∷ 2 ∷ 3 ∷ 4 ∷ 5 ∷ 6 ∷ 7 ∷ 8 ∷ 10 ∷ []) (tagOf the-type l)
+      → counting most k rs ≡ got k rs
+  unfolding counting
+  count-stop most k h other =
+      let e : k + 0 ≡ k = omega arith in
+      rw (words-more (most - k) rs (omega arith), ← here, not-word {A = Reader _} l _ _ other) (ap (λ (n : ℕ). got n rs) e)
 
   module _ (has : Bool) (is : has ≡ true) where
     pub words-first :
-        (w : Reading (Unit {0})) (x : ℕ) → l ≡ line.Word x → w ≡ passed (readWordsUpTo 254 rest) → w ≡ passed (readWords has rs)
+        (x k : ℕ) (q : Rows) → l ≡ line.Word x → got k q ≡ mapR length (readWordsUpTo 254) rest
+        → got tt q ≡ passed (readWords has rs)
     unfolding lineSaid readWords
-    words-first w x i e = e ∙ sym (rw (is, ← here, i, ← after) (passed-map _ (readWordsUpTo 254 rest)))
+    words-first x k q i e =
+        ap (λ (g : Reading ℕ). passed g) e ∙ passed-map length (readWordsUpTo 254 rest)
+        ∙ sym (rw (is, ← here, i, ← after) (passed-map _ (readWordsUpTo 254 rest)))
 
     pub words-missing :
         OneOf (0 ∷ 1 ∷ 2 ∷ 3 ∷ 4 ∷ 5 ∷ 6 ∷ 7 ∷ 8 ∷ 10 ∷ []) (tagOf the-type l) → no 2 rs ≡ passed (readWords has rs)

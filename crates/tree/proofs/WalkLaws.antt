@@ -124,11 +124,11 @@ module _ (rs rest : Rows) (l : Line) (here : lineSaid l ≡ lineAt rs) (after : 
       type-plain h lo = rw (type-here h, lt-ltb k 14 lo)
 
       pub type-list :
-          (w : Reading (Unit {0})) → (left ≡ 0 → ⊥) → 14 ≤ k → k ≡ 14
+          (w : Reading (Unit {0})) → (left ≡ 0 → ⊥) → k ≡ 14
           → w ≡ passed (readType (left - 1) rest) → w ≡ passed (readType left rs)
       unfolding typeFrom
-      type-list w h lo e p =
-          p ∙ sym (rw (type-here h, typeFrom, le-ltb k 14 lo, eq-eqb k 14 e) (passed-map _ (readType (left - 1) rest)))
+      type-list w h e p =
+          p ∙ sym (rw (type-here h, typeFrom, le-ltb k 14 (omega arith), eq-eqb k 14 e) (passed-map _ (readType (left - 1) rest)))
 
       pub type-branded :
           (w : Reading (Unit {0})) → (left ≡ 0 → ⊥) → 14 ≤ k → (k ≡ 14 → ⊥) → k < 18
@@ -139,6 +139,6 @@ module _ (rs rest : Rows) (l : Line) (here : lineSaid l ≡ lineAt rs) (after : 
           ∙ sym (rw (type-here h, typeFrom, le-ltb k 14 lo, ne-eqb k 14 e, lt-ltb k 18 hi)
           (passed-map _ (times (readScope (readType (left - 1))) end b rest)))
 
-      pub type-pointer : (left ≡ 0 → ⊥) → 14 ≤ k → (k ≡ 14 → ⊥) → 18 ≤ k → got tt rest ≡ passed (readType left rs)
+      pub type-pointer : (left ≡ 0 → ⊥) → 18 ≤ k → got tt rest ≡ passed (readType left rs)
       unfolding typeFrom
-      type-pointer h lo e hi = rw (type-here h, typeFrom, le-ltb k 14 lo, ne-eqb k 14 e, le-ltb k 18 hi)
+      type-pointer h hi = rw (type-here h, typeFrom, le-ltb k 14 (omega arith), ne-eqb k 14 (λ z. omega arith), le-ltb k 18 hi)

@@ -5,10 +5,10 @@ use terms::kinds;
 use terms::refusals;
 ghost use mathlib.Core.Path.{_≡_};
 ghost use Prim.Native.Nat.{ℕ};
-ghost use lib.ListN.{drop};
+ghost use lib.ListN.{drop, length};
 ghost use Rattle.row.specs.Rows.{rows};
 ghost use Rattle.tree.specs.Tree.{end, stop};
-ghost use Rattle.tree.specs.Reader.{times};
+ghost use Rattle.tree.specs.Reader.{got, mapR, times};
 ghost use Rattle.tree.specs.Read.{readType, readScope, readBinding, readWordsUpTo, readWords, hasWords, readSlot};
 ghost use Rattle.tree.specs.Walked.{passed, walked};
 
@@ -16,6 +16,12 @@ ghost use Rattle.tree.specs.Walked.{passed, walked};
 pub enum Walk {
     Next { at: usize },
     Refused { number: u64, at: usize },
+}
+
+// How many W rows there are, and where the rows after them begin.
+pub struct Counted {
+    pub count: u64,
+    pub next: usize,
 }
 
 // One type with so many levels left: a T row, and what belongs to it.
@@ -38,16 +44,11 @@ fn typ(s: &[u8], at: usize, left: usize) -> Walk
                     at,
                 };
             }
-            if kind < kinds::LIST {
-                return Walk::Next { at: e };
+            match kind {
+                kinds::LIST => typ(s, e, left - 1),
+                kinds::ENUM..=kinds::INTERFACE => scopes(s, e, b, left - 1),
+                _ => Walk::Next { at: e },
             }
-            if kind == kinds::LIST {
-                return typ(s, e, left - 1);
-            }
-            if kind < kinds::ANY_POINTER {
-                return scopes(s, e, b, left - 1);
-            }
-            Walk::Next { at: e }
         }
         _ => Walk::Refused {
             number: refusals::BAD_LINE,
@@ -139,22 +140,22 @@ fn binding(s: &[u8], at: usize, left: usize) -> Walk
 }
 
 // The W rows that stand there, up to so many.
-fn words_up_to(s: &[u8], from: usize, count: u64) -> Walk
-    ensures { λ r. ⌜ walked (now (s .entry)) r ≡ passed (readWordsUpTo count (rows (drop from (now (s .entry))))) ⌝ }
+pub fn words_up_to(s: &[u8], from: usize, most: u64) -> Counted
+    ensures { λ r. ⌜ got (r .count) (rows (drop (r .next) (now (s .entry))))
+        ≡ mapR length (readWordsUpTo most) (rows (drop from (now (s .entry)))) ⌝ }
 {
-    let mut at = from;
-    let mut n = count;
-    while 0 < n {
-        let g = row::next(s, at);
-        let l = g.line;
-        let e = g.next;
-        let Line::Word { value: _ } = l else {
-            return Walk::Next { at };
+    let mut next = from;
+    let mut count: u64 = 0;
+    while count < most {
+        let g = row::next(s, next);
+        let line = g.line;
+        let Line::Word { value: _ } = line else {
+            return Counted { count, next };
         };
-        at = e;
-        n -= 1;
+        next = g.next;
+        count += 1;
     }
-    Walk::Next { at }
+    Counted { count, next }
 }
 
 // Whether W rows belong to a slot, by its explicit flag and the kind of its V row.
@@ -164,16 +165,10 @@ pub fn has_words(explicit: u64, kind: u64) -> bool
     if explicit != 1 {
         return false;
     }
-    if kind == kinds::TEXT {
-        return true;
+    match kind {
+        kinds::TEXT | kinds::DATA | kinds::LIST | kinds::STRUCT => true,
+        _ => false,
     }
-    if kind == kinds::DATA {
-        return true;
-    }
-    if kind == kinds::LIST {
-        return true;
-    }
-    kind == kinds::STRUCT
 }
 
 // The W rows of a slot: 1 to 255 where they belong, else none.
@@ -190,7 +185,8 @@ fn words(s: &[u8], at: usize, has: bool) -> Walk
                 at,
             };
         };
-        return words_up_to(s, e, 254);
+        let w = words_up_to(s, e, 254);
+        return Walk::Next { at: w.next };
     }
     Walk::Next { at }
 }

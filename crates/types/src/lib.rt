@@ -85,18 +85,11 @@ fn owed(line: Line) -> u64
             a: _,
             b,
             c: _,
-        } => {
-            if kind < kinds::LIST {
-                return 0;
-            }
-            if kind == kinds::LIST {
-                return 1;
-            }
-            if kind < kinds::ANY_POINTER {
-                return b;
-            }
-            0
-        }
+        } => match kind {
+            kinds::LIST => 1,
+            kinds::ENUM..=kinds::INTERFACE => b,
+            _ => 0,
+        },
         Line::Scope { id: _, bind, count } => {
             if bind == 0 {
                 return 0;

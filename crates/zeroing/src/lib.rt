@@ -60,13 +60,11 @@ pub struct Zeroed {
 fn line_type(kind: u64) -> u8
     ensures { λ r. ⌜ r ≡ lineType kind ⌝ }
 {
-    if kind == kinds::ENUM {
-        return UINT16_LINE;
+    match kind {
+        kinds::VOID..=kinds::FLOAT64 => kind as u8,
+        kinds::ENUM => UINT16_LINE,
+        _ => POINTER_LINE,
     }
-    if kind <= kinds::FLOAT64 {
-        return kind as u8;
-    }
-    POINTER_LINE
 }
 
 // Whether a slot has the line of a type at an offset.

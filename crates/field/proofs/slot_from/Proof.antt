@@ -13,7 +13,7 @@ returns c =
     let at-next = c .before in
     let at-type = at-next .before in
     let a = at-type .before .before .args in
-    let t = at-type .type-row in (
+    let t = at-type .type-span in (
       λ after. slot-no-value (a .s .now) (a .typ) (t .result) (t .ensures .0) _ (at-next .next .ensures .0) _ _ _
           (SlotRead (a .s .now) field.Nothing (a .at) (a .discriminant)) (c .match .keys2),
       tt,
@@ -26,7 +26,7 @@ returns-2 c =
     let at-next = at-value .before .before in
     let at-type = at-next .before in
     let a = at-type .before .before .args in
-    let t = at-type .type-row in
+    let t = at-type .type-span in
     let v = at-next .next in
     let d = at-value .value .given in
     let r : Slot = record {

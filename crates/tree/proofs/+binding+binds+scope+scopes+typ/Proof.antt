@@ -241,9 +241,11 @@ typ-returns-2 : (t : ℕ) → typ-lts.Need-returns-2 (
   scopes.Post,
 ) (typ-at t) typ.Post
 typ-returns-2 t c =
-    type-plain _ _ _ (c .before .before .before .before .before .next .ensures .0)
-    (c .before .before .before .before .before .next .ensures .1) _ _ _ _ _ (c .before .before .before .l .given .1)
-    (c .before .if1 .left) (c .if2 .taken)
+    let at-left = c .before .before in
+    let at-line = at-left .before .before in
+    let g = at-line .before .before .next .ensures in
+    type-list _ _ _ (g .0) (g .1) _ _ _ _ _ (at-line .l .given .1) _ (at-left .if1 .left) (c .before .match2 .keys1)
+    (c .typ .ensures)
 
 typ-returns-3 : (t : ℕ) → typ-lts.Need-returns-3 (
   next-reads.Asked,
@@ -254,10 +256,11 @@ typ-returns-3 : (t : ℕ) → typ-lts.Need-returns-3 (
   scopes.Post,
 ) (typ-at t) typ.Post
 typ-returns-3 t c =
-    type-list _ _ _ (c .before .before .before .before .before .before .before .next .ensures .0)
-    (c .before .before .before .before .before .before .before .next .ensures .1) _ _ _ _ _
-    (c .before .before .before .before .before .l .given .1) _ (c .before .before .before .if1 .left)
-    (c .before .before .if2 .left) (c .before .if3 .taken) (c .typ .ensures)
+    let at-left = c .before .before .before .before in
+    let at-line = at-left .before .before in
+    let g = at-line .before .before .next .ensures in
+    type-branded _ _ _ (g .0) (g .1) _ _ _ _ _ (at-line .l .given .1) _ (at-left .if1 .left) (c .before .before .if2 .left)
+    (c .before .before .before .match2 .rest .1) (c .before .if3 .taken) (c .scopes .ensures)
 
 typ-returns-4 : (t : ℕ) → typ-lts.Need-returns-4 (
   next-reads.Asked,
@@ -268,10 +271,10 @@ typ-returns-4 : (t : ℕ) → typ-lts.Need-returns-4 (
   scopes.Post,
 ) (typ-at t) typ.Post
 typ-returns-4 t c =
-    type-branded _ _ _ (c .before .before .before .before .before .before .before .before .next .ensures .0)
-    (c .before .before .before .before .before .before .before .before .next .ensures .1) _ _ _ _ _
-    (c .before .before .before .before .before .before .l .given .1) _ (c .before .before .before .before .if1 .left)
-    (c .before .before .before .if2 .left) (c .before .before .if3 .left) (c .before .if4 .taken) (c .scopes .ensures)
+    let at-left = c .before .before in
+    let at-line = at-left .before .before in
+    let g = at-line .before .before .next .ensures in
+    type-plain _ _ _ (g .0) (g .1) _ _ _ _ _ (at-line .l .given .1) (at-left .if1 .left) (c .if2 .taken)
 
 typ-returns-5 : (t : ℕ) → typ-lts.Need-returns-5 (
   next-reads.Asked,
@@ -282,10 +285,10 @@ typ-returns-5 : (t : ℕ) → typ-lts.Need-returns-5 (
   scopes.Post,
 ) (typ-at t) typ.Post
 typ-returns-5 t c =
-    type-pointer _ _ _ (c .before .before .before .before .before .before .before .next .ensures .0)
-    (c .before .before .before .before .before .before .before .next .ensures .1) _ _ _ _ _
-    (c .before .before .before .before .before .l .given .1) (c .before .before .before .if1 .left)
-    (c .before .before .if2 .left) (c .before .if3 .left) (c .if4 .left)
+    let at-left = c .before .before .before in
+    let at-line = at-left .before .before in
+    let g = at-line .before .before .next .ensures in
+    type-pointer _ _ _ (g .0) (g .1) _ _ _ _ _ (at-line .l .given .1) (at-left .if1 .left) (c .if3 .left)
 
 typ-returns-6 : (t : ℕ) → typ-lts.Need-returns-6 (
   next-reads.Asked,
@@ -366,12 +369,12 @@ pub +binding+binds+scope+scopes+typ-spec : {M : Type 1} → statement M
     (λ c κs. search needs)
     (λ c. search needs)
     (typ-returns t)
+    (λ c. search needs)
+    (λ c κs. search needs)
+    (λ c. search needs)
+    (λ c κs. search needs)
     (typ-returns-2 t)
-    (λ c. search needs)
-    (λ c κs. search needs)
     (typ-returns-3 t)
-    (λ c. search needs)
-    (λ c κs. search needs)
     (typ-returns-4 t)
     (typ-returns-5 t)
     (typ-returns-6 t)

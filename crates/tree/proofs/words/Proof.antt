@@ -15,7 +15,7 @@ returns c =
 returns-2 : tie.Need-returns-2
 returns-2 c =
     words-first _ _ _ (c .before .before .before .next .ensures .0) (c .before .before .before .next .ensures .1) _
-    (c .before .before .before .before .if1 .taken) _ _ (c .before .enum-told .given .1) (c .words-up-to .ensures)
+    (c .before .before .before .before .if1 .taken) _ _ _ (c .before .enum-told .given .1) (c .words-up-to .ensures)
 
 returns-3 : tie.Need-returns-3
 returns-3 c =

@@ -1,38 +1,50 @@
--- `tree::words_up_to` meets its contract: at each turn, what is read from here is what is read from the start. Assumes nothing.
+-- `tree::words_up_to` meets its contract. The loop's invariant: what was counted and what is left make the whole.
+-- Assumes nothing.
 use mathlib.Core.Path.{_≡_, sym, _∙_}
-use lib.ListN.{drop}
+use Prim.Native.Nat.{_-_, _≤_}
+use native.Mathlib.Omega.{arith}
+use lib.ListN.{length, drop}
 use borrow.Author.Needs.{needs}
-use Rattle.tree.proofs.SlotLaws.{words-none, words-on, words-stop}
-use Rattle.tree.specs.Walked.{passed}
-use Rattle.tree.specs.Read.{readWordsUpTo}
 use Rattle.row.specs.Rows.{rows}
+use Rattle.tree.specs.Reader.{mapR}
+use Rattle.tree.specs.Read.{readWordsUpTo}
+use Rattle.tree.proofs.SlotLaws.{counting, count-start, count-full, count-on, count-stop}
 use Rattle.tree.proofs.words_up_to.Statement.{statement}
 use Rattle.tree.proofs.words_up_to.Tie as tie
 
 abbrev Inv-loop : tie.InvT-loop
-Inv-loop s from count at₀ n₀ at n = passed (readWordsUpTo count (rows (drop from s))) ≡ passed (readWordsUpTo n (rows
-    (drop at s)))
+Inv-loop s from most next₀ count₀ next count =
+    (count ≤ most) × (counting most count (rows (drop next s)) ≡ mapR length (readWordsUpTo most) (rows (drop from s)))
 
 abbrev μ-loop : tie.MeasureT-loop
-μ-loop s from count at₀ n₀ at n = n
+μ-loop s from most next₀ count₀ next count = most - count
+
+loop-holds : tie.Need-loop-holds Inv-loop μ-loop
+loop-holds c = (omega arith, count-start _ _)
 
 enum-told : tie.Need-enum-told Inv-loop μ-loop
 enum-told c = search needs
 
 returns : tie.Need-returns Inv-loop μ-loop
 returns c =
-    sym ((c .before .before .before .loop .inv) ∙ words-stop _ _ _ (c .before .next .ensures .0) (c .before .next .ensures .1)
-    (c .before .before .before .loop .n) (c .before .before .loop-test .taken) (c .match .keys2))
+    let at-next = c .before in
+    let at-test = at-next .before in
+    let at-loop = at-test .before in
+    sym (count-stop _ _ _ (at-next .next .ensures .0) (at-next .next .ensures .1) _ _ (at-test .loop-test .taken)
+    (c .match .keys2)) ∙ at-loop .loop .inv .1
 
 loop-again : tie.Need-loop-again Inv-loop μ-loop
 loop-again c =
-    (c .before .before .before .before .loop .inv) ∙ words-on _ _ _ (c .before .before .next .ensures .0)
-    (c .before .before .next .ensures .1) (c .before .before .before .before .loop .n) _
-    (c .before .before .before .loop-test .taken) (c .enum-told .given .1)
+    let at-next = c .before .before in
+    let at-test = at-next .before in
+    let at-loop = at-test .before in (
+      omega arith,
+      sym (count-on _ _ _ (at-next .next .ensures .0) (at-next .next .ensures .1) _ _ _ (at-test .loop-test .taken)
+          (c .enum-told .given .1)) ∙ at-loop .loop .inv .1,
+    )
 
 returns-2 : tie.Need-returns-2 Inv-loop μ-loop
-returns-2 c =
-    sym ((c .before .loop .inv) ∙ words-none (c .before .loop .n) _ (c .loop-test .left))
+returns-2 c = sym (count-full _ _ _ (c .loop-test .left)) ∙ c .before .loop .inv .1
 
 pub words-up-to-spec : {M : Type 1} → statement M
 words-up-to-spec =
@@ -40,11 +52,11 @@ words-up-to-spec =
     (tie.spec
     Inv-loop
     μ-loop
-    (λ c. search needs)
+    loop-holds
     (λ c κs. search needs)
     enum-told
     returns
-    (λ c. search needs)
-    (λ c. search needs)
+    (λ c. omega arith)
+    (λ c. omega arith)
     loop-again
     returns-2)

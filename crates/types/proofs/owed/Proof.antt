@@ -9,72 +9,71 @@ use borrow.Author.Needs.{needs}
 use Rattle.types.proofs.owed.Statement.{statement}
 use Rattle.types.proofs.owed.Tie as tie
 
-returns : tie.Need-returns
+inherits : tie.Need-returns
 unfolding lineSaid owed
-returns c =
+inherits c =
+    simp (
+      c .before .before .line2 .given .1,
+      eq-eqb _ _ (c .if3 .taken),
+    )
+
+list : tie.Need-returns-2
+unfolding lineSaid owed
+list c =
     simp (
       c .before .before .line .given .1,
+      c .match2 .keys1,
+    )
+
+brand : tie.Need-returns-3
+unfolding lineSaid owed
+brand c =
+    simp (
+      c .before .before .before .before .line .given .1,
+      le-ltb _ _ (c .before .if1 .left),
+      ne-eqb _ _ (c .before .before .match2 .rest .1),
+      lt-ltb _ _ (c .if2 .taken),
+    )
+
+plain : tie.Need-returns-4
+unfolding lineSaid owed
+plain c =
+    simp (
+      c .before .before .before .line .given .1,
       lt-ltb _ _ (c .if1 .taken),
     )
 
-returns-2 : tie.Need-returns-2
+pointer : tie.Need-returns-5
 unfolding lineSaid owed
-returns-2 c =
+pointer c =
     simp (
-      c .before .before .before .line .given .1,
+      c .before .before .before .before .line .given .1,
       le-ltb _ _ (c .before .if1 .left),
-      eq-eqb _ _ (c .if2 .taken),
+      ne-eqb _ _ (c .before .before .match2 .rest .1),
+      le-ltb _ _ (c .if2 .left),
     )
 
-returns-3 : tie.Need-returns-3
+binds : tie.Need-returns-6
 unfolding lineSaid owed
-returns-3 c =
-    simp (
-      c .before .before .before .before .line .given .1,
-      le-ltb _ _ (c .before .before .if1 .left),
-      ne-eqb _ _ (c .before .if2 .left),
-      lt-ltb _ _ (c .if3 .taken),
-    )
-
-returns-4 : tie.Need-returns-4
-unfolding lineSaid owed
-returns-4 c =
+binds c =
     simp (
       c .before .before .line2 .given .1,
-      eq-eqb _ _ (c .if4 .taken),
+      ne-eqb _ _ (c .if3 .left),
     )
 
-returns-5 : tie.Need-returns-5
-unfolding lineSaid owed
-returns-5 c =
-    simp (
-      c .before .before .before .before .line .given .1,
-      le-ltb _ _ (c .before .before .if1 .left),
-      ne-eqb _ _ (c .before .if2 .left),
-      le-ltb _ _ (c .if3 .left),
-    )
-
-returns-6 : tie.Need-returns-6
-unfolding lineSaid owed
-returns-6 c =
-    simp (
-      c .before .before .line2 .given .1,
-      ne-eqb _ _ (c .if4 .left),
-    )
-
-returns-7 : tie.Need-returns-7
-returns-7 c = sym (owed-none (c .before .args .line) (c .match .keys3))
+other : tie.Need-returns-7
+other c = sym (owed-none (c .before .args .line) (c .match .keys3))
 
 pub owed-spec : {M : Type 1} → statement M
 owed-spec =
     tie.close
     (tie.spec
     (λ c. search needs)
-    returns
-    returns-2
-    returns-3
     (λ c. search needs)
-    returns-4
-    returns-5
-    returns-6
-    returns-7)
+    inherits
+    list
+    brand
+    plain
+    pointer
+    binds
+    other)
