@@ -67,13 +67,13 @@ abbrev pub around : Str → Str
 around w = ascii "before" ++ w ++ ascii "behind"
 
 -- what is left to compute of a run that puts a text into such a buffer, zeros where it will stand, at the fill count 6
-abbrev pub Put : Str → Type 0
-Put w =
+abbrev pub PutAround : Str → Type 0
+PutAround w =
     let l = around (replicate (length w) 0) in
     _≡_ {A = text.Answer × Str × Str} (text.answerOf l 6 w, text.bufferOf l 6 w, bytesBetween 6 (6 + length w) (around w))
     (text.done (6 + length w), around w, w)
 
-pub ran-of : (s : Str) (id place : ℕ) (a : Accessor) (w : Str) → Generated s id place a w → Put w → Ran s id place a w
+pub ran-of : (s : Str) (id place : ℕ) (a : Accessor) (w : Str) → Generated s id place a w → PutAround w → Ran s id place a w
 ran-of s id place a w e p = record {
   buffer = around (replicate (length w) 0);
   state = stateAt 6;
@@ -167,7 +167,7 @@ given-bytes : (place : ℕ) (a : Accessor) (w : Str) → requests.requestText tr
 given-bytes place a w e = ap (λ x. outcomeOf x 7 (ofField place a)) is-admitted ∙ ap outcome e
 
 -- and a run of the entry leaves it
-ran-bytes : (place : ℕ) (a : Accessor) (w : Str) → requests.requestText tree 7 (ofField place a) ≡ ok w → Put w
+ran-bytes : (place : ℕ) (a : Accessor) (w : Str) → requests.requestText tree 7 (ofField place a) ≡ ok w → PutAround w
     → Ran bytes 7 place a w
 ran-bytes place a w e p = ran-of bytes 7 place a w (given-bytes place a w e) p
 
@@ -273,7 +273,7 @@ module _ (x : Example) (e : fieldAt (tree .nodes) 7 (x .place) ≡ ok (bed, x .f
       kindOf (slotKind here) ≡ some (x .kind)
       → requests.requestText tree 7 (ofField (x .place) Setter) ≡ ok (x .setter)
       → requests.requestText tree 7 (ofField (x .place) (Getter true false)) ≡ ok (x .getter)
-      → Put (x .setter) → Put (x .getter)
+      → PutAround (x .setter) → PutAround (x .getter)
       → x .writes < 2 ^ slotBits (x .kind) → Holds (placeAt here (x .kind)) some16 → TagHolds (tagAt here) some16
       → TagClear (tagAt here) (placeAt here (x .kind))
       → expectedAt here (x .kind) (x .writes) ≡ x .reads

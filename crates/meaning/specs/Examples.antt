@@ -31,7 +31,7 @@ unfolding kindOf
 kinds-right = (refl, refl, refl, refl, refl, refl, refl, refl)
 
 -- a slot with its default, the lines of its accessors, a value written and the value read
-pub record Row : Type 0 where
+pub record WorkedSlot : Type 0 where
   pub kind : Kind
   pub offset : ℕ
   pub default : ℕ
@@ -41,37 +41,38 @@ pub record Row : Type 0 where
   pub writes : ℕ
   pub reads : ℕ
 
-abbrev pub row : Kind → ℕ → ℕ → Bool → String → String → ℕ → ℕ → Row
-row k o d e s g v x = record { kind = k; offset = o; default = d; explicit = e; setter = s; getter = g; writes = v; reads = x }
+abbrev pub workedSlot : Kind → ℕ → ℕ → Bool → String → String → ℕ → ℕ → WorkedSlot
+workedSlot k o d e s g v x =
+    record { kind = k; offset = o; default = d; explicit = e; setter = s; getter = g; writes = v; reads = x }
 
-abbrev pub rows : List Row
-rows =
+abbrev pub workedSlots : List WorkedSlot
+workedSlots =
     -- isFree, a Bool with default true
-    row bool 3 1 true "self.builder.set_bool_field_mask(3, value, true);" "self.reader.get_bool_field_mask(3, true)" 1 1
-    ∷ row bool 3 1 true "self.builder.set_bool_field_mask(3, value, true);" "self.reader.get_bool_field_mask(3, true)" 0 0
+    workedSlot bool 3 1 true "self.builder.set_bool_field_mask(3, value, true);" "self.reader.get_bool_field_mask(3, true)" 1 1
+    ∷ workedSlot bool 3 1 true "self.builder.set_bool_field_mask(3, value, true);" "self.reader.get_bool_field_mask(3, true)" 0 0
     -- Int8 with default -5
-    ∷ row (num (int One)) 2 251 true
+    ∷ workedSlot (num (int One)) 2 251 true
     "self.builder.set_data_field_mask::<i8>(2, value, -5);" "self.reader.get_data_field_mask::<i8>(2, -5)" 7 7
     -- Float32 with default 1.5
-    ∷ row (num float32) 0 1069547520 true
+    ∷ workedSlot (num float32) 0 1069547520 true
     "self.builder.set_data_field_mask::<f32>(0, value, 1069547520u32);"
     "self.reader.get_data_field_mask::<f32>(0, 1069547520)" 1065353216 1065353216
     -- Float32 with default -0.0: the setter is plain, the getter masks
-    ∷ row (num float32) 1 2147483648 true
+    ∷ workedSlot (num float32) 1 2147483648 true
     "self.builder.set_data_field::<f32>(1, value);" "self.reader.get_data_field_mask::<f32>(1, 2147483648)" 1065353216 3212836864
     -- an enum with default 2, explicit unset: 2 written reads 0
-    ∷ row enum 1 2 false
+    ∷ workedSlot enum 1 2 false
     "self.builder.set_data_field::<u16>(1, value as u16);"
     "::core::convert::TryFrom::try_from(self.reader.get_data_field_mask::<u16>(1, 2))" 2 0
     -- the same with explicit set
-    ∷ row enum 1 2 true
+    ∷ workedSlot enum 1 2 true
     "self.builder.set_data_field_mask::<u16>(1, value as u16, 2);"
     "::core::convert::TryFrom::try_from(self.reader.get_data_field_mask::<u16>(1, 2))" 2 2
     -- explicit set, default 0: the setter masks with 0, the getter is plain, and they agree
-    ∷ row enum 1 0 true
+    ∷ workedSlot enum 1 0 true
     "self.builder.set_data_field_mask::<u16>(1, value as u16, 0);"
     "::core::convert::TryFrom::try_from(self.reader.get_data_field::<u16>(1))" 5 5
-    ∷ row (num (uint Eight)) 1 0 false
+    ∷ workedSlot (num (uint Eight)) 1 0 false
     "self.builder.set_data_field::<u64>(1, value);" "self.reader.get_data_field::<u64>(1)"
     18446744073709551615 18446744073709551615
     ∷ []
@@ -84,33 +85,33 @@ abbrev pub is : Option ℕ → ℕ → Bool
 is none x = false
 is (some v) x = eqb v x
 
--- a row's lines by the rules for masks
-abbrev pub setOf : Row → Str
-setOf x = setLine (x .kind) (x .offset) (mapO (setMaskText (x .kind)) (setMask (x .kind) (x .default) (x .explicit)))
+-- a slot's lines by the rules for masks
+abbrev pub setterLine : WorkedSlot → Str
+setterLine x = setLine (x .kind) (x .offset) (mapO (setMaskText (x .kind)) (setMask (x .kind) (x .default) (x .explicit)))
 
-abbrev pub getOf : Row → Str
-getOf x = getLine true (x .kind) (x .offset) (mapO (getMaskText (x .kind)) (getMask (x .kind) (x .default) (x .explicit)))
+abbrev pub getterLine : WorkedSlot → Str
+getterLine x = getLine true (x .kind) (x .offset) (mapO (getMaskText (x .kind)) (getMask (x .kind) (x .default) (x .explicit)))
 
 -- a setter with this line, on the sixteen bytes with this value
 abbrev pub setWith : Str → ℕ → Option Record
 setWith l v = runSetter (functionText (ascii "pub fn set_x(&mut self, value: T)  {") (Line l & noMore)) v some16
 
 -- the lines are those of the table, and the texts made of them write and read its values
-abbrev pub right : Row → Bool
-right x =
-    both (same (setOf x) (ascii (x .setter)))
-    (both (same (getOf x) (ascii (x .getter)))
-    (is (bindO (setWith (setOf x) (x .writes)) (runGetter (getterLines (ascii "T") (getOf x)))) (x .reads)))
+abbrev pub slotRight : WorkedSlot → Bool
+slotRight x =
+    both (same (setterLine x) (ascii (x .setter)))
+    (both (same (getterLine x) (ascii (x .getter)))
+    (is (bindO (setWith (setterLine x) (x .writes)) (runGetter (getterLines (ascii "T") (getterLine x)))) (x .reads)))
 
-abbrev pub all : {A : Type 0} → (A → Bool) → List A → Bool
-all f [] = true
-all f (x ∷ l) = both (f x) (all f l)
+abbrev pub allHold : {A : Type 0} → (A → Bool) → List A → Bool
+allHold f [] = true
+allHold f (x ∷ l) = both (f x) (allHold f l)
 
-pub rows-right : all right rows ≡ true
+pub worked-right : allHold slotRight workedSlots ≡ true
 unfolding toLines flatMap join stringify same decimal signed getBoolField getDataField setBoolField setDataField functionText
     getterLines getMaskText setMaskText found stored getBits putBits typeName truth getMaskOf setMaskOf dataArg boolArg writes
     gets getsIn runOp runLine runLines runSetter runGetter
-rows-right = refl
+worked-right = refl
 
 -- ---- texts without a meaning
 
@@ -143,7 +144,7 @@ noSets =
     ∷ "return;"
     ∷ []
 
-pub no-sets : all noSet noSets ≡ true
+pub no-sets : allHold noSet noSets ≡ true
 unfolding toLines flatMap join stringify functionText found stored getBits putBits clearFlag typeName truth getMaskOf setMaskOf
     dataArg boolArg writes runOp runLine runLines runSetter
 no-sets = refl

@@ -7,9 +7,9 @@ use Rattle.programs.specs.Input.{lineLength, lineEnd, numberFrom, decima
 abbrev input : Str
 input = ascii "3\nabc5\nde"
 
-pub lines : (lineEnd input 0 ≡ 1) × (lineEnd input 2 ≡ 6) × (lineEnd input 7 ≡ 9) × (lineEnd input 10 ≡ 10)
+pub line-ends : (lineEnd input 0 ≡ 1) × (lineEnd input 2 ≡ 6) × (lineEnd input 7 ≡ 9) × (lineEnd input 10 ≡ 10)
 unfolding lineLength
-lines = (refl, refl, refl, refl)
+line-ends = (refl, refl, refl, refl)
 
 pub numbers : (decimalOf (ascii "") ≡ 0) × (decimalOf (ascii "1 a5") ≡ 1005) × (decimalOf (ascii "123456789") ≡ 3456789)
 unfolding numberFrom

@@ -194,13 +194,13 @@ pub data-past : (w : Width) (o : ElementOffset) (n : ℕ) → n < o .0 * bytesOf
 data-past w o n h = omega arith
 
 module _ (p : Place) (l : List ℕ) (h : length l * 8 < from p + bitCount p) where
-  pub get-past : (m : ℕ) → getBits p m (sectionBits l) ≡ m % 2 ^ bitCount p
+  pub get-past-bytes : (m : ℕ) → getBits p m (sectionBits l) ≡ m % 2 ^ bitCount p
   unfolding getBits
-  get-past m = rw (found-past (from p) (bitCount p) (sectionBits l) (rw (length-section l) h)) (mask-alone (bitCount p) m)
+  get-past-bytes m = rw (found-past (from p) (bitCount p) (sectionBits l) (rw (length-section l) h)) (mask-alone (bitCount p) m)
 
-  pub put-past : (v m : ℕ) → putBits p v m (sectionBits l) ≡ none
+  pub put-past-bytes : (v m : ℕ) → putBits p v m (sectionBits l) ≡ none
   unfolding putBits
-  put-past v m = stored-past (from p) (coded p v m) (sectionBits l) (rw (length-section l, length-xors (bitCount p) v m) h)
+  put-past-bytes v m = stored-past (from p) (coded p v m) (sectionBits l) (rw (length-section l, length-xors (bitCount p) v m) h)
 
 pub bytes-small : (w : Width) → bytesOf w ≤ 8
 bytes-small One = omega arith
@@ -211,7 +211,7 @@ bytes-small Eight = omega arith
 -- ---- what a set leaves and answers
 
 pub put-none : {p : Place} {v m : ℕ} {l : List ℕ} → length l * 8 < from p + bitCount p → Put p v m l l NoMeaning
-put-none {p} {v} {m} {l} h = record { answer = rw (put-past p l h v m); left = rw (put-past p l h v m) }
+put-none {p} {v} {m} {l} h = record { answer = rw (put-past-bytes p l h v m); left = rw (put-past-bytes p l h v m) }
 
 pub put-bool-done : {l : List ℕ} {o : BitOffset} (v m : Bool) → o .0 / 8 < length l
     → Put (boolAt o) (bit v) (bit m) l (set l (o .0 / 8) (withBit (getD l (o .0 / 8) 0) (o .0 % 8) (bitXor (bit v) (bit m)))) Done
@@ -254,9 +254,9 @@ module _ (l : List ℕ) (i : PointerOffset) where
         not-bit (eqb (getD l (i .0) 0) 0),
       )
 
-  pub null-past : length l ≤ i .0 → nullFlag i (flags l) ≡ true
+  pub null-past-bytes : length l ≤ i .0 → nullFlag i (flags l) ≡ true
   unfolding nullFlag
-  null-past h = rw (found-past (i .0) 1 (flags l) (rw (length-flags l) (omega arith)))
+  null-past-bytes h = rw (found-past (i .0) 1 (flags l) (rw (length-flags l) (omega arith)))
 
   pub clear-inside : i .0 < length l → clearFlag i (flags l) ≡ some (flags (set l (i .0) 0))
   unfolding clearFlag

@@ -5,7 +5,7 @@ use native.Mathlib.Nat.{mod-lt, mod-eq-of-lt, zero-lt-suc}
 use native.Mathlib.Omega.{arith}
 use denote.Ref.{now}
 use Rattle.record.specs.Offsets.{boolAt}
-use Rattle.record.proofs.OperationLaws.{bit-below, get-bit, get-past}
+use Rattle.record.proofs.OperationLaws.{bit-below, get-bit, get-past-bytes}
 use Rattle.record.proofs.get_bool_field_mask.Statement.{statement}
 use Rattle.record.proofs.get_bool_field_mask.Tie as tie
 
@@ -25,7 +25,7 @@ returns-2 c =
     let e = c .before .bit-address .ensures in
     let h = rw e at (c .if1 .left) in
     let a = c .before .before .before .args in
-    sym (get-past (boolAt (a .o)) (now (a .section)) (omega arith) _ ∙ mod-eq-of-lt (bit-below (a .mask)))
+    sym (get-past-bytes (boolAt (a .o)) (now (a .section)) (omega arith) _ ∙ mod-eq-of-lt (bit-below (a .mask)))
 
 pub get-bool-field-mask-spec : {M : Type 1} → statement M
 get-bool-field-mask-spec =

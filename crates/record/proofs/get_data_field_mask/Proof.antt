@@ -3,7 +3,7 @@ use borrow.Author.Needs.{needs}
 use borrow.Author.Tests.{leb-true, leb-false}
 use denote.Ref.{now}
 use Rattle.record.specs.Offsets.{dataAt}
-use Rattle.record.proofs.OperationLaws.{bytes-small, get-data, get-past, data-past}
+use Rattle.record.proofs.OperationLaws.{bytes-small, get-data, get-past-bytes, data-past}
 use Rattle.record.proofs.get_data_field_mask.Statement.{statement}
 use Rattle.record.proofs.get_data_field_mask.Tie as tie
 
@@ -39,7 +39,7 @@ returns-2 c =
     let h = leb-false _ _ (rw (t .before .inside .ensures, e, b .bytes .ensures) at (t .if1 .left)) in
     let w = start .args .width in
     let o = start .args .o in
-    rw (c .low-bits2 .ensures, get-past (dataAt w o) (now (start .args .section)) (data-past w o _ h))
+    rw (c .low-bits2 .ensures, get-past-bytes (dataAt w o) (now (start .args .section)) (data-past w o _ h))
 
 pub get-data-field-mask-spec : {M : Type 1} → statement M
 get-data-field-mask-spec =
