@@ -18,7 +18,8 @@ use Rattle.calls.specs.Calls.{notNull, tagTest}
 use Rattle.codegen.specs.Mask.{maskOr}
 use Rattle.codegen.specs.Default.{value, integer, unless, primDefault, getterMask}
 use Rattle.codegen.specs.Function.{function}
-use Rattle.codegen.specs.Haser.{haserRequest, haserOf, generateHaser, tagTests, tagTestLine}
+use Rattle.codegen.specs.Haser.{haserRequest, haserOf, generateHaser, tagTests}
+use Rattle.codegen.specs.TagLine.{tagTestLine}
 
 -- ---- masks
 

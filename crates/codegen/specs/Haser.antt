@@ -1,7 +1,7 @@
 -- `generate_haser` of codegen.rs for a slot. Assumes nothing.
 use Prim.Native.Nat.{ℕ}
 use mathlib.Core.Bool.{Bool}
-use mathlib.Core.List.{[], _++_}
+use mathlib.Core.List.{_++_}
 use lib.Dec.{eqb}
 use Rattle.text.specs.Bytes.{Str, ascii, cond}
 use Rattle.text.specs.Lines.{FormattedText, FormattedTexts, Branch, Line, none, _&_, stringify}
@@ -25,11 +25,6 @@ generateHaser tagOffset styledName discriminant k offset isReader =
     (tagTests isReader tagOffset discriminant (Line (notNull isReader offset) & none))
     none))
     (Branch none)
-
--- the test of the tag as it is written: a line, or nothing
-abbrev pub tagTestLine : Bool → ℕ → ℕ → Str
-tagTestLine isReader tagOffset discriminant =
-    cond (eqb discriminant 65535) [] (ascii "    " ++ tagTest isReader tagOffset discriminant ++ ascii "\n")
 
 -- the text of a haser by its field's name
 abbrev pub haserOf : ℕ → Str → ℕ → ℕ → ℕ → Bool → Str

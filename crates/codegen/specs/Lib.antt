@@ -5,4 +5,5 @@ pub mod Function
 pub mod Getter
 pub mod Haser
 pub mod Setter
+pub mod TagLine
 pub mod Zeroing

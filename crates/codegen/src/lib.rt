@@ -10,7 +10,8 @@ ghost use Rattle.calls.specs.Calls.{getDataField, setBoolField, setDataField, z
 ghost use Rattle.calls.specs.Mask.{maskText};
 ghost use Rattle.codegen.specs.Default.{value, floatZero, primDefault, getterMask};
 ghost use Rattle.codegen.specs.Mask.{maskOr};
-ghost use Rattle.codegen.specs.Haser.{haserOf, tagTestLine};
+ghost use Rattle.codegen.specs.Haser.{haserOf};
+ghost use Rattle.codegen.specs.TagLine.{tagTestLine};
 ghost use Rattle.codegen_types.specs.Primitive.{primitiveText};
 ghost use Rattle.codegen_types.specs.TypeString.{isPointerKind};
 

@@ -13,7 +13,8 @@ use lib.ListN.{length, take, drop, length-drop}
 use lib.Seq.{drop-drop}
 use Rattle.text.specs.Bytes.{Str, unit, cond, both, either, same}
 use Rattle.text.proofs.BytesLaws.{unlike, both-true}
-use Rattle.names.specs.Keywords.{rustKeywords, isOneOf, isKeyword, cut, cutWords}
+use Rattle.names.specs.Keywords.{rustKeywords, isOneOf, isKeyword}
+use Rattle.names.specs.Words.{cut, cutWords}
 
 -- the words of n bytes
 abbrev pub ofLength : ℕ → List Str → List Str

@@ -1,8 +1,7 @@
 -- `RUST_KEYWORDS` of codegen.rs, all 53. Assumes nothing.
 use mathlib.Core.Bool.{Bool, false}
-use mathlib.Core.List.{List, [], _∷_, _++_, map}
-use Prim.Native.Nat.{ℕ, zero, suc}
-use Rattle.text.specs.Bytes.{Str, ascii, unit, either, same}
+use mathlib.Core.List.{List, [], _∷_, map}
+use Rattle.text.specs.Bytes.{Str, ascii, either, same}
 
 abbrev pub rustKeywords : List Str
 rustKeywords =
@@ -21,13 +20,3 @@ isOneOf s (w ∷ ws) = either (same s w) (isOneOf s ws)
 -- `RUST_KEYWORDS.contains(name)`
 unfoldable pub isKeyword : Str → Bool
 isKeyword name = isOneOf name rustKeywords
-
--- the words of n bytes that stand in a byte string one after the other, each with one byte after it; k bytes are left of the
--- word that begins with w
-abbrev pub cut : ℕ → ℕ → Str → Str → List Str
-cut n k w [] = []
-cut n zero w (c ∷ cs) = w ∷ cut n n [] cs
-cut n (suc k) w (c ∷ cs) = cut n k (w ++ unit c) cs
-
-unfoldable pub cutWords : ℕ → Str → List Str
-cutWords n s = cut n n [] s

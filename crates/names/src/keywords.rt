@@ -2,7 +2,8 @@
 use text::equal;
 ghost use mathlib.Core.Path.{_≡_};
 ghost use lib.ListN.{length};
-ghost use Rattle.names.specs.Keywords.{isOneOf, cutWords, isKeyword};
+ghost use Rattle.names.specs.Keywords.{isOneOf, isKeyword};
+ghost use Rattle.names.specs.Words.{cutWords};
 
 // Whether a name is one of the words, which have its length and stand one after the other with a space after each.
 fn one_of(name: &[u8], words: &[u8]) -> bool

@@ -6,7 +6,8 @@ use Prim.Native.Nat.{_-_, _≤_}
 use native.Mathlib.Omega.{arith}
 use lib.ListN.{length, drop, length-drop}
 use denote.Ref.{now}
-use Rattle.names.specs.Keywords.{isOneOf, cutWords}
+use Rattle.names.specs.Keywords.{isOneOf}
+use Rattle.names.specs.Words.{cutWords}
 use Rattle.names.proofs.KeywordLaws.{turn, words-none}
 use Rattle.names.proofs.keywords.one_of.Statement.{statement}
 use Rattle.names.proofs.keywords.one_of.Tie as tie
