@@ -162,8 +162,8 @@ fn under_header(
     root: &[u8],
     s: &[u8],
     index: &[u64],
-    tag: u64,
     field: Field,
+    tag: u64,
     part: Part,
     buf: &mut [u8],
 ) -> Fit
@@ -173,7 +173,7 @@ fn under_header(
         (λ sheet at. Puts (partText (accessorText sheet at (accessorOf part))) (now (buf .exit)) r) ⌝ }
 {
     let accessor = asked(part);
-    let written = requests::write_accessor(root, s, index, tag, field, accessor, Text::at(0), buf);
+    let written = requests::write_accessor(root, s, index, field, tag, accessor, Text::at(0), buf);
     let refusal = written.refusal;
     if let Refusal::Number(number) = refusal {
         return refused(number, buf);
@@ -190,9 +190,9 @@ fn write_part(
     root: &[u8],
     s: &[u8],
     index: &[u64],
-    tag: u64,
-    field: Field,
     name: &[u8],
+    field: Field,
+    tag: u64,
     part: Part,
     out: &mut [u8],
 ) -> Fit
@@ -206,7 +206,7 @@ fn write_part(
     if out.len() < n {
         return Fit::Short;
     }
-    match under_header(root, s, index, tag, field, part, &mut out[n..]) {
+    match under_header(root, s, index, field, tag, part, &mut out[n..]) {
         Fit::Whole(m) => Fit::Whole(n + m),
         Fit::Short => Fit::Short,
     }
@@ -217,9 +217,9 @@ fn write_parts(
     root: &[u8],
     s: &[u8],
     index: &[u64],
-    tag: u64,
-    field: Field,
     name: &[u8],
+    field: Field,
+    tag: u64,
     first: Part,
     out: &mut [u8],
 ) -> Fit
@@ -231,7 +231,7 @@ fn write_parts(
     let mut part = first;
     let mut n: usize = 0;
     loop {
-        let fit = write_part(root, s, index, tag, field, name, part, &mut out[n..]);
+        let fit = write_part(root, s, index, name, field, tag, part, &mut out[n..]);
         let Fit::Whole(m) = fit else {
             return Fit::Short;
         };
@@ -244,7 +244,7 @@ fn write_parts(
 }
 
 // All that is printed of a slot.
-fn write_slot(root: &[u8], s: &[u8], index: &[u64], tag: u64, slot: Slot, out: &mut [u8]) -> Fit
+fn write_slot(root: &[u8], s: &[u8], index: &[u64], slot: Slot, tag: u64, out: &mut [u8]) -> Fit
     ensures within { λ r. ⌜ Within r (now (out .exit)) ⌝ }
     ensures said { λ r. ⌜ FieldPut (now (root .entry)) (now (s .entry)) (now (index .entry)) tag (field-is.Slot slot)
         (now (out .entry)) (now (out .exit)) r ⌝ }
@@ -254,16 +254,16 @@ fn write_slot(root: &[u8], s: &[u8], index: &[u64], tag: u64, slot: Slot, out: &
         root,
         s,
         index,
-        tag,
-        Field::Slot(slot),
         name,
+        Field::Slot(slot),
+        tag,
         Part::GetterReader,
         out,
     )
 }
 
 // All that is printed of a group.
-fn write_group(root: &[u8], s: &[u8], index: &[u64], tag: u64, group: Group, out: &mut [u8]) -> Fit
+fn write_group(root: &[u8], s: &[u8], index: &[u64], group: Group, tag: u64, out: &mut [u8]) -> Fit
     ensures within { λ r. ⌜ Within r (now (out .exit)) ⌝ }
     ensures said { λ r. ⌜ FieldPut (now (root .entry)) (now (s .entry)) (now (index .entry)) tag (field-is.Group group)
         (now (out .entry)) (now (out .exit)) r ⌝ }
@@ -273,9 +273,9 @@ fn write_group(root: &[u8], s: &[u8], index: &[u64], tag: u64, group: Group, out
         root,
         s,
         index,
-        tag,
-        Field::Group(group),
         name,
+        Field::Group(group),
+        tag,
         Part::Zero,
         out,
     )

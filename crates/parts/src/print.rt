@@ -16,6 +16,7 @@ use field::Field;
 use libc::STDOUT_FILENO;
 use nodes::Found;
 use sheet::Answer;
+use terms::limits;
 use text::Text;
 ghost use mathlib.Core.Path.{_≡_};
 ghost use mathlib.Core.List.{List};
@@ -36,7 +37,10 @@ ghost use Rattle.parts.specs.Pieces.{PiecesHold};
 ghost use Rattle.parts.specs.Steps.{mostLeft, Enters, Turns, Filled, Reached, Comes};
 ghost use Rattle.parts.specs.declared.Place.the-variants.{At, End};
 
-// The bytes of the buffer that most sheets are printed over.
+// A sheet of so many bytes is short: clearing the large buffer would cost more than printing it.
+const SHORT_SHEET: usize = 8192;
+
+// The bytes of the buffer that a short sheet is printed over.
 const PIECE_SIZE: usize = 32768;
 
 // The bytes that a unit has at most: five parts, each a header of at most 17 + 64 + 1 bytes and a text of at most 65,536.
@@ -46,7 +50,7 @@ const UNIT_SIZE: usize = 328090;
 fn enter(index: &[u64], node: usize) -> Place
     ensures { λ r. ⌜ Enters (now (index .entry)) node r ⌝ }
 {
-    if 64 <= node {
+    if limits::NODES <= node {
         return Place::End;
     }
     match nodes::nth(index, node) {
@@ -62,7 +66,7 @@ fn enter(index: &[u64], node: usize) -> Place
 fn next_node(index: &[u64], node: usize) -> Place
     ensures { λ r. ⌜ Enters (now (index .entry)) (node + 1) r ⌝ }
 {
-    if 64 <= node {
+    if limits::NODES <= node {
         return Place::End;
     }
     enter(index, node + 1)
@@ -117,14 +121,14 @@ fn field_turn(root: &[u8], s: &[u8], index: &[u64], node: usize, at: usize, out:
     let read = field::read(s, at);
     match read {
         Field::Slot(slot) => Turn {
-            fit: write_slot(root, s, index, tag, slot, out),
+            fit: write_slot(root, s, index, slot, tag, out),
             next: Place::At {
                 node,
                 field: slot.next,
             },
         },
         Field::Group(group) => Turn {
-            fit: write_group(root, s, index, tag, group, out),
+            fit: write_group(root, s, index, group, tag, out),
             next: Place::At {
                 node,
                 field: group.next,
@@ -208,12 +212,15 @@ fn print_pieces(s: &[u8], index: &[u64], start: Place, out: &mut [u8]) -> Came
     }
 }
 
-// The same over the small buffer, from the start of the sheet. Each buffer has its own function, so that the stack holds one of
-// them at a time.
+// The same over the small buffer, from the start of a short sheet; a longer one is left to the large buffer, so that no unit of it
+// is written twice. Each buffer has its own function, so that the stack holds one of them at a time.
 fn print_small(s: &[u8], index: &[u64], start: Place) -> Came
     requires { ⌜ Left (now s) (now index) start (programText (admitted (now s))) ⌝ }
     ensures { λ r. ⌜ Comes (now (s .entry)) (now (index .entry)) 32768 r ⌝ }
 {
+    if SHORT_SHEET < s.len() {
+        return Came::To(start);
+    }
     let mut out = [0u8; PIECE_SIZE];
     print_pieces(s, index, start, &mut out)
 }

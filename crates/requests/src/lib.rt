@@ -11,6 +11,7 @@ use field::Group;
 use field::Slot;
 use nodes::Found;
 use terms::leaves;
+use terms::limits;
 use terms::refusals;
 use text::Text;
 ghost use mathlib.Core.Path.{_≡_};
@@ -140,7 +141,7 @@ fn type_text(
 }
 
 // A haser's text: it refuses nothing.
-fn haser(s: &[u8], tag: u64, slot: Slot, is_reader: bool, t: Text, buf: &mut [u8]) -> Written
+fn haser(s: &[u8], slot: Slot, tag: u64, is_reader: bool, t: Text, buf: &mut [u8]) -> Written
     ensures text { λ r. ⌜ ((root : Str) (index : List ℕ) → AccessorWritten (now (s .entry)) index root tag (field-is.Slot slot)
         (Haser «is_reader») (now (buf .entry)) t (now (buf .exit)) r) ⌝ }
     ensures some { λ r. ⌜ WroteSome (now (buf .entry)) t (now (buf .exit)) (r .text) ⌝ }
@@ -154,8 +155,8 @@ fn slot_accessor(
     root: &[u8],
     s: &[u8],
     index: &[u64],
-    tag: u64,
     slot: Slot,
+    tag: u64,
     accessor: Accessor,
     t: Text,
     buf: &mut [u8],
@@ -170,7 +171,7 @@ fn slot_accessor(
             getter::getter(root, s, index, slot, is_reader, is_fn, t, buf)
         }
         Accessor::Setter => setter::setter(root, s, index, slot, tag, t, buf),
-        Accessor::Haser { is_reader } => haser(s, tag, slot, is_reader, t, buf),
+        Accessor::Haser { is_reader } => haser(s, slot, tag, is_reader, t, buf),
         Accessor::Zeroing => codegen_types::refused(refusals::NOT_THERE, t),
     }
 }
@@ -210,8 +211,8 @@ pub fn write_accessor(
     root: &[u8],
     s: &[u8],
     index: &[u64],
-    tag: u64,
     field: Field,
+    tag: u64,
     accessor: Accessor,
     t: Text,
     buf: &mut [u8],
@@ -221,7 +222,7 @@ pub fn write_accessor(
     ensures some { λ r. ⌜ WroteSome (now (buf .entry)) t (now (buf .exit)) (r .text) ⌝ }
 {
     match field {
-        Field::Slot(slot) => slot_accessor(root, s, index, tag, slot, accessor, t, buf),
+        Field::Slot(slot) => slot_accessor(root, s, index, slot, tag, accessor, t, buf),
         Field::Group(group) => group_accessor(s, index, group, accessor, t, buf),
         Field::Nothing => codegen_types::refused(refusals::NOT_THERE, t),
     }
@@ -232,8 +233,8 @@ pub fn write_accessor(
 fn answer_found(
     s: &[u8],
     index: &[u64],
-    tag: u64,
     field: Field,
+    tag: u64,
     accessor: Accessor,
     t: Text,
     buf: &mut [u8],
@@ -246,7 +247,7 @@ fn answer_found(
     let root = row::text(s, 0);
     let start = Text::at(0);
     let mut empty = [0u8; 0];
-    let measured = write_accessor(root, s, index, tag, field, accessor, start, &mut empty);
+    let measured = write_accessor(root, s, index, field, tag, accessor, start, &mut empty);
     let refusal = measured.refusal;
     if let Refusal::Number(number) = refusal {
         return refused(number);
@@ -261,8 +262,8 @@ fn answer_found(
         root,
         s,
         index,
-        tag,
         field,
+        tag,
         accessor,
         start,
         &mut buf[fill..],
@@ -289,7 +290,7 @@ fn answer_field(
     let field = located.field;
     match field {
         Field::Nothing => refused(refusals::NOT_THERE),
-        _ => answer_found(s, index, located.tag, field, accessor, t, buf),
+        _ => answer_found(s, index, field, located.tag, accessor, t, buf),
     }
 }
 
@@ -378,8 +379,8 @@ pub fn answer_request(s: &[u8], id: u64, request: Request, t: Text, buf: &mut [u
 fn pass_field(
     s: &[u8],
     index: &[u64],
-    tag: u64,
     field: Field,
+    tag: u64,
     accessor: Accessor,
     buf: &mut [u8],
 ) -> Pass
@@ -388,7 +389,7 @@ fn pass_field(
     ensures within { λ r. ⌜ PassWithin (now (buf .entry)) r ⌝ }
 {
     let root = row::text(s, 0);
-    let written = write_accessor(root, s, index, tag, field, accessor, Text::at(0), buf);
+    let written = write_accessor(root, s, index, field, tag, accessor, Text::at(0), buf);
     let refusal = written.refusal;
     if let Refusal::Number(number) = refusal {
         return Pass::Refused(number);
@@ -415,7 +416,7 @@ pub fn text(
         (now (buf .entry)) (now (buf .exit)) r ⌝ }
     ensures within { λ r. ⌜ PassWithin (now (buf .entry)) r ⌝ }
 {
-    if 64 <= node {
+    if limits::NODES <= node {
         return Pass::Refused(refusals::NOT_THERE);
     }
     let Found::At(entry) = nodes::nth(index, node) else {
@@ -423,6 +424,6 @@ pub fn text(
     };
     match field {
         Field::Nothing => Pass::Refused(refusals::NOT_THERE),
-        _ => pass_field(s, index, entry.tag_offset, field, accessor, buf),
+        _ => pass_field(s, index, field, entry.tag_offset, accessor, buf),
     }
 }

@@ -12,11 +12,11 @@ use Rattle.parts.proofs.write_parts.Statement.{statement}
 use Rattle.parts.proofs.write_parts.Tie as tie
 
 abbrev Inv-loop : tie.InvT-loop
-Inv-loop root s index tag field name out₀ part₀ n₀ out part n =
+Inv-loop root s index name field tag out₀ part₀ n₀ out part n =
     PartsLeft root s index tag field name part₀ out₀ out n (partsFrom part)
 
 abbrev μ-loop : tie.MeasureT-loop
-μ-loop root s index tag field name out₀ part₀ n₀ out part n = length (partsFrom part)
+μ-loop root s index name field tag out₀ part₀ n₀ out part n = length (partsFrom part)
 
 room : (c : tie.Start Inv-loop μ-loop) → length (c .args .out .now) < 2 ^ 63
 room c = search needs
