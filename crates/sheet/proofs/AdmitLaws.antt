@@ -20,7 +20,8 @@ use Rattle.tree.specs.declared.Walk.{Walk}
 use Rattle.tree.specs.declared.Walk.the-variants.{Next, Refused}
 use Rattle.tree.proofs.OtherLines.{never, not-root}
 use Rattle.nodes.specs.Index.{indexSize, Indexed}
-use Rattle.sheet.specs.Admission.{answerNumbers, refusalIn, IndexOf, NodesRead}
+use Rattle.sheet.specs.Admission.{answerNumbers, refusalIn, IndexOf}
+use Rattle.sheet.specs.Steps.{NodesRead}
 use Rattle.sheet.specs.declared.Answer.{Answer}
 use Rattle.row.specs.declared.Line.the-variants as line
 use Rattle.sheet.specs.declared.Answer.the-variants as answer

@@ -25,7 +25,7 @@ use Rattle.tree.proofs.TailLaws.{Tail, tail-rest, tail-length, tail-size, leave
 use Rattle.tree.proofs.FieldLaws.{fields-here}
 use Rattle.tree.proofs.AmongLaws.{among-append}
 use Rattle.sheet.proofs.RoomLaws.{group-room}
-use Rattle.sheet.specs.Admission.{groupsAfter}
+use Rattle.sheet.specs.Steps.{groupsAfter}
 use Rattle.row.specs.declared.Line.the-variants as line
 
 -- the search among the first ids: those from i up to a place j, where b says whether it is found, and those from there on

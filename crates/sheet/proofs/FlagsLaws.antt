@@ -13,7 +13,7 @@ use lib.Seq.{getD-set-same, getD-set-other}
 use Rattle.text.specs.Bytes.{unit, either}
 use Rattle.tree.specs.Read.{among}
 use Rattle.tree.proofs.OtherLines.{never}
-use Rattle.sheet.specs.Admission.{Flagged}
+use Rattle.sheet.specs.Steps.{Flagged}
 
 -- each id has its flag below 2048
 flag-fits : (id : ℕ) → id % 2048 < 2048

@@ -25,9 +25,9 @@ use Rattle.nodes.specs.Index.{entryAt, withEntry, namesOf, firstMark, indexSize
 use Rattle.nodes.specs.declared.Entry.{Entry}
 use Rattle.nodes.proofs.NameLaws.{params-names}
 use Rattle.nodes.proofs.PutLaws.{entry-put, length-put, before-put, after-put}
-use Rattle.sheet.specs.Admission.{walkedWith, groupsAfter, Room, Flagged, leftAfter, SameBetween, ParamsRead, Placed}
-use Rattle.sheet.specs.Admission.{nodeWith}
-use Rattle.sheet.specs.Admission.{NodeRoom, membersHere, Ready, Begun, refusedRun, seenAfter, NodeRead}
+use Rattle.sheet.specs.Steps.{walkedWith, groupsAfter, Room, Flagged, leftAfter, SameBetween, ParamsRead, Placed}
+use Rattle.sheet.specs.Steps.{nodeWith}
+use Rattle.sheet.specs.Steps.{NodeRoom, membersHere, Ready, Begun, refusedRun, seenAfter, NodeRead}
 use Rattle.sheet.specs.declared.ParamsRun.{ParamsRun}
 use Rattle.sheet.specs.declared.Held.{Held}
 use Rattle.sheet.specs.declared.NodeRun.{NodeRun}

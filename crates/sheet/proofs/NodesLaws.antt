@@ -15,7 +15,7 @@ use Rattle.tree.specs.Read.{groupIds, readNode, readNodes}
 use Rattle.tree.specs.declared.Walk.the-variants.{Next, Refused}
 use Rattle.tree.proofs.OtherLines.{never}
 use Rattle.nodes.specs.Index.{firstMark, indexSize}
-use Rattle.sheet.specs.Admission.{Flagged, Room, MarkRoom, NodeRoom, Ready, seenAfter, NodeRead, NodesRead}
+use Rattle.sheet.specs.Steps.{Flagged, Room, MarkRoom, NodeRoom, Ready, seenAfter, NodeRead, NodesRead}
 use Rattle.sheet.specs.declared.Held.{Held}
 use Rattle.sheet.specs.declared.NodeRun.{NodeRun}
 use Rattle.sheet.proofs.FieldsLaws.{pushed}

@@ -23,7 +23,7 @@ use Rattle.tree.specs.Walked.{passed}
 use Rattle.tree.proofs.OtherLines.{never, not-parameter}
 use Rattle.nodes.specs.Index.{namesOf}
 use Rattle.nodes.proofs.NameLaws.{names-more, names-none}
-use Rattle.sheet.specs.Admission.{MarkRoom, hasMark, withMark, nextMark, SameBetween, ParamsRead}
+use Rattle.sheet.specs.Steps.{MarkRoom, hasMark, withMark, nextMark, SameBetween, ParamsRead}
 use Rattle.sheet.proofs.RoomLaws.{parameter-room}
 use Rattle.sheet.proofs.FieldsLaws.{params-on, params-stop}
 use Rattle.row.specs.declared.Line.the-variants as line

@@ -10,7 +10,7 @@ use Rattle.text.specs.Bytes.{Str}
 use Rattle.tree.specs.Tree.{Node}
 use Rattle.nodes.specs.Index.{entryAt, firstMark, Marked, Entries, Indexed}
 use Rattle.nodes.specs.declared.Entry.{Entry}
-use Rattle.sheet.specs.Admission.{SameBetween, Placed}
+use Rattle.sheet.specs.Steps.{SameBetween, Placed}
 
 -- the entries of nodes, one after the other from a place on, with their marks before another
 unfoldable pub Filled : Str → List ℕ → ℕ → ℕ → List Node → Type 0

@@ -11,9 +11,10 @@ ghost use lib.ListN.{length, drop, take, set};
 ghost use Rattle.row.specs.Rows.{rows, size};
 ghost use Rattle.tree.specs.Read.{among, readNode, readNodes, admitted};
 ghost use Rattle.nodes.specs.Index.{indexSize};
-ghost use Rattle.sheet.specs.Admission.{answerNumbers, refusalIn, IndexOf, walkedWith, Flagged, Room, groupsAfter};
-ghost use Rattle.sheet.specs.Admission.{MarkRoom, withMark, nextMark, ParamsRead, Ready, Begun, refusedRun, membersHere};
-ghost use Rattle.sheet.specs.Admission.{leftAfter, Turned, NodeRead, NodesRead};
+ghost use Rattle.sheet.specs.Admission.{answerNumbers, refusalIn, IndexOf};
+ghost use Rattle.sheet.specs.Steps.{walkedWith, Flagged, Room, groupsAfter};
+ghost use Rattle.sheet.specs.Steps.{MarkRoom, withMark, nextMark, ParamsRead, Ready, Begun, refusedRun, membersHere};
+ghost use Rattle.sheet.specs.Steps.{leftAfter, Turned, NodeRead, NodesRead};
 
 // What a sheet is: one that document 01 admits, or one with a refusal at a line.
 pub enum Answer {

@@ -9,7 +9,7 @@ use borrow.Author.Needs.{needs}
 use Rattle.sheet.proofs.FieldsLaws.{group-less, group-fits, pushed, groups-stop, groups-slot, groups-slot-no, slot-less}
 use Rattle.sheet.proofs.FieldsLaws.{slot-room, groups-double, groups-group}
 use Rattle.sheet.proofs.FlagsLaws.{flagged-more}
-use Rattle.sheet.specs.Admission.{groupsAfter}
+use Rattle.sheet.specs.Steps.{groupsAfter}
 use Rattle.tree.proofs.WalkLaws.{came, refused}
 use Rattle.row.specs.Rows.{rows}
 use Rattle.sheet.proofs.field.Statement.{statement}

@@ -5,7 +5,7 @@ use native.Mathlib.Omega.{arith}
 use lib.ListN.{length, take, drop}
 use borrow.Author.Needs.{needs}
 use Rattle.row.specs.Rows.{rows, size}
-use Rattle.sheet.specs.Admission.{Flagged, Room, groupsAfter}
+use Rattle.sheet.specs.Steps.{Flagged, Room, groupsAfter}
 use Rattle.sheet.proofs.fields.Statement.{statement}
 use Rattle.sheet.proofs.fields.Tie as tie
 
