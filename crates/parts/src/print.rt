@@ -37,7 +37,7 @@ ghost use Rattle.parts.specs.Pieces.{PiecesHold};
 ghost use Rattle.parts.specs.Steps.{mostLeft, Enters, Turns, Filled, Reached, Comes};
 ghost use Rattle.parts.specs.declared.Place.the-variants.{At, End};
 
-// A sheet of so many bytes is short: clearing the large buffer would cost more than printing it.
+// A sheet of so many bytes at most is short: clearing the large buffer would be a large part of the work on it.
 const SHORT_SHEET: usize = 8192;
 
 // The bytes of the buffer that a short sheet is printed over.
@@ -213,7 +213,7 @@ fn print_pieces(s: &[u8], index: &[u64], start: Place, out: &mut [u8]) -> Came
 }
 
 // The same over the small buffer, from the start of a short sheet; a longer one is left to the large buffer, so that no unit of it
-// is written twice. Each buffer has its own function, so that the stack holds one of them at a time.
+// is tried in the small one first. Each buffer has its own function, so that the stack holds one of them at a time.
 fn print_small(s: &[u8], index: &[u64], start: Place) -> Came
     requires { ⌜ Left (now s) (now index) start (programText (admitted (now s))) ⌝ }
     ensures { λ r. ⌜ Comes (now (s .entry)) (now (index .entry)) 32768 r ⌝ }
