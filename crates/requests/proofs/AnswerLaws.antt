@@ -13,9 +13,9 @@ use Rattle.text.proofs.Places.{adv-at}
 use Rattle.tree.proofs.OtherLines.{never}
 use Rattle.codegen_types.specs.Out.{Out, ok, refused, _then_, refusalOf}
 use Rattle.codegen_types.specs.declared.Refusal.the-variants.{None, Number}
-use Rattle.codegen_types.specs.Written.{Writes}
+use Rattle.codegen_types.specs.Written.{Writes, refusalNumber}
 use Rattle.codegen_types.specs.declared.Written.{Written}
-use Rattle.codegen_types.proofs.WrittenLaws.{text-of}
+use Rattle.codegen_types.proofs.WrittenLaws.{text-of, refused-text}
 use Rattle.requests.specs.Requests.{Outcome, gives, refuses, outcome}
 use Rattle.requests.specs.Told.{Answered}
 use Rattle.requests.specs.Parts.{Locates}
@@ -58,6 +58,15 @@ module _ (l : Str) (t : Text) (within : t .at ≤ length l) where
       where
         count : t₂ .at ≡ min (t .at + length w) (2 ^ 64 - 1)
         count = ap (λ (u : Text). u .at) (written .state) ∙ end
+
+-- what is refused where it is measured is refused wherever it would be written
+pub refused-so : (o : Out Str) {l₀ : Str} {t₀ : Text} {l₁ : Str} {r : Written} {l : Str} {t : Text} {l′ : Str} {q : Written}
+    → Writes o l₀ t₀ l₁ r → (k : ℕ) → r .refusal ≡ Number k → refusalNumber (q .refusal) ≡ some k → Writes o l t l′ q
+refused-so o {l = l} {t = t} {l′ = l′} {q = q} w k e n = go o (rw e at (w .refusal))
+  where
+    go : (o : Out Str) → some k ≡ refusalOf o → Writes o l t l′ q
+    go (ok w) e = never cc
+    go (refused j) e = let z : j ≡ k = cc in rw z (refused-text n)
 
 -- a request that comes to o, measured from the start of l₀ on: its refusal, a text that is too long, or a text that fits
 module _

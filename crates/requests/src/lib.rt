@@ -10,6 +10,7 @@ use field::Field;
 use field::Group;
 use field::Slot;
 use nodes::Found;
+use terms::kinds;
 use terms::leaves;
 use terms::limits;
 use terms::refusals;
@@ -206,8 +207,8 @@ fn group_accessor(
     }
 }
 
-// An accessor of a field that was read, whose node's tag is at this offset: its text, or its refusal.
-pub fn write_accessor(
+// An accessor of a field, whose node's tag is at this offset: its text, or its refusal.
+fn field_accessor(
     root: &[u8],
     s: &[u8],
     index: &[u64],
@@ -226,6 +227,48 @@ pub fn write_accessor(
         Field::Group(group) => group_accessor(s, index, group, accessor, t, buf),
         Field::Nothing => codegen_types::refused(refusals::NOT_THERE, t),
     }
+}
+
+// Whether a field's type may have a brand.
+fn may_have_brand(field: Field) -> bool {
+    match field {
+        Field::Slot(slot) => {
+            let kind = slot.kind;
+            match kind {
+                kinds::LIST | kinds::STRUCT | kinds::INTERFACE => true,
+                _ => false,
+            }
+        }
+        _ => false,
+    }
+}
+
+// An accessor of a field that was read, whose node's tag is at this offset: its text, or its refusal. A brand is written outermost
+// node first, while the Rust meets the innermost one's refusal first: where there may be one, the text is measured before it is
+// written, so that what the Rust never comes to is not written either.
+pub fn write_accessor(
+    root: &[u8],
+    s: &[u8],
+    index: &[u64],
+    field: Field,
+    tag: u64,
+    accessor: Accessor,
+    t: Text,
+    buf: &mut [u8],
+) -> Written
+    ensures text { λ r. ⌜ AccessorWritten (now (s .entry)) (now (index .entry)) (now (root .entry)) tag field accessor
+        (now (buf .entry)) t (now (buf .exit)) r ⌝ }
+    ensures some { λ r. ⌜ WroteSome (now (buf .entry)) t (now (buf .exit)) (r .text) ⌝ }
+{
+    if may_have_brand(field) {
+        let mut empty = [0u8; 0];
+        let measured = field_accessor(root, s, index, field, tag, accessor, t, &mut empty);
+        let refusal = measured.refusal;
+        if let Refusal::Number(number) = refusal {
+            return codegen_types::refused(number, t);
+        }
+    }
+    field_accessor(root, s, index, field, tag, accessor, t, buf)
 }
 
 // The answer for a field that was found: its refusal, 22, or its text. What is written is written into the free part of the
@@ -247,7 +290,7 @@ fn answer_found(
     let root = row::text(s, 0);
     let start = Text::at(0);
     let mut empty = [0u8; 0];
-    let measured = write_accessor(root, s, index, field, tag, accessor, start, &mut empty);
+    let measured = field_accessor(root, s, index, field, tag, accessor, start, &mut empty);
     let refusal = measured.refusal;
     if let Refusal::Number(number) = refusal {
         return refused(number);
@@ -258,7 +301,7 @@ fn answer_found(
     if buf.len() - fill < n {
         return refused(refusals::NO_ROOM);
     }
-    write_accessor(
+    field_accessor(
         root,
         s,
         index,

@@ -55,7 +55,7 @@ use Rattle.type_string.specs.Told.{outward, onlyOf, ChainTold, OwnTold}
 use Rattle.type_string.specs.declared.Brand.{Brand}
 
 -- a refusal and none at once
-clash : {A : Type 0} {r : Option ℕ} {k : ℕ} → r ≡ none → r ≡ some k → A
+pub clash : {A : Type 0} {r : Option ℕ} {k : ℕ} → r ≡ none → r ≡ some k → A
 clash {A} {r} {k} e f = absurd (subst go (sym e ∙ f) tt)
   where
     go : Option ℕ → Type 0
@@ -73,12 +73,12 @@ module _ (sheet : Sheet) (leaf : Leaf) (left k a b c : ℕ) (rest : Rows) where
         (on-all {P = λ ty. Writes (listString (sheet .root) leaf k (typeString ty sheet (elementLeaf k))) l t l′ r}
         (λ ty. rw (eq-eqb k 12 z) w) (typeFrom (readType left) k a b c rest))
 
-    pub list-data : (k ≡ 12 → ⊥) → k ≡ 13 → Writes (ok (sheet .root ++ ascii "::data_list::" ++ display leaf)) l t l′ r
+    pub list-data : k ≡ 13 → Writes (ok (sheet .root ++ ascii "::data_list::" ++ display leaf)) l t l′ r
         → On (typeFrom (readType left) k a b c rest) (λ ty. Writes (typeString (list ty) sheet leaf) l t l′ r)
     unfolding listString
-    list-data y z w = list-of sheet leaf left k a b c rest (λ o. Writes o l t l′ r) (omega arith)
+    list-data z w = list-of sheet leaf left k a b c rest (λ o. Writes o l t l′ r) (omega arith)
         (on-all {P = λ ty. Writes (listString (sheet .root) leaf k (typeString ty sheet (elementLeaf k))) l t l′ r}
-        (λ ty. rw (ne-eqb k 12 y, eq-eqb k 13 z) w) (typeFrom (readType left) k a b c rest))
+        (λ ty. rw (ne-eqb k 12 (λ y. omega arith), eq-eqb k 13 z) w) (typeFrom (readType left) k a b c rest))
 
   pub list-inner : {l : List ℕ} {t : Text} {l₁ : List ℕ} {t₁ : Text} {l₂ : List ℕ} {w : Written} {l₃ : List ℕ} {t₃ : Text}
       {q : Written} (e : Leaf) → (k ≡ 12 → ⊥) → (k ≡ 13 → ⊥) → k < 18 → e ≡ elementLeaf k
@@ -98,7 +98,7 @@ module _ (sheet : Sheet) (leaf : Leaf) (left k a b c : ℕ) (rest : Rows) where
 
 -- ---- the chain of a node's parents
 
-abbrev argued : Arguments → Refusal → Argued
+abbrev pub argued : Arguments → Refusal → Argued
 argued p r = record { arguments = p; refusal = r }
 
 -- the nodes of a chain from the k-th on are written, and the refusal is the first of theirs, or the chain's own
@@ -121,7 +121,7 @@ module _ (root s index : List ℕ) (ns : List Node) (x : Indexed s ns index) (id
       go None = all-listed (listed-none l p) refl
       go (Number j) = not-listed refl
 
-  chain-end : (k : ℕ) (l : List ℕ) (p : Arguments) (l′ : List ℕ) (r : Argued) → k ≤ 0 → On G (Outer root s ns c k l p l′ r)
+  pub chain-end : (k : ℕ) (l : List ℕ) (p : Arguments) (l′ : List ℕ) (r : Argued) → k ≤ 0 → On G (Outer root s ns c k l p l′ r)
       → On G (λ ss. Lists (outward (accumulate (sheetOf root ns) (scopesOf ss (sheetOf root ns)) 16 id)) l p l′ r)
   chain-end k l p l′ r h v =
       on-one (Outer root s ns c k l p l′ r)

@@ -1,6 +1,7 @@
 -- What the writers of types and brands tell: the text or the refusal that `type_string` gives for whatever type is read at a
 -- position, in every sheet whose nodes the index has. Assumes nothing.
 use mathlib.Core.Path.{_≡_}
+use mathlib.Core.Bool.{Bool, true, false}
 use mathlib.Core.List.{List, [], _∷_}
 use mathlib.Core.Option.{Option}
 use Prim.Native.Nat.{ℕ}
@@ -18,6 +19,8 @@ use Rattle.codegen_types.specs.TypeString.{typeString, Scope, scopesOf, binding
 use Rattle.codegen_types.specs.TypeString.{outermostFirst}
 use Rattle.codegen_types.specs.Written.{Writes}
 use Rattle.codegen_types.specs.declared.Leaf.{Leaf}
+use Rattle.codegen_types.specs.declared.Refusal.{Refusal}
+use Rattle.codegen_types.specs.declared.Refusal.the-variants.{None, Number}
 use Rattle.codegen_types.specs.declared.Written.{Written}
 use Rattle.types.specs.Find.{ScopeAt}
 use Rattle.types.specs.declared.TypeRow.{TypeRow}
@@ -30,6 +33,11 @@ use Rattle.type_string.specs.declared.Own.{Own}
 -- the arguments of a chain of nodes, outermost first
 abbrev pub outward : Out (List (List Str)) → Out (List Str)
 outward o = o then λ accumulator. ok (outermostFirst accumulator)
+
+-- whether there is a refusal
+abbrev pub isRefused : Refusal → Bool
+isRefused None = false
+isRefused (Number k) = true
 
 -- the text of a single binding
 abbrev pub onlyOf : List (Out Str) → Out Str

@@ -11,7 +11,10 @@ use text::Text;
 use type_parts::Argued;
 use type_parts::Arguments;
 use types::TypeRow;
+ghost use mathlib.Core.Path.{_≡_};
+ghost use Prim.Native.Nat.{_-_, _<_};
 ghost use lib.ListN.{drop};
+ghost use Rattle.text.specs.Bytes.{both, cond};
 ghost use Rattle.text.specs.Text.{WroteSome};
 ghost use Rattle.row.specs.Rows.{rows};
 ghost use Rattle.tree.specs.Reader.{On};
@@ -20,6 +23,7 @@ ghost use Rattle.nodes.specs.Index.{ForAll};
 ghost use Rattle.codegen_types.specs.TypeString.{typeString};
 ghost use Rattle.codegen_types.specs.Written.{Writes};
 ghost use Rattle.type_string.specs.Told.{TypeTold, ListTold, BrandTold, ChainTold, OwnTold, BindsTold, BindTold};
+ghost use Rattle.type_string.specs.Told.{isRefused};
 
 // A brand: its node's id, and where its scopes begin and how many they are.
 struct Brand {
@@ -71,27 +75,33 @@ fn write_type(
     ensures some { λ r. ⌜ WroteSome (now (buf .entry)) t (now (buf .exit)) (r .text) ⌝ }
 {
     let kind = row.kind;
-    if kind < kinds::LIST {
-        return codegen_types::whole(type_parts::plain(root, kind, leaf, t, buf));
+    match kind {
+        kinds::VOID..=kinds::DATA => {
+            codegen_types::whole(type_parts::plain(root, kind, leaf, t, buf))
+        }
+        kinds::LIST => write_list(root, s, index, row.next, left, leaf, t, buf),
+        kinds::ENUM => type_parts::qualified_module(s, index, row.a, t, buf),
+        kinds::STRUCT..=kinds::INTERFACE => {
+            let brand = Brand {
+                id: row.a,
+                scopes: row.next,
+                count: row.b,
+            };
+            do_branding(root, s, index, brand, left, leaf, t, buf)
+        }
+        _ => {
+            if row.a == 0 {
+                return codegen_types::whole(type_parts::displayed(
+                    root,
+                    b"::any_pointer::",
+                    leaf,
+                    t,
+                    buf,
+                ));
+            }
+            type_parts::parameter(root, s, index, row.b, row.c, leaf, t, buf)
+        }
     }
-    if kind == kinds::LIST {
-        return write_list(root, s, index, row.next, left, leaf, t, buf);
-    }
-    if kind == kinds::ENUM {
-        return type_parts::qualified_module(s, index, row.a, t, buf);
-    }
-    if kind < kinds::ANY_POINTER {
-        let brand = Brand {
-            id: row.a,
-            scopes: row.next,
-            count: row.b,
-        };
-        return do_branding(root, s, index, brand, left, leaf, t, buf);
-    }
-    if row.a == 0 {
-        return codegen_types::whole(type_parts::displayed(root, b"::any_pointer::", leaf, t, buf));
-    }
-    type_parts::parameter(root, s, index, row.b, row.c, leaf, t, buf)
 }
 
 // The text of a list whose element's type is at a position: 6 where that is an AnyPointer.
@@ -114,22 +124,24 @@ fn write_list(
     }
     let row = types::type_row(s, at);
     let kind = row.kind;
-    if kind == kinds::TEXT {
-        return codegen_types::whole(type_parts::displayed(root, b"::text_list::", leaf, t, buf));
+    match kind {
+        kinds::TEXT => {
+            codegen_types::whole(type_parts::displayed(root, b"::text_list::", leaf, t, buf))
+        }
+        kinds::DATA => {
+            codegen_types::whole(type_parts::displayed(root, b"::data_list::", leaf, t, buf))
+        }
+        kinds::VOID..=kinds::INTERFACE => {
+            let t = type_parts::list_head(root, kind, leaf, t, buf);
+            let element = codegen_types::element_leaf(kind);
+            let w = write_type(root, s, index, row, left - 1, element, t, buf);
+            let t = w.text;
+            let refusal = w.refusal;
+            let t = t.byte(buf, b'>');
+            Written { text: t, refusal }
+        }
+        _ => codegen_types::refused(refusals::LIST_OF_ANY_POINTER, t),
     }
-    if kind == kinds::DATA {
-        return codegen_types::whole(type_parts::displayed(root, b"::data_list::", leaf, t, buf));
-    }
-    if kinds::ANY_POINTER <= kind {
-        return codegen_types::refused(refusals::LIST_OF_ANY_POINTER, t);
-    }
-    let t = type_parts::list_head(root, kind, leaf, t, buf);
-    let element = codegen_types::element_leaf(kind);
-    let w = write_type(root, s, index, row, left - 1, element, t, buf);
-    let t = w.text;
-    let refusal = w.refusal;
-    let t = t.byte(buf, b'>');
-    Written { text: t, refusal }
 }
 
 // The text of a node's type with a brand: its module, the leaf, and the arguments in angle brackets. A node that is not there is
@@ -157,8 +169,32 @@ fn do_branding(
     Written { text: t, refusal }
 }
 
+// The place in a chain of the node whose turn comes after so many others: the outermost node is written first, and where nothing
+// is written the innermost comes first.
+fn turn(inward: bool, done: usize, count: usize) -> usize
+    requires { ⌜ done < count ⌝ }
+    ensures is { λ r. ⌜ r ≡ cond inward done (count - 1 - done) ⌝ }
+    ensures within { λ r. ⌜ r < count ⌝ }
+{
+    if inward {
+        return done;
+    }
+    count - 1 - done
+}
+
+// Whether a refusal ends the walk over a chain: where the innermost node comes first.
+fn ends(inward: bool, met: Refusal) -> bool
+    ensures { λ r. ⌜ r ≡ both (isRefused met) inward ⌝ }
+{
+    match met {
+        Refusal::None => false,
+        Refusal::Number(_) => inward,
+    }
+}
+
 // The arguments of a node after those of its parents. The Rust meets the innermost node's refusal first, and the chain's own
-// last.
+// last. Over an empty buffer, where the order of texts does not show, the nodes are taken in the Rust's order, so that the first
+// refusal ends the walk.
 fn write_chain(
     root: &[u8],
     s: &[u8],
@@ -176,20 +212,28 @@ fn write_chain(
     let ids = chain.ids;
     let count = chain.count;
     let scopes = types::scopes(s, brand.scopes, brand.count, &ids[..count]);
-    let mut k = count;
+    let inward = buf.len() == 0;
+    let mut done: usize = 0;
     let mut p = first;
     let mut refusal = chain.refusal;
-    while 0 < k {
-        k -= 1;
+    while done < count {
+        let k = turn(inward, done, count);
         let own = Own {
             params: chain.params[k],
             count: chain.counts[k],
             scope: scopes[k],
         };
         let q = write_own(root, s, index, own, left, p, buf);
-        let inner = q.refusal;
+        let met = q.refusal;
         p = q.arguments;
-        refusal = codegen_types::first(inner, refusal);
+        refusal = codegen_types::first(met, refusal);
+        if ends(inward, met) {
+            return Argued {
+                arguments: p,
+                refusal,
+            };
+        }
+        done += 1;
     }
     Argued {
         arguments: p,

@@ -9,10 +9,12 @@ use here.Measures.{do-branding-at, write-binding-at, write-binds-at, write-chain
 use cycle.Proof.Calls.{do-branding-calls, write-binding-calls, write-binds-calls, write-chain-calls, write-list-calls}
 use cycle.Proof.Calls.{write-own-calls, write-type-calls}
 use here.Laws as law
-use here.Laws.{Writing}
-use mathlib.Core.Path.{_≡_, refl, sym}
+use here.ChainLaws as chain-law
+use here.ChainLaws.{Along}
+use mathlib.Core.Path.{_≡_, refl, sym, _∙_}
 use mathlib.Core.List.{List}
 use native.Mathlib.Omega.{arith}
+use borrow.Author.Tests.{eqb-true}
 use lib.ListN.{length, drop}
 use lib.Seq.{length-take-le}
 use Rattle.text.specs.Bytes.{Str}
@@ -178,13 +180,13 @@ write-binds-returns-3 t c =
 -- ---- write_chain
 
 abbrev write-chain-Inv-loop : write-chain-lts.InvT-loop
-write-chain-Inv-loop root s index left buf₀ chain count scopes k₀ p₀ refusal₀ buf k p refusal =
-    (k ≤ chain .count) × (chain .count ≤ 16) × (length (chain .params) ≡ 16) × (length (chain .counts) ≡ 16)
+write-chain-Inv-loop root s index left buf₀ chain count scopes inward done₀ p₀ refusal₀ buf done p refusal =
+    (done ≤ chain .count) × (chain .count ≤ 16) × (length (chain .params) ≡ 16) × (length (chain .counts) ≡ 16)
     × (length buf ≡ length buf₀) × WroteSome buf₀ (p₀ .text) buf (p .text)
-    × Writing root s index left buf₀ p₀ chain scopes buf p refusal k
+    × Along inward root s index left buf₀ p₀ chain scopes buf p refusal done
 
 abbrev write-chain-μ-loop : write-chain-lts.MeasureT-loop
-write-chain-μ-loop root s index left buf₀ chain count scopes k₀ p₀ refusal₀ buf k p refusal = k
+write-chain-μ-loop root s index left buf₀ chain count scopes inward done₀ p₀ refusal₀ buf done p refusal = chain .count - done
 
 write-chain-array-share-prefix-ids : (t : ℕ) → write-chain-lts.Need-array-share-prefix-ids (write-chain-calls t)
     (write-chain-at t) write-chain.Post write-chain-Inv-loop write-chain-μ-loop
@@ -203,13 +205,37 @@ write-chain-loop-holds : (t : ℕ) → write-chain-lts.Need-loop-holds (write-ch
     write-chain-Inv-loop write-chain-μ-loop
 write-chain-loop-holds t c =
     let at-chain = c .before .before .before in let at-args = at-chain .before .before .before .before .before in
-    let h = (at-chain .chain .ensures) (at-args .args .s .now) in
-    (omega arith, h .few, h .params-size, h .counts-size, refl, text-law.no-text, law.writing-start _ _ _ _ _ _ _ _)
+    let h = (at-chain .chain .ensures) (at-args .args .s .now) in (
+      omega arith,
+      h .few,
+      h .params-size,
+      h .counts-size,
+      refl,
+      text-law.no-text,
+      chain-law.along-start _ _ _ _ _ _ _ _ _ (λ e. eqb-true _ 0 e),
+    )
+
+write-chain-returns : (t : ℕ) → write-chain-lts.Need-returns (write-chain-calls t) (write-chain-at t) write-chain.Post
+    write-chain-Inv-loop write-chain-μ-loop
+write-chain-returns t c =
+    let at-ends = c .before in let at-first = at-ends .before in
+    let at-write-own = at-first .before .before .before .before in
+    let at-turn = at-write-own .before .before .before .before in let at-loop = at-turn .before .before in
+    let at-scopes = at-loop .before in let at-chain = at-scopes .before .before .before in
+    let at-args = at-chain .before .before .before .before .before in let i = at-loop .loop .inv in (
+      chain-law.along-stop _ _ _ _ _ _ _ _ _ _ _ _ _ (i .6) (at-turn .before .loop-test .taken) _ (at-turn .turn .ensures .0) _ _
+          (at-write-own .write-own .ensures .0) (at-write-own .write-own .ensures .1)
+          (sym (at-ends .ends .ensures) ∙ c .if1 .taken) _ (at-first .first .ensures)
+          (at-args .args .brand) ((at-chain .chain .ensures) (at-args .args .s .now)) (at-scopes .scopes .ensures),
+      (i .5) ⨟ (at-write-own .write-own .ensures .1),
+    )
 
 write-chain-loop-again : (t : ℕ) → write-chain-lts.Need-loop-again (write-chain-calls t) (write-chain-at t) write-chain.Post
     write-chain-Inv-loop write-chain-μ-loop
 write-chain-loop-again t c =
-    let at-write-own = c .before .before .before .before in let at-loop = at-write-own .before .before .before .before .before in
+    let at-ends = c .before in let at-first = at-ends .before in
+    let at-write-own = at-first .before .before .before .before in
+    let at-turn = at-write-own .before .before .before .before in let at-loop = at-turn .before .before in
     let i = at-loop .loop .inv in (
       omega arith,
       i .1,
@@ -217,16 +243,17 @@ write-chain-loop-again t c =
       i .3,
       omega arith,
       (i .5) ⨟ (at-write-own .write-own .ensures .1),
-      law.writing-next _ _ _ _ _ _ _ _ _ _ _ _ (i .6) (omega arith) (i .0) _ _ (at-write-own .write-own .ensures .0) _
-          (c .first .ensures),
+      chain-law.along-next _ _ _ _ _ _ _ _ _ _ _ _ _ (i .6) (at-turn .before .loop-test .taken) _ (at-turn .turn .ensures .0) _ _
+          (at-write-own .write-own .ensures .0) (at-write-own .write-own .ensures .1)
+          (sym (at-ends .ends .ensures) ∙ c .if1 .left) _ (at-first .first .ensures),
     )
 
-write-chain-returns : (t : ℕ) → write-chain-lts.Need-returns (write-chain-calls t) (write-chain-at t) write-chain.Post
+write-chain-returns-2 : (t : ℕ) → write-chain-lts.Need-returns-2 (write-chain-calls t) (write-chain-at t) write-chain.Post
     write-chain-Inv-loop write-chain-μ-loop
-write-chain-returns t c =
+write-chain-returns-2 t c =
     let at-loop = c .before in let at-scopes = at-loop .before in let at-chain = at-scopes .before .before .before in
     let at-args = at-chain .before .before .before .before .before in (
-      law.writing-end _ _ _ _ _ _ _ _ _ _ _ _ (at-loop .loop .inv .6) (c .loop-test .left) (at-args .args .brand)
+      chain-law.along-end _ _ _ _ _ _ _ _ _ _ _ _ _ (at-loop .loop .inv .6) (c .loop-test .left) (at-args .args .brand)
           ((at-chain .chain .ensures) (at-args .args .s .now)) (at-scopes .scopes .ensures),
       at-loop .loop .inv .5,
     )
@@ -240,49 +267,48 @@ write-list-returns t c =
 
 write-list-returns-2 : (t : ℕ) → write-list-lts.Need-returns-2 (write-list-calls t) (write-list-at t) write-list.Post
 write-list-returns-2 t c =
-    let at-displayed = c .before .before .before in let at-if2 = at-displayed .before .before .before in
-    let at-type-row = at-if2 .before in let at-if1 = at-type-row .before in
+    let at-displayed = c .before .before .before in let at-match = at-displayed .before .before .before in
+    let at-type-row = at-match .before in let at-if1 = at-type-row .before in
     let at-args = at-if1 .before .before .before .before .before in (
       λ ns x. read-law.type-row (at-args .args .s .now) _ _ _ _ (at-type-row .type-row .ensures) (at-if1 .if1 .left)
-          (law.list-text (sheetOf (at-args .args .root .now) ns) (at-args .args .leaf) _ _ _ _ _ _ (at-if2 .if2 .taken)
+          (law.list-text (sheetOf (at-args .args .root .now) ns) (at-args .args .leaf) _ _ _ _ _ _ (at-match .match .keys1)
           (written (at-displayed .displayed .ensures) (c .whole2 .ensures .0) (c .whole2 .ensures .1))),
       rw (c .whole2 .ensures .0) (some-text (at-displayed .displayed .ensures)),
     )
 
 write-list-returns-3 : (t : ℕ) → write-list-lts.Need-returns-3 (write-list-calls t) (write-list-at t) write-list.Post
 write-list-returns-3 t c =
-    let at-displayed2 = c .before .before .before in let at-if3 = at-displayed2 .before .before .before in
-    let at-if2 = at-if3 .before in let at-type-row = at-if2 .before in let at-if1 = at-type-row .before in
+    let at-displayed2 = c .before .before .before in let at-match = at-displayed2 .before .before .before in
+    let at-type-row = at-match .before in let at-if1 = at-type-row .before in
     let at-args = at-if1 .before .before .before .before .before in (
       λ ns x. read-law.type-row (at-args .args .s .now) _ _ _ _ (at-type-row .type-row .ensures) (at-if1 .if1 .left)
-          (law.list-data (sheetOf (at-args .args .root .now) ns) (at-args .args .leaf) _ _ _ _ _ _ (at-if2 .if2 .left)
-          (at-if3 .if3 .taken) (written (at-displayed2 .displayed2 .ensures) (c .whole3 .ensures .0) (c .whole3 .ensures .1))),
+          (law.list-data (sheetOf (at-args .args .root .now) ns) (at-args .args .leaf) _ _ _ _ _ _ (at-match .match .keys2)
+          (written (at-displayed2 .displayed2 .ensures) (c .whole3 .ensures .0) (c .whole3 .ensures .1))),
       rw (c .whole3 .ensures .0) (some-text (at-displayed2 .displayed2 .ensures)),
     )
 
 write-list-returns-4 : (t : ℕ) → write-list-lts.Need-returns-4 (write-list-calls t) (write-list-at t) write-list.Post
 write-list-returns-4 t c =
-    let at-if4 = c .before in let at-type-row = at-if4 .before .before .before in let at-if1 = at-type-row .before in
-    let at-args = at-if1 .before .before .before .before .before in (
+    let at-byte = c .before .before in let at-write-type = at-byte .before .before .before .before .before in
+    let at-element-leaf = at-write-type .before .before in let at-list-head = at-element-leaf .before .before .before in
+    let at-if2 = at-list-head .before .before in let at-match = at-if2 .before in let at-type-row = at-match .before in
+    let at-if1 = at-type-row .before in let at-args = at-if1 .before .before .before .before .before in (
       λ ns x. read-law.type-row (at-args .args .s .now) _ _ _ _ (at-type-row .type-row .ensures) (at-if1 .if1 .left)
-          (read-law.list-of-any (sheetOf (at-args .args .root .now) ns) (at-args .args .leaf) _ _ _ _ _ _
-          (λ (o : Out Str). Writes o (at-args .args .buf .now) (at-args .args .t) (at-args .args .buf .now) (c .refused .result))
-          (at-if4 .if4 .taken) (refused-text (c .refused .ensures .1))),
-      rw (c .refused .ensures .0) text-law.no-text,
+          (law.list-inner (sheetOf (at-args .args .root .now) ns) (at-args .args .leaf) _ _ _ _ _ _ _ (at-match .match .rest .0 .1)
+          (at-match .match .rest .1) (at-if2 .if2 .taken) (at-element-leaf .element-leaf .ensures)
+          (at-list-head .list-head .ensures) ((at-write-type .write-type .ensures .0) ns x) (at-byte .byte .ensures) refl refl),
+      some-text (at-list-head .list-head .ensures) ⨟ (at-write-type .write-type .ensures .1) ⨟ some-text (at-byte .byte .ensures),
     )
 
 write-list-returns-5 : (t : ℕ) → write-list-lts.Need-returns-5 (write-list-calls t) (write-list-at t) write-list.Post
 write-list-returns-5 t c =
-    let at-byte = c .before .before in let at-write-type = at-byte .before .before .before .before .before in
-    let at-element-leaf = at-write-type .before .before in let at-list-head = at-element-leaf .before .before .before in
-    let at-if4 = at-list-head .before .before in let at-if3 = at-if4 .before in let at-if2 = at-if3 .before in
-    let at-type-row = at-if2 .before in let at-if1 = at-type-row .before in
+    let at-if2 = c .before in let at-type-row = at-if2 .before .before in let at-if1 = at-type-row .before in
     let at-args = at-if1 .before .before .before .before .before in (
       λ ns x. read-law.type-row (at-args .args .s .now) _ _ _ _ (at-type-row .type-row .ensures) (at-if1 .if1 .left)
-          (law.list-inner (sheetOf (at-args .args .root .now) ns) (at-args .args .leaf) _ _ _ _ _ _ _ (at-if2 .if2 .left)
-          (at-if3 .if3 .left) (at-if4 .if4 .left) (at-element-leaf .element-leaf .ensures) (at-list-head .list-head .ensures)
-          ((at-write-type .write-type .ensures .0) ns x) (at-byte .byte .ensures) refl refl),
-      some-text (at-list-head .list-head .ensures) ⨟ (at-write-type .write-type .ensures .1) ⨟ some-text (at-byte .byte .ensures),
+          (read-law.list-of-any (sheetOf (at-args .args .root .now) ns) (at-args .args .leaf) _ _ _ _ _ _
+          (λ (o : Out Str). Writes o (at-args .args .buf .now) (at-args .args .t) (at-args .args .buf .now) (c .refused .result))
+          (at-if2 .if2 .left) (refused-text (c .refused .ensures .1))),
+      rw (c .refused .ensures .0) text-law.no-text,
     )
 
 -- ---- write_own
@@ -332,8 +358,42 @@ write-own-returns-4 t c =
 write-type-returns : (t : ℕ) → write-type-lts.Need-returns (write-type-calls t) (write-type-at t) write-type.Post
 unfolding typeString
 write-type-returns t c =
+    let at-displayed = c .before .before .before in let at-if3 = at-displayed .before .before .before in
+    let at-if2 = at-if3 .before .before in let at-args = at-if2 .before .before .before .before .before .before .before in (
+      λ ns x. read-law.type-any (sheetOf (at-args .args .root .now) ns) (at-args .args .leaf) _ _ _ _ _ _
+          (λ (o : Out Str). Writes o (at-args .args .buf .now) (at-args .args .t) (at-displayed .displayed .last .1 .1 .1 .1 .0)
+          (c .whole2 .result)) (at-if2 .if2 .left) (at-if3 .if3 .taken) (written (at-displayed .displayed .ensures)
+          (c .whole2 .ensures .0) (c .whole2 .ensures .1)),
+      rw (c .whole2 .ensures .0) (some-text (at-displayed .displayed .ensures)),
+    )
+
+write-type-returns-2 : (t : ℕ) → write-type-lts.Need-returns-2 (write-type-calls t) (write-type-at t) write-type.Post
+write-type-returns-2 t c =
+    let at-write-list = c .before .before in let at-match = at-write-list .before .before in
+    let at-args = at-match .before .before .before .before .before in (
+      λ ns x. read-law.type-list _ _ _ _ _ _ (λ ty. Writes (typeString ty (sheetOf (at-args .args .root .now) ns)
+          (at-args .args .leaf)) (at-args .args .buf .now) (at-args .args .t)
+          (at-write-list .write-list .last .1 .1 .1 .1 .1 .1 .1 .0) (at-write-list .write-list .result)) (at-match .match .keys1)
+          ((at-write-list .write-list .ensures .0) ns x),
+      at-write-list .write-list .ensures .1,
+    )
+
+write-type-returns-3 : (t : ℕ) → write-type-lts.Need-returns-3 (write-type-calls t) (write-type-at t) write-type.Post
+write-type-returns-3 t c =
+    let at-qualified-module = c .before .before in let at-match = at-qualified-module .before .before in
+    let at-args = at-match .before .before .before .before .before in (
+      λ ns x. read-law.type-enum (sheetOf (at-args .args .root .now) ns) (at-args .args .leaf) _ _ _ _ _ _
+          (λ (o : Out Str). Writes o (at-args .args .buf .now) (at-args .args .t)
+          (at-qualified-module .qualified-module .last .1 .1 .1 .1 .0) (at-qualified-module .qualified-module .result))
+          (at-match .match .keys2) ((at-qualified-module .qualified-module .ensures .0) (at-args .args .root .now) ns x),
+      at-qualified-module .qualified-module .ensures .1,
+    )
+
+write-type-returns-4 : (t : ℕ) → write-type-lts.Need-returns-4 (write-type-calls t) (write-type-at t) write-type.Post
+unfolding typeString
+write-type-returns-4 t c =
     let at-plain = c .before .before .before in let at-if1 = at-plain .before .before in
-    let at-args = at-if1 .before .before .before .before .before in (
+    let at-args = at-if1 .before .before .before .before .before .before in (
       λ ns x. read-law.type-plain _ _ _ _ _ _ (λ ty. Writes (typeString ty (sheetOf (at-args .args .root .now) ns)
           (at-args .args .leaf)) (at-args .args .buf .now) (at-args .args .t) (at-plain .plain .last .1 .1 .1 .1 .0)
           (c .whole .result)) (at-if1 .if1 .taken)
@@ -341,61 +401,26 @@ write-type-returns t c =
       rw (c .whole .ensures .0) (some-text (at-plain .plain .ensures)),
     )
 
-write-type-returns-2 : (t : ℕ) → write-type-lts.Need-returns-2 (write-type-calls t) (write-type-at t) write-type.Post
-write-type-returns-2 t c =
-    let at-write-list = c .before .before in let at-if2 = at-write-list .before .before in
-    let at-args = at-if2 .before .before .before .before .before .before in (
-      λ ns x. read-law.type-list _ _ _ _ _ _ (λ ty. Writes (typeString ty (sheetOf (at-args .args .root .now) ns)
-          (at-args .args .leaf)) (at-args .args .buf .now) (at-args .args .t)
-          (at-write-list .write-list .last .1 .1 .1 .1 .1 .1 .1 .0) (at-write-list .write-list .result)) (at-if2 .if2 .taken)
-          ((at-write-list .write-list .ensures .0) ns x),
-      at-write-list .write-list .ensures .1,
-    )
-
-write-type-returns-3 : (t : ℕ) → write-type-lts.Need-returns-3 (write-type-calls t) (write-type-at t) write-type.Post
-write-type-returns-3 t c =
-    let at-qualified-module = c .before .before in let at-if3 = at-qualified-module .before .before in
-    let at-args = at-if3 .before .before .before .before .before .before .before in (
-      λ ns x. read-law.type-enum (sheetOf (at-args .args .root .now) ns) (at-args .args .leaf) _ _ _ _ _ _
-          (λ (o : Out Str). Writes o (at-args .args .buf .now) (at-args .args .t)
-          (at-qualified-module .qualified-module .last .1 .1 .1 .1 .0) (at-qualified-module .qualified-module .result))
-          (at-if3 .if3 .taken) ((at-qualified-module .qualified-module .ensures .0) (at-args .args .root .now) ns x),
-      at-qualified-module .qualified-module .ensures .1,
-    )
-
-write-type-returns-4 : (t : ℕ) → write-type-lts.Need-returns-4 (write-type-calls t) (write-type-at t) write-type.Post
-write-type-returns-4 t c =
-    let at-do-branding = c .before .before in let at-if4 = at-do-branding .before .before in let at-if3 = at-if4 .before in
-    let at-if2 = at-if3 .before in let at-if1 = at-if2 .before in
-    let at-args = at-if1 .before .before .before .before .before in (
+write-type-returns-5 : (t : ℕ) → write-type-lts.Need-returns-5 (write-type-calls t) (write-type-at t) write-type.Post
+write-type-returns-5 t c =
+    let at-do-branding = c .before .before in let at-if2 = at-do-branding .before .before in let at-if1 = at-if2 .before in
+    let at-match = at-if1 .before in let at-args = at-match .before .before .before .before .before in (
       λ ns x. read-law.type-branded (sheetOf (at-args .args .root .now) ns) (at-args .args .leaf) _ _ _ _ _ _
           (λ (o : Out Str). Writes o (at-args .args .buf .now) (at-args .args .t)
           (at-do-branding .do-branding .last .1 .1 .1 .1 .1 .1 .1 .0) (at-do-branding .do-branding .result)) (at-if1 .if1 .left)
-          (at-if2 .if2 .left) (at-if3 .if3 .left) (at-if4 .if4 .taken) ((at-do-branding .do-branding .ensures .0) ns x),
+          (at-match .match .rest .0 .1) (at-match .match .rest .1) (at-if2 .if2 .taken)
+          ((at-do-branding .do-branding .ensures .0) ns x),
       at-do-branding .do-branding .ensures .1,
-    )
-
-write-type-returns-5 : (t : ℕ) → write-type-lts.Need-returns-5 (write-type-calls t) (write-type-at t) write-type.Post
-unfolding typeString
-write-type-returns-5 t c =
-    let at-displayed = c .before .before .before in let at-if5 = at-displayed .before .before .before in
-    let at-if4 = at-if5 .before .before in
-    let at-args = at-if4 .before .before .before .before .before .before .before .before in (
-      λ ns x. read-law.type-any (sheetOf (at-args .args .root .now) ns) (at-args .args .leaf) _ _ _ _ _ _
-          (λ (o : Out Str). Writes o (at-args .args .buf .now) (at-args .args .t) (at-displayed .displayed .last .1 .1 .1 .1 .0)
-          (c .whole2 .result)) (at-if4 .if4 .left) (at-if5 .if5 .taken) (written (at-displayed .displayed .ensures)
-          (c .whole2 .ensures .0) (c .whole2 .ensures .1)),
-      rw (c .whole2 .ensures .0) (some-text (at-displayed .displayed .ensures)),
     )
 
 write-type-returns-6 : (t : ℕ) → write-type-lts.Need-returns-6 (write-type-calls t) (write-type-at t) write-type.Post
 write-type-returns-6 t c =
-    let at-parameter = c .before .before in let at-if5 = at-parameter .before .before in let at-if4 = at-if5 .before .before in
-    let at-args = at-if4 .before .before .before .before .before .before .before .before in (
+    let at-parameter = c .before .before in let at-if3 = at-parameter .before .before in let at-if2 = at-if3 .before .before in
+    let at-args = at-if2 .before .before .before .before .before .before .before in (
       λ ns x. read-law.type-parameter (sheetOf (at-args .args .root .now) ns) (at-args .args .leaf) _ _ _ _ _ _
           (λ (o : Out Str). Writes o (at-args .args .buf .now) (at-args .args .t)
-          (at-parameter .parameter .last .1 .1 .1 .1 .1 .1 .1 .0) (at-parameter .parameter .result)) (at-if4 .if4 .left)
-          (at-if5 .if5 .left) ((at-parameter .parameter .ensures .0) ns x),
+          (at-parameter .parameter .last .1 .1 .1 .1 .1 .1 .1 .0) (at-parameter .parameter .result)) (at-if2 .if2 .left)
+          (at-if3 .if3 .left) ((at-parameter .parameter .ensures .0) ns x),
       at-parameter .parameter .ensures .1,
     )
 
@@ -467,7 +492,7 @@ pub +do-branding+write-binding+write-binds+write-chain+write-list+write-own+writ
     (write-chain-slice-aggregate-scopes t)
     (λ c κs. search needs)
     (write-chain-loop-holds t)
-    (λ c. search needs)
+    (λ c κs. search needs)
     (λ c. search needs)
     (λ c. search needs)
     (λ c. search needs)
@@ -476,10 +501,14 @@ pub +do-branding+write-binding+write-binds+write-chain+write-list+write-own+writ
     (λ c. search needs)
     (λ c κs. search needs)
     (λ c κs. search needs)
+    (λ c κs. search needs)
+    (λ c. search needs)
+    (write-chain-returns t)
+    (λ c. search needs)
     (λ c. search needs)
     (write-chain-loop-again t)
     (λ c. search needs)
-    (write-chain-returns t))
+    (write-chain-returns-2 t))
     (λ t. write-list-lts.spec (write-list-calls t)
     (write-list-at t)
     write-list.Post
@@ -490,20 +519,20 @@ pub +do-branding+write-binding+write-binds+write-chain+write-list+write-own+writ
     (λ c κs. search needs)
     (λ c κs. search needs)
     (λ c. search needs)
+    (λ c κs. search needs)
+    (λ c κs. search needs)
+    (λ c κs. search needs)
+    (λ c κs. search needs)
+    (λ c. search needs)
+    (λ c κs. search needs)
+    (λ c κs. search needs)
+    (λ c κs. search needs)
+    (λ c. search needs)
     (write-list-returns-2 t)
     (λ c. search needs)
-    (λ c κs. search needs)
-    (λ c κs. search needs)
-    (λ c. search needs)
     (write-list-returns-3 t)
-    (λ c κs. search needs)
+    (λ c. search needs)
     (write-list-returns-4 t)
-    (λ c κs. search needs)
-    (λ c κs. search needs)
-    (λ c. search needs)
-    (λ c κs. search needs)
-    (λ c κs. search needs)
-    (λ c. search needs)
     (write-list-returns-5 t))
     (λ t. write-own-lts.spec (write-own-calls t)
     (write-own-at t)
@@ -525,22 +554,22 @@ pub +do-branding+write-binding+write-binds+write-chain+write-list+write-own+writ
     write-type.Post
     (λ c κs. search needs)
     (λ c κs. search needs)
+    (λ c κs. search needs)
+    (λ c κs. search needs)
+    (λ c κs. search needs)
+    (λ c. search needs)
+    (λ c κs. search needs)
+    (λ c κs. search needs)
     (λ c. search needs)
     (write-type-returns t)
     (λ c κs. search needs)
     (λ c. search needs)
     (write-type-returns-2 t)
-    (λ c κs. search needs)
     (λ c. search needs)
     (write-type-returns-3 t)
-    (λ c κs. search needs)
     (λ c. search needs)
     (write-type-returns-4 t)
     (λ c. search needs)
-    (λ c κs. search needs)
-    (λ c κs. search needs)
-    (λ c. search needs)
     (write-type-returns-5 t)
-    (λ c κs. search needs)
     (λ c. search needs)
     (write-type-returns-6 t)

@@ -67,10 +67,14 @@ write-chain-calls t = (
   find.chain.Reads.Learnt,
   find.scopes.Reads.Asked,
   find.scopes.Reads.Learnt,
+  here.turn.Reads.Asked,
+  here.turn.Reads.Learnt,
   write-own-below t,
   write-own.Post,
   codegen-types.first.Reads.Asked,
   codegen-types.first.Reads.Learnt,
+  here.ends.Reads.Asked,
+  here.ends.Reads.Learnt,
 )
 
 abbrev pub write-list-calls : ℕ → write-list-lts.Claims
@@ -81,8 +85,6 @@ write-list-calls t = (
   find.type_row.Reads.Learnt,
   type-parts.displayed.Reads.Asked,
   type-parts.displayed.Reads.Learnt,
-  codegen-types.refused.Reads.Asked,
-  codegen-types.refused.Reads.Learnt,
   type-parts.list_head.Reads.Asked,
   type-parts.list_head.Reads.Learnt,
   codegen-types.element_leaf.Reads.Asked,
@@ -91,6 +93,8 @@ write-list-calls t = (
   write-type.Post,
   text.byte.Reads.Asked,
   text.byte.Reads.Learnt,
+  codegen-types.refused.Reads.Asked,
+  codegen-types.refused.Reads.Learnt,
 )
 
 abbrev pub write-own-calls : ℕ → write-own-lts.Claims
@@ -107,14 +111,14 @@ write-own-calls t = (
 
 abbrev pub write-type-calls : ℕ → write-type-lts.Claims
 write-type-calls t = (
-  type-parts.plain.Reads.Asked,
-  type-parts.plain.Reads.Learnt,
-  codegen-types.whole.Reads.Asked,
-  codegen-types.whole.Reads.Learnt,
   write-list-below t,
   write-list.Post,
   type-parts.qualified_module.Reads.Asked,
   type-parts.qualified_module.Reads.Learnt,
+  type-parts.plain.Reads.Asked,
+  type-parts.plain.Reads.Learnt,
+  codegen-types.whole.Reads.Asked,
+  codegen-types.whole.Reads.Learnt,
   do-branding-below t,
   do-branding.Post,
   type-parts.displayed.Reads.Asked,
