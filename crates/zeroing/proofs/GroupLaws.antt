@@ -40,6 +40,7 @@ use Rattle.zeroing.specs.Told.{Zeroes}
 use Rattle.zeroing.specs.declared.Lines.{Lines}
 use Rattle.zeroing.proofs.SlotLaws.{either-false, either-true, either-assoc, line-is, pointer-is, seenLine, seenArm}
 use Rattle.zeroing.proofs.SlotLaws.{addedLines}
+use Rattle.zeroing.proofs.LevelLaws.{back-node}
 
 infixl 50 _⊞_
 -- ---- lines after lines
@@ -115,6 +116,12 @@ void-is s e =
     go : (d : ℕ) (t : Bool) → eqb d 0 ≡ t → cond t option.none (some (zeroText d (s .offset))) ≡ option.none → eqb d 12 ≡ false
     go d true z e = rw (eqb-true d 0 z) refl
     go d false z e = never cc
+
+-- what was added without a refusal was given
+pub adds-ok : (o : Out Zeroing) (l : List ℕ) (p : Lines) (l₁ : List ℕ) (p₁ : Lines) → p₁ .refusal ≡ None → Adds o l p l₁ p₁
+    → (z : Zeroing) × (o ≡ ok z)
+adds-ok (ok z) l p l₁ p₁ n a = (z, refl)
+adds-ok (refused k) l p l₁ p₁ n a = let e : option.none ≡ some k = sym (ap refusalNumber n) ∙ a in never cc
 
 module _ (inner : ℕ → Out Zeroing) (seen : List Str) where
   fields-slot : (fs : List Field) (line : Option Str) (clear : Bool) → (line ≡ option.none → clear ≡ false)
@@ -274,6 +281,14 @@ module _ (s : Str) (sheet : Sheet) (index : List ℕ) (left id : ℕ) (more : le
 
     pub no-struct : (node .«is_struct» ≡ 1 → ⊥) → zeroFieldsOfGroup sheet left id ≡ refused 14
     no-struct h = group-there (λ o. o ≡ refused 14) (λ n w. rw (ne-eqb (n .isStruct) 1 (λ z. h (w .is-struct ∙ z))) refl)
+
+    pub group-refused : node .«is_struct» ≡ 1
+        → ((fs : List Field) → FieldsHere (rows (drop (node .fields) s)) fs → (seen : List Str)
+        → zeroFields (zeroFieldsOfGroup sheet (left - 1)) seen fs ≡ refused 4)
+        → zeroFieldsOfGroup sheet left id ≡ refused 4
+    group-refused h fields = group-there (λ o. o ≡ refused 4) (λ n w.
+        rw (eq-eqb (n .isStruct) 1 (sym (w .is-struct) ∙ h))
+        (back-node (zeroFieldsOfGroup sheet (left - 1)) n (fields (n .fields) (w .fields))))
 
     pub group-adds : node .«is_struct» ≡ 1
         → (l : List ℕ) (p : Lines) (l₁ : List ℕ) (p₁ : Lines) (l₂ : List ℕ) (p₂ : Lines)

@@ -3,5 +3,7 @@ pub mod SlotLaws
 pub mod FieldLaws
 pub mod TableLaws
 pub mod RepeatLaws
+pub mod LevelLaws
 pub mod GroupLaws
 pub mod TurnLaws
+pub mod PathLaws

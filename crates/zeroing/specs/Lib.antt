@@ -1,5 +1,6 @@
 pub mod Lines
 pub mod Table
 pub mod Added
+pub mod Path
 pub mod Told
 pub mod Examples

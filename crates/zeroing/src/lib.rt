@@ -24,6 +24,7 @@ ghost use Rattle.codegen.specs.Zeroing.{zeroFieldsOfGroup};
 ghost use Rattle.zeroing.specs.Lines.{lineType, zeroText, repeats, slotLines, tagLines};
 ghost use Rattle.zeroing.specs.Table.{tableSize, stops, tablePlace, Knows, Kept, withLine};
 ghost use Rattle.zeroing.specs.Added.{Added, AddedSlot, Adds};
+ghost use Rattle.zeroing.specs.Path.{Leads, innerLevels};
 ghost use Rattle.zeroing.specs.Told.{Zeroes};
 
 // How many lines of one group the table has room for. A sheet of 65,536 bytes has 300 slots at most.
@@ -277,19 +278,33 @@ fn refused(number: u64, p: Lines) -> Lines
     }
 }
 
-// The lines of the group with this id, with so many levels left, or the refusal that is met first. An inner group has a table
-// of its own: repeats are dropped inside one group only.
+// The levels left for an inner group: none for the one that the zeroing began with. That one leads to itself on every level, so
+// that it would be refused on the last.
+fn inner_levels(left: usize, id: u64, start: u64) -> usize
+    requires { ⌜ (left ≡ 0 → ⊥) ⌝ }
+    ensures { λ r. ⌜ r ≡ innerLevels left id start ⌝ }
+{
+    if id == start {
+        return 0;
+    }
+    left - 1
+}
+
+// The lines of the group with this id, with so many levels left, or the refusal that is met first. `start` is the group that the
+// zeroing began with. An inner group has a table of its own: repeats are dropped inside one group only.
 fn zero_fields_of_group(
     s: &[u8],
     index: &[u64],
-    id: u64,
     left: usize,
+    id: u64,
+    start: u64,
     before: Lines,
     buf: &mut [u8],
 ) -> Lines
     requires { ⌜ before .refusal ≡ Refusal.None ⌝ }
     ensures lines { λ r. ⌜ ((root : Str) → ForAll root (now (s .entry)) (now (index .entry)) (λ sheet.
-        Adds (zeroFieldsOfGroup sheet left id) (now (buf .entry)) before (now (buf .exit)) r)) ⌝ }
+        Leads sheet start left id
+        → Adds (zeroFieldsOfGroup sheet left id) (now (buf .entry)) before (now (buf .exit)) r)) ⌝ }
     ensures some { λ r. ⌜ WroteSome (now (buf .entry)) (before .text) (now (buf .exit)) (r .text) ⌝ }
 {
     if left == 0 {
@@ -317,7 +332,8 @@ fn zero_fields_of_group(
                 continue;
             }
             Field::Group(inner) => {
-                p = zero_fields_of_group(s, index, inner.id, left - 1, p, buf);
+                let levels = inner_levels(left, inner.id, start);
+                p = zero_fields_of_group(s, index, levels, inner.id, start, p, buf);
                 let refusal = p.refusal;
                 if let Refusal::Number(_) = refusal {
                     return p;
@@ -343,7 +359,7 @@ pub fn zeroing(s: &[u8], index: &[u64], id: u64, t: Text, buf: &mut [u8]) -> Zer
         any: false,
         refusal: Refusal::None,
     };
-    let p = zero_fields_of_group(s, index, id, 16, none, buf);
+    let p = zero_fields_of_group(s, index, 16, id, id, none, buf);
     let t = p.text;
     let refusal = p.refusal;
     if p.any {

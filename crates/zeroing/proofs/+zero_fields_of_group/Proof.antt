@@ -1,6 +1,7 @@
 -- `zeroing::zero_fields_of_group`, which calls itself, meets its contract: the levels left fall, and the rows left fall in its
 -- loop. Whatever the fields from here on add to the lines so far, all of them add to the start; the first refusal that is met
--- ends it. In any case each turn writes behind the one before. Assumes nothing.
+-- ends it. The group that the zeroing began with gives the same with no level left as with one less than here. In any case each
+-- turn writes behind the one before. Assumes nothing.
 use native.Mathlib.Omega.{arith}
 use Prim.Native.Nat.{_+_, _-_, _≤_, ℕ, _<_}
 use mathlib.Core.List.{List}
@@ -17,7 +18,9 @@ use Rattle.row.specs.Rows.{rows}
 use Rattle.text.specs.Bytes.{Str}
 use Rattle.text.specs.Text.{WroteSome}
 use Rattle.text.proofs.Laws.{some-text, no-text, _⨟_}
-use Rattle.zeroing.proofs.TurnLaws.{Going, going-first, going-end, going-slot, going-group, going-stop}
+use Rattle.zeroing.specs.Path.{Leads}
+use Rattle.zeroing.proofs.TurnLaws.{Going, going-first, going-end, going-slot, going-back, going-group, going-stop}
+use Rattle.zeroing.proofs.PathLaws.{levels-fall, inner-adds}
 use Rattle.zeroing.proofs.GroupLaws.{none-left, group-missing, no-struct, group-adds}
 use Rattle.zeroing.proofs.FieldLaws.{slot-fewer, group-fewer, count-fits, count-more}
 use Rattle.zeroing.proofs.zero_fields_of_group.Reads as zero-fields-of-group
@@ -28,11 +31,12 @@ use Rattle.nodes.proofs.find.Reads as find-reads
 use Rattle.zeroing.proofs.refused.Reads as refused-reads
 use Rattle.zeroing.proofs.tag_line.Reads as tag-line-reads
 use Rattle.zeroing.proofs.zero_slot.Reads as zero-slot-reads
+use Rattle.zeroing.proofs.inner_levels.Reads as inner-levels-reads
 use Rattle.zeroing.proofs.+zero_fields_of_group.{statement}
 use Rattle.zeroing.proofs.+zero_fields_of_group.Tie.{close}
 
 abbrev μ-zero-fields-of-group : Measures 3 zero-fields-of-group-kinds.ps ℕ
-μ-zero-fields-of-group κs a = a .1 .1 .1 .0
+μ-zero-fields-of-group κs a = a .1 .1 .0
 
 abbrev zero-fields-of-group-at : ℕ → In 3 zero-fields-of-group-kinds.ps
 zero-fields-of-group-at t =
@@ -62,28 +66,31 @@ zero-fields-of-group-calls t = (
   read-reads.Learnt,
   zero-slot-reads.Asked,
   zero-slot-reads.Learnt,
+  inner-levels-reads.Asked,
+  inner-levels-reads.Learnt,
   zero-fields-of-group-below t,
   zero-fields-of-group.Post,
 )
 
 abbrev zero-fields-of-group-Inv-loop : zero-fields-of-group-lts.InvT-loop
-zero-fields-of-group-Inv-loop s index id left buf₀ offsets₀ types₀ p₀ first at₀ count₀ buf offsets types p at count =
+zero-fields-of-group-Inv-loop s index left id start buf₀ offsets₀ types₀ p₀ first at₀ count₀ buf offsets types p at count =
     (length buf ≡ length buf₀) × (length offsets ≡ 307) × (length types ≡ 307) × (p .refusal ≡ None)
     × (count + length (rows (drop at s)) ≤ length (rows (drop first s)))
-    × ((root : Str) (ns : List Node) → Indexed s ns index → (tags offset : ℕ)
+    × ((root : Str) (ns : List Node) → Indexed s ns index → Leads (sheetOf root ns) start left id
+    → (tags offset : ℕ)
     → Going (zeroFieldsOfGroup (sheetOf root ns) (left - 1)) tags offset (rows (drop first s)) buf₀ p₀ (rows (drop at s)) count
     offsets types buf p)
     × WroteSome buf₀ (p₀ .text) buf (p .text)
 
 abbrev zero-fields-of-group-μ-loop : zero-fields-of-group-lts.MeasureT-loop
-zero-fields-of-group-μ-loop s index id left buf₀ offsets₀ types₀ p₀ first at₀ count₀ buf offsets types p at count =
+zero-fields-of-group-μ-loop s index left id start buf₀ offsets₀ types₀ p₀ first at₀ count₀ buf offsets types p at count =
     length (rows (drop at s))
 
 zero-fields-of-group-returns : (t : ℕ) → zero-fields-of-group-lts.Need-returns (zero-fields-of-group-calls t)
     (zero-fields-of-group-at t) zero-fields-of-group.Post zero-fields-of-group-Inv-loop zero-fields-of-group-μ-loop
 zero-fields-of-group-returns t c =
     let start = c .before .before .before .before .before in (
-      λ root ns x. rw (none-left (sheetOf root ns) (start .args .left) (start .args .id) (c .before .if1 .taken))
+      λ root ns x lead. rw (none-left (sheetOf root ns) (start .args .left) (start .args .id) (c .before .if1 .taken))
           (c .refused .ensures .1),
       rw (c .refused .ensures .0) no-text,
     )
@@ -94,7 +101,7 @@ zero-fields-of-group-returns-2 t c =
     let at-find = c .before .before .before in
     let at-if1 = at-find .before in
     let a = at-if1 .before .before .before .before .args in (
-      λ root ns x. rw (group-missing (a .s .now) (sheetOf root ns) (a .index .now) (a .left) (a .id) (at-if1 .if1 .left) _
+      λ root ns x lead. rw (group-missing (a .s .now) (sheetOf root ns) (a .index .now) (a .left) (a .id) (at-if1 .if1 .left) _
           (at-find .find .ensures) x (c .before .enum-told .given .1)) (c .refused2 .ensures .1),
       rw (c .refused2 .ensures .0) no-text,
     )
@@ -107,7 +114,7 @@ zero-fields-of-group-returns-3 t c =
     let at-find = at-node .before .before in
     let at-if1 = at-find .before in
     let a = at-if1 .before .before .before .before .args in (
-      λ root ns x. rw (no-struct (a .s .now) (sheetOf root ns) (a .index .now) (a .left) (a .id) (at-if1 .if1 .left) _
+      λ root ns x lead. rw (no-struct (a .s .now) (sheetOf root ns) (a .index .now) (a .left) (a .id) (at-if1 .if1 .left) _
           (at-find .find .ensures) x _ (at-node .node .given .1) (at-if2 .if2 .taken)) (c .refused3 .ensures .1),
       rw (c .refused3 .ensures .0) no-text,
     )
@@ -122,7 +129,7 @@ zero-fields-of-group-loop-holds t c =
       refl,
       at-tag-line .tag-line .ensures .refusal ∙ start .pre .1,
       omega arith,
-      λ root ns x tags offset. going-first _ tags offset _ 307 _ _,
+      λ root ns x lead tags offset. going-first _ tags offset _ 307 _ _,
       no-text,
     )
 
@@ -171,8 +178,8 @@ zero-fields-of-group-loop-again t c =
       omega (arith, c .before .before .types2 .given, at-loop .loop .inv .2),
       at-zero-slot .zero-slot .ensures .0 ∙ at-loop .loop .inv .3,
       count-more (a .s .now) first (at-loop .loop .count) _ _ (at-loop .loop .inv .4) fewer,
-      λ root ns x tags offset. going-slot _ _ _ _ _ _ _ _ _ _ _ _ (at-loop .loop .inv .5 root ns x tags offset) (a .s .now)
-          (at-read .read .result) (at-read .read .ensures .0) _ (at-f .f .given .1) _ _ _ _
+      λ root ns x lead tags offset. going-slot _ _ _ _ _ _ _ _ _ _ _ _ (at-loop .loop .inv .5 root ns x lead tags offset)
+          (a .s .now) (at-read .read .result) (at-read .read .ensures .0) _ (at-f .f .given .1) _ _ _ _
           (at-zero-slot .zero-slot .ensures .1 .0),
       at-loop .loop .inv .6 ⨟ at-zero-slot .zero-slot .ensures .1 .1,
     )
@@ -181,16 +188,19 @@ zero-fields-of-group-zero-fields-of-group-requires : (t : ℕ)
     → zero-fields-of-group-lts.Need-zero-fields-of-group-requires (zero-fields-of-group-calls t)
     (zero-fields-of-group-at t) zero-fields-of-group.Post zero-fields-of-group-Inv-loop zero-fields-of-group-μ-loop
 zero-fields-of-group-zero-fields-of-group-requires t c κs =
-    let at-loop = c .before .before .before .before .before in
+    let at-levels = c .before in
+    let at-loop = at-levels .before .before .before .before .before in
     let at-if1 = at-loop .before .before .before .before .before .before .before .before .before .before .before in
     let start = at-if1 .before .before .before .before in
-    (omega (arith, start .pre .0, at-if1 .if1 .left), at-loop .loop .inv .3)
+    let fall = levels-fall (start .args .left) _ (start .args .start) _ (at-levels .inner-levels .ensures) (at-if1 .if1 .left) in
+    (omega (arith, start .pre .0, fall), at-loop .loop .inv .3)
 
 zero-fields-of-group-returns-4 : (t : ℕ) → zero-fields-of-group-lts.Need-returns-4 (zero-fields-of-group-calls t)
     (zero-fields-of-group-at t) zero-fields-of-group.Post zero-fields-of-group-Inv-loop zero-fields-of-group-μ-loop
 zero-fields-of-group-returns-4 t c =
     let at-inner = c .before .before .before .before in
-    let at-f = at-inner .before .before .before in
+    let at-levels = at-inner .before .before in
+    let at-f = at-levels .before .before in
     let at-read = at-f .before .before in
     let at-loop = at-read .before in
     let at-tag-line = at-loop .before .before .before in
@@ -200,12 +210,17 @@ zero-fields-of-group-returns-4 t c =
     let at-find = at-node .before .before in
     let at-if1 = at-find .before in
     let a = at-if1 .before .before .before .before .args in (
-      λ root ns x. group-adds (a .s .now) (sheetOf root ns) (a .index .now) (a .left) (a .id) (at-if1 .if1 .left) _
+      λ root ns x lead. group-adds (a .s .now) (sheetOf root ns) (a .index .now) (a .left) (a .id) (at-if1 .if1 .left) _
           (at-find .find .ensures) x _ (at-node .node .given .1) (at-if2 .if2 .left) _ _ _ _ _ _
           (at-tag-line .tag-line .ensures)
-          (going-stop _ _ _ _ _ _ _ _ _ _ _ _ (at-loop .loop .inv .5 root ns x (node .«tag_count») (node .«tag_offset»))
+          (going-stop _ _ _ _ _ _ _ _ _ _ _ _ (at-loop .loop .inv .5 root ns x lead (node .«tag_count») (node .«tag_offset»))
           (a .s .now) (at-read .read .result) (at-read .read .ensures .0) _ (at-f .f2 .given .1) _ _
-          (at-inner .zero-fields-of-group .ensures .0 root ns x) _ (at-loop .loop .inv .3) (c .enum-told2 .given .1)),
+          (inner-adds (a .s .now) (sheetOf root ns) (a .index .now) (a .left) (a .id) (at-if1 .if1 .left) _
+          (at-find .find .ensures) x node (at-node .node .given .1) (at-if2 .if2 .left) (a .start) lead _
+          (going-back _ _ _ _ _ _ _ _ _ _ _ _ (at-loop .loop .inv .5 root ns x lead (node .«tag_count») (node .«tag_offset»))
+          (a .s .now) (at-read .read .result) (at-read .read .ensures .0) _ (at-f .f2 .given .1))
+          _ (at-levels .inner-levels .ensures) _ _ _ _ (at-inner .zero-fields-of-group .ensures .0 root ns x))
+          _ (at-loop .loop .inv .3) (c .enum-told2 .given .1)),
       some-text (at-tag-line .tag-line .ensures .text) ⨟ at-loop .loop .inv .6 ⨟ at-inner .zero-fields-of-group .ensures .1,
     )
 
@@ -213,7 +228,8 @@ zero-fields-of-group-add-count-2 : (t : ℕ) → zero-fields-of-group-lts.Need-a
     (zero-fields-of-group-at t) zero-fields-of-group.Post zero-fields-of-group-Inv-loop zero-fields-of-group-μ-loop
 zero-fields-of-group-add-count-2 t c =
     let at-inner = c .before .before .before .before in
-    let at-f = at-inner .before .before .before in
+    let at-levels = at-inner .before .before in
+    let at-f = at-levels .before .before in
     let at-read = at-f .before .before in
     let at-loop = at-read .before in
     let at-node = at-loop .before .before .before .before .before .before .before .before in
@@ -227,7 +243,8 @@ zero-fields-of-group-loop-less-2 : (t : ℕ) → zero-fields-of-group-lts.Need-l
     (zero-fields-of-group-at t) zero-fields-of-group.Post zero-fields-of-group-Inv-loop zero-fields-of-group-μ-loop
 zero-fields-of-group-loop-less-2 t c =
     let at-inner = c .before .before .before .before in
-    let at-f = at-inner .before .before .before in
+    let at-levels = at-inner .before .before in
+    let at-f = at-levels .before .before in
     let at-read = at-f .before .before in
     let at-loop = at-read .before in
     let at-node = at-loop .before .before .before .before .before .before .before .before in
@@ -241,22 +258,30 @@ zero-fields-of-group-loop-again-2 : (t : ℕ) → zero-fields-of-group-lts.Need-
     (zero-fields-of-group-at t) zero-fields-of-group.Post zero-fields-of-group-Inv-loop zero-fields-of-group-μ-loop
 zero-fields-of-group-loop-again-2 t c =
     let at-inner = c .before .before .before .before in
-    let at-f = at-inner .before .before .before in
+    let at-levels = at-inner .before .before in
+    let at-f = at-levels .before .before in
     let at-read = at-f .before .before in
     let at-loop = at-read .before in
-    let at-node = at-loop .before .before .before .before .before .before .before .before in
-    let start = at-node .before .before .before .before .before .before .before in
-    let a = start .args in
-    let first = at-node .node .given .0 .0 .fields in
+    let at-if2 = at-loop .before .before .before .before .before in
+    let at-node = at-if2 .before .before .before in
+    let node = at-node .node .given .0 .0 in
+    let at-find = at-node .before .before in
+    let at-if1 = at-find .before in
+    let a = at-if1 .before .before .before .before .args in
     let fewer = group-fewer (a .s .now) (at-loop .loop .at) _ (at-read .read .ensures .1) _ (at-f .f2 .given .1) in (
       omega (arith, c .before .before .before .buf3 .given),
       at-loop .loop .inv .1,
       at-loop .loop .inv .2,
       c .enum-told3 .given .1,
-      count-more (a .s .now) first (at-loop .loop .count) _ _ (at-loop .loop .inv .4) fewer,
-      λ root ns x tags offset. going-group _ _ _ _ _ _ _ _ _ _ _ _ (at-loop .loop .inv .5 root ns x tags offset) (a .s .now)
-          (at-read .read .result) (at-read .read .ensures .0) _ (at-f .f2 .given .1) _ _
-          (at-inner .zero-fields-of-group .ensures .0 root ns x) (c .enum-told3 .given .1),
+      count-more (a .s .now) (node .fields) (at-loop .loop .count) _ _ (at-loop .loop .inv .4) fewer,
+      λ root ns x lead tags offset. going-group _ _ _ _ _ _ _ _ _ _ _ _ (at-loop .loop .inv .5 root ns x lead tags offset)
+          (a .s .now) (at-read .read .result) (at-read .read .ensures .0) _ (at-f .f2 .given .1) _ _
+          (inner-adds (a .s .now) (sheetOf root ns) (a .index .now) (a .left) (a .id) (at-if1 .if1 .left) _
+          (at-find .find .ensures) x node (at-node .node .given .1) (at-if2 .if2 .left) (a .start) lead _
+          (going-back _ _ _ _ _ _ _ _ _ _ _ _ (at-loop .loop .inv .5 root ns x lead tags offset)
+          (a .s .now) (at-read .read .result) (at-read .read .ensures .0) _ (at-f .f2 .given .1))
+          _ (at-levels .inner-levels .ensures) _ _ _ _ (at-inner .zero-fields-of-group .ensures .0 root ns x))
+          (c .enum-told3 .given .1),
       at-loop .loop .inv .6 ⨟ at-inner .zero-fields-of-group .ensures .1,
     )
 
@@ -272,10 +297,10 @@ zero-fields-of-group-returns-5 t c =
     let at-find = at-node .before .before in
     let at-if1 = at-find .before in
     let a = at-if1 .before .before .before .before .args in (
-      λ root ns x. group-adds (a .s .now) (sheetOf root ns) (a .index .now) (a .left) (a .id) (at-if1 .if1 .left) _
+      λ root ns x lead. group-adds (a .s .now) (sheetOf root ns) (a .index .now) (a .left) (a .id) (at-if1 .if1 .left) _
           (at-find .find .ensures) x _ (at-node .node .given .1) (at-if2 .if2 .left) _ _ _ _ _ _
           (at-tag-line .tag-line .ensures)
-          (going-end _ _ _ _ _ _ _ _ _ _ _ _ (at-loop .loop .inv .5 root ns x (node .«tag_count») (node .«tag_offset»))
+          (going-end _ _ _ _ _ _ _ _ _ _ _ _ (at-loop .loop .inv .5 root ns x lead (node .«tag_count») (node .«tag_offset»))
           (a .s .now) (at-read .read .result) (at-read .read .ensures .0) (c .enum-told4 .given .1)),
       some-text (at-tag-line .tag-line .ensures .text) ⨟ at-loop .loop .inv .6,
     )
@@ -303,7 +328,7 @@ pub +zero-fields-of-group-spec : {M : Type 1} → statement M
     (zero-fields-of-group-loop-less t)
     (zero-fields-of-group-loop-again t)
     (λ c. search needs)
-    (λ c. search needs)
+    (λ c κs. search needs)
     (zero-fields-of-group-zero-fields-of-group-requires t)
     (λ c. search needs)
     (λ c. search needs)

@@ -4,6 +4,7 @@ use Rattle.text.proofs.Laws.{some-text, _⨟_}
 use Rattle.codegen.specs.Zeroing.{zeroFieldsOfGroup}
 use Rattle.nodes.specs.Index.{sheetOf}
 use Rattle.zeroing.proofs.GroupLaws.{text-some, text-none}
+use Rattle.zeroing.proofs.PathLaws.{leads-first}
 use Rattle.zeroing.proofs.zeroing.Statement.{statement}
 use Rattle.zeroing.proofs.zeroing.Tie as tie
 
@@ -12,7 +13,7 @@ returns c =
     let at-zero-fields-of-group = c .before .before .before .before in
     let start = at-zero-fields-of-group .before .before .before .before .before in (
       λ root ns x. text-some (zeroFieldsOfGroup (sheetOf root ns) 16 (start .args .id)) _ _ _ _
-          (at-zero-fields-of-group .zero-fields-of-group .ensures .0 root ns x) (c .if1 .taken),
+          (at-zero-fields-of-group .zero-fields-of-group .ensures .0 root ns x (leads-first _ _ _)) (c .if1 .taken),
       at-zero-fields-of-group .zero-fields-of-group .ensures .1,
     )
 
@@ -23,7 +24,7 @@ returns-2 c =
     let at-zero-fields-of-group = at-if1 .before .before .before .before in
     let start = at-zero-fields-of-group .before .before .before .before .before in (
       λ root ns x. text-none (zeroFieldsOfGroup (sheetOf root ns) 16 (start .args .id)) _ _ _ _
-          (at-zero-fields-of-group .zero-fields-of-group .ensures .0 root ns x) _ _ (at-if1 .if1 .left)
+          (at-zero-fields-of-group .zero-fields-of-group .ensures .0 root ns x (leads-first _ _ _)) _ _ (at-if1 .if1 .left)
           (at-no-lines .no-lines .ensures),
       at-zero-fields-of-group .zero-fields-of-group .ensures .1 ⨟ some-text (at-no-lines .no-lines .ensures),
     )
