@@ -1,67 +1,115 @@
 -- Laws of the table of a group's lines. A place that is found has the line or is free; one more line at its free place leaves
--- every other line where it was, so that a place which is free now was free before. By induction on the places left. Assumes
+-- every other line where it was, so that a place which is free now was free before. By induction on the places below. Assumes
 -- nothing.
 use mathlib.Core.Path.{_≡_, refl, sym, _∙_}
 use mathlib.Core.Bool.{Bool, true, false}
+use mathlib.Core.Logic.{_⊎_, inl, inr, ⊎-elim}
 use mathlib.Core.List.{List, []}
-use Prim.Native.Nat.{ℕ, zero, suc, _+_, _-_, _%_, _^_, _≤_, _<_}
+use Prim.Native.Nat.{ℕ, zero, suc, _+_, _-_, _^_, _≤_, _<_}
 use native.Mathlib.Numerals.{sub-one}
 use native.Mathlib.Omega.{arith}
 use native.Mathlib.Decide.{ℕ-discrete}
-use borrow.Author.Tests.{eqb-true, eq-eqb, ne-eqb}
-use lib.Dec.{eqb}
+use borrow.Author.Tests.{eqb-true, eq-eqb, lt-ltb, le-ltb}
+use lib.Dec.{eqb, ltb}
 use lib.ListN.{length, getD, set, replicate}
 use lib.Seq.{getD-set-same, getD-set-other}
-use Rattle.text.specs.Bytes.{cond, both}
+use Rattle.text.specs.Bytes.{cond, both, either}
 use Rattle.text.proofs.BytesLaws.{both-true}
 use Rattle.tree.specs.Tree.{Field}
 use Rattle.zeroing.specs.Lines.{repeats}
-use Rattle.zeroing.specs.Table.{tableSize, stops, placeFrom, ownPlace, tablePlace, Kept, withLine, Knows}
+use Rattle.zeroing.specs.Table.{tableSize, stops, placeBelow, ownPlace, tablePlace, Kept, withLine, Knows}
 use Rattle.zeroing.proofs.SlotLaws.{either-true}
 
 -- ---- a place
 
 module _ (xs ys : List ℕ) (c o : ℕ) where
   -- one turn of the search: q is the place that is found
-  module _ (i n q : ℕ) (found : placeFrom xs ys c o i n ≡ q) where
-    pub place-none : n ≤ 0 → tableSize ≡ q
-    unfolding placeFrom
-    place-none h = let e : n ≡ 0 = omega arith in rw e at found
+  module _ (i q : ℕ) (found : placeBelow xs ys c o tableSize i ≡ q) where
+    pub place-none : i ≤ 0 → tableSize ≡ q
+    unfolding placeBelow
+    place-none h = let e : i ≡ 0 = omega arith in rw e at found
 
-    module _ (more : 0 < n) (b : Bool) (is : b ≡ stops xs ys c o i) where
-      turn : placeFrom xs ys c o i n ≡ cond b i (placeFrom xs ys c o ((i + 1) % tableSize) (n - 1))
-      unfolding placeFrom
-      turn = rw is (go n more)
+    module _ (more : 0 < i) (b : Bool) (is : b ≡ stops xs ys c o (i - 1)) where
+      turn : placeBelow xs ys c o tableSize i ≡ cond b (i - 1) (placeBelow xs ys c o tableSize (i - 1))
+      unfolding placeBelow
+      turn = rw is (go i more)
         where
-          go : (n : ℕ) → 0 < n
-              → placeFrom xs ys c o i n ≡ cond (stops xs ys c o i) i (placeFrom xs ys c o ((i + 1) % tableSize) (n - 1))
+          go : (i : ℕ) → 0 < i
+              → placeBelow xs ys c o tableSize i
+              ≡ cond (stops xs ys c o (i - 1)) (i - 1) (placeBelow xs ys c o tableSize (i - 1))
           go zero h = let z : ⊥ = omega arith in absurd z
-          go (suc n) h = rw (sub-one (suc n)) refl
+          go (suc i) h = rw (sub-one (suc i)) refl
 
-      pub place-here : b ≡ true → i ≡ q
+      pub place-here : b ≡ true → i - 1 ≡ q
       place-here e = rw (turn, e) at found
 
-      pub place-on : b ≡ false → placeFrom xs ys c o ((i + 1) % tableSize) (n - 1) ≡ q
-      place-on e = rw (turn, e) at found
+      pub place-next : b ≡ false → placeBelow xs ys c o tableSize (i - 1) ≡ q
+      place-next e = rw (turn, e) at found
+
+  -- a search that goes on where there is none
+  place-or : (r i : ℕ) → i ≤ tableSize
+      → placeBelow xs ys c o r i
+      ≡ cond (ltb (placeBelow xs ys c o tableSize i) tableSize) (placeBelow xs ys c o tableSize i) r
+  unfolding placeBelow
+  place-or r zero h = refl
+  place-or r (suc i) h = go (stops xs ys c o i) (place-or r i (omega arith))
+    where
+      go : (t : Bool)
+          → placeBelow xs ys c o r i
+          ≡ cond (ltb (placeBelow xs ys c o tableSize i) tableSize) (placeBelow xs ys c o tableSize i) r
+          → cond t i (placeBelow xs ys c o r i)
+          ≡ cond (ltb (cond t i (placeBelow xs ys c o tableSize i)) tableSize) (cond t i (placeBelow xs ys c o tableSize i)) r
+      go true e = rw (lt-ltb i tableSize (omega arith)) refl
+      go false e = e
+
+  abbrev fromLast : ℕ
+  fromLast = placeBelow xs ys c o tableSize tableSize
+
+  -- the two searches of the code: the own place p, and what the first one finds
+  module _ (p q : ℕ) (own : p ≡ ownPlace c o) (less : p < tableSize) (is : q ≡ placeBelow xs ys c o tableSize (p + 1)) where
+    pub own-found : q < tableSize → q ≡ tablePlace xs ys c o
+    own-found h = rw (← own, place-or fromLast (p + 1) (omega arith), ← is, lt-ltb q tableSize h) refl
+
+    pub own-passed : (r : ℕ) → r ≡ fromLast → tableSize ≤ q → r ≡ tablePlace xs ys c o
+    own-passed r last h = rw (last, ← own, place-or fromLast (p + 1) (omega arith), ← is, le-ltb q tableSize h) refl
 
   -- a place that is found has the line or is free
-  place-stops : (i n : ℕ) → placeFrom xs ys c o i n < tableSize → stops xs ys c o (placeFrom xs ys c o i n) ≡ true
-  unfolding placeFrom
-  place-stops i zero h = let z : ⊥ = omega arith in absurd z
-  place-stops i (suc n) h =
-      go (stops xs ys c o i) refl (placeFrom xs ys c o ((i + 1) % tableSize) n) (place-stops ((i + 1) % tableSize) n) h
+  place-stops : (r i : ℕ) → (r < tableSize → stops xs ys c o r ≡ true) → placeBelow xs ys c o r i < tableSize
+      → stops xs ys c o (placeBelow xs ys c o r i) ≡ true
+  unfolding placeBelow
+  place-stops r zero g h = g h
+  place-stops r (suc i) g h = go (stops xs ys c o i) refl (placeBelow xs ys c o r i) (place-stops r i g) h
     where
       go : (t : Bool) → stops xs ys c o i ≡ t → (rest : ℕ) → (rest < tableSize → stops xs ys c o rest ≡ true)
           → cond t i rest < tableSize → stops xs ys c o (cond t i rest) ≡ true
       go true e rest f h = e
       go false e rest f h = f h
 
-  -- a place that is found and not free has the line
+  table-stops : tablePlace xs ys c o < tableSize → stops xs ys c o (tablePlace xs ys c o) ≡ true
+  table-stops =
+      place-stops fromLast (ownPlace c o + 1)
+      (place-stops tableSize tableSize (λ h. let z : ⊥ = omega arith in absurd z))
+
+  -- what a place that is found has: the line where it is not free, and offset 0 where it is
+  stops-either : (i : ℕ) → stops xs ys c o i ≡ true
+      → ((getD xs i 0 ≡ o) × (getD ys i 0 ≡ c)) ⊎ ((getD xs i 0 ≡ 0) × (getD ys i 0 ≡ 0))
+  stops-either i e = go (both (eqb (getD xs i 0) o) (eqb (getD ys i 0) c)) refl e
+    where
+      go : (t : Bool) → both (eqb (getD xs i 0) o) (eqb (getD ys i 0) c) ≡ t
+          → either t (both (eqb (getD xs i 0) 0) (eqb (getD ys i 0) 0)) ≡ true
+          → ((getD xs i 0 ≡ o) × (getD ys i 0 ≡ c)) ⊎ ((getD xs i 0 ≡ 0) × (getD ys i 0 ≡ 0))
+      go true h e =
+          let b = both-true (eqb (getD xs i 0) o) (eqb (getD ys i 0) c) h in
+          inl (eqb-true (getD xs i 0) o (b .0), eqb-true (getD ys i 0) c (b .1))
+      go false h e =
+          let b = both-true (eqb (getD xs i 0) 0) (eqb (getD ys i 0) 0) e in
+          inr (eqb-true (getD xs i 0) 0 (b .0), eqb-true (getD ys i 0) 0 (b .1))
+
   stops-held : (i : ℕ) → stops xs ys c o i ≡ true → (getD ys i 0 ≡ 0 → ⊥) → (getD ys i 0 ≡ c) × (getD xs i 0 ≡ o)
-  stops-held i e n =
-      let h : both (eqb (getD ys i 0) c) (eqb (getD xs i 0) o) ≡ true = rw (ne-eqb (getD ys i 0) 0 n) at e in
-      let b = both-true (eqb (getD ys i 0) c) (eqb (getD xs i 0) o) h in
-      (eqb-true (getD ys i 0) c (b .0), eqb-true (getD xs i 0) o (b .1))
+  stops-held i e n = ⊎-elim (λ w. (w .1, w .0)) (λ w. absurd (n (w .1))) (stops-either i e)
+
+  stops-free : (i : ℕ) → stops xs ys c o i ≡ true → (c ≡ 0 → ⊥) → getD ys i 0 ≡ 0 → getD xs i 0 ≡ 0
+  stops-free i e n z = ⊎-elim (λ w. absurd (n (sym (w .1) ∙ z))) (λ w. w .0) (stops-either i e)
 
 -- ---- one more line at a free place
 
@@ -70,19 +118,19 @@ abbrev Free : List ℕ → ℕ → Type 0
 Free ys i = (i < tableSize) × (getD ys i 0 ≡ 0)
 
 module _ (xs ys : List ℕ) (c o p : ℕ) (more : p < tableSize) (px : p < length xs) (py : p < length ys) (line : c ≡ 0 → ⊥)
-    (free : getD ys p 0 ≡ 0) where
+    (free : getD ys p 0 ≡ 0) (bare : getD xs p 0 ≡ 0) where
   -- the other places stay
   stops-other : (d q i : ℕ) → (i ≡ p → ⊥) → stops (set xs p o) (set ys p c) d q i ≡ stops xs ys d q i
   stops-other d q i n = rw (getD-set-other xs p i o 0 n, getD-set-other ys p i c 0 n) refl
 
   -- the place of a line that is free now was free before
-  free-before : (d q i n : ℕ) → Free (set ys p c) (placeFrom (set xs p o) (set ys p c) d q i n)
-      → Free ys (placeFrom xs ys d q i n)
-  unfolding placeFrom
-  free-before d q i zero h = let z = h .0 in let y : ⊥ = omega arith in absurd y
-  free-before d q i (suc n) h =
-      go (ℕ-discrete i p) (placeFrom (set xs p o) (set ys p c) d q ((i + 1) % tableSize) n)
-      (placeFrom xs ys d q ((i + 1) % tableSize) n) (free-before d q ((i + 1) % tableSize) n) h
+  free-below : (d q s′ s i : ℕ) → (Free (set ys p c) s′ → Free ys s)
+      → Free (set ys p c) (placeBelow (set xs p o) (set ys p c) d q s′ i) → Free ys (placeBelow xs ys d q s i)
+  unfolding placeBelow
+  free-below d q s′ s zero g h = g h
+  free-below d q s′ s (suc i) g h =
+      go (ℕ-discrete i p) (placeBelow (set xs p o) (set ys p c) d q s′ i) (placeBelow xs ys d q s i)
+      (free-below d q s′ s i g) h
     where
       by-stop : (i ≡ p → ⊥) → (r′ r : ℕ) → (Free (set ys p c) r′ → Free ys r) → (t : Bool)
           → Free (set ys p c) (cond t i r′) → Free ys (cond t i r)
@@ -91,16 +139,21 @@ module _ (xs ys : List ℕ) (c o p : ℕ) (more : p < tableSize) (px : p < lengt
 
       go : Dec (i ≡ p) → (r′ r : ℕ) → (Free (set ys p c) r′ → Free ys r)
           → Free (set ys p c) (cond (stops (set xs p o) (set ys p c) d q i) i r′) → Free ys (cond (stops xs ys d q i) i r)
-      go (yes e) r′ r ih h = rw (e, free) (more, free)
+      go (yes e) r′ r ih h = rw (e, free, bare, either-true (both (eqb 0 q) (eqb 0 d))) (more, free)
       go (no n) r′ r ih h = by-stop n r′ r ih (stops xs ys d q i) (rw (stops-other d q i n) at h)
 
+  free-before : (d q : ℕ) → Free (set ys p c) (tablePlace (set xs p o) (set ys p c) d q) → Free ys (tablePlace xs ys d q)
+  free-before d q =
+      free-below d q (fromLast (set xs p o) (set ys p c) d q) (fromLast xs ys d q) (ownPlace d q + 1)
+      (free-below d q tableSize tableSize tableSize (λ h. let z = h .0 in let y : ⊥ = omega arith in absurd y))
+
   -- and the line has its place
-  place-kept : (i n : ℕ) → placeFrom xs ys c o i n ≡ p → placeFrom (set xs p o) (set ys p c) c o i n ≡ p
-  unfolding placeFrom
-  place-kept i zero e = let z : ⊥ = omega arith in absurd z
-  place-kept i (suc n) e =
-      go (ℕ-discrete i p) (placeFrom (set xs p o) (set ys p c) c o ((i + 1) % tableSize) n)
-      (placeFrom xs ys c o ((i + 1) % tableSize) n) (place-kept ((i + 1) % tableSize) n) e
+  kept-below : (s′ s i : ℕ) → (s ≡ p → s′ ≡ p) → placeBelow xs ys c o s i ≡ p
+      → placeBelow (set xs p o) (set ys p c) c o s′ i ≡ p
+  unfolding placeBelow
+  kept-below s′ s zero g e = g e
+  kept-below s′ s (suc i) g e =
+      go (ℕ-discrete i p) (placeBelow (set xs p o) (set ys p c) c o s′ i) (placeBelow xs ys c o s i) (kept-below s′ s i g) e
     where
       by-stop : (i ≡ p → ⊥) → (r′ r : ℕ) → (r ≡ p → r′ ≡ p) → (t : Bool) → cond t i r ≡ p → cond t i r′ ≡ p
       by-stop n r′ r ih true e = e
@@ -109,8 +162,13 @@ module _ (xs ys : List ℕ) (c o p : ℕ) (more : p < tableSize) (px : p < lengt
       go : Dec (i ≡ p) → (r′ r : ℕ) → (r ≡ p → r′ ≡ p) → cond (stops xs ys c o i) i r ≡ p
           → cond (stops (set xs p o) (set ys p c) c o i) i r′ ≡ p
       go (yes x) r′ r ih e =
-          rw (x, getD-set-same xs p o 0 px, getD-set-same ys p c 0 py, eq-eqb c c refl, eq-eqb o o refl, ne-eqb c 0 line) refl
+          rw (x, getD-set-same xs p o 0 px, getD-set-same ys p c 0 py, eq-eqb c c refl, eq-eqb o o refl) refl
       go (no n) r′ r ih e = rw (stops-other c o i n) (by-stop n r′ r ih (stops xs ys c o i) e)
+
+  place-kept : tablePlace xs ys c o ≡ p → tablePlace (set xs p o) (set ys p c) c o ≡ p
+  place-kept =
+      kept-below (fromLast (set xs p o) (set ys p c) c o) (fromLast xs ys c o) (ownPlace c o + 1)
+      (kept-below tableSize tableSize tableSize (λ e. e))
 
 -- ---- the lines that are kept
 
@@ -156,9 +214,12 @@ module _ (xs ys : List ℕ) (fs : List Field) (k : Kept xs ys (λ c o. repeats c
     kept-full h = kept-on (λ d q n w p x y. let z : tablePlace xs ys c o < tableSize = rw (x, y) (p .0) in omega arith)
 
     module _ (p : ℕ) (at : p ≡ tablePlace xs ys c o) (more : p < tableSize) where
+      stopped : stops xs ys c o p ≡ true
+      stopped = rw (← at) at (table-stops xs ys c o (rw at at more))
+
       pub knows-again : (getD ys p 0 ≡ 0 → ⊥) → Knows c o fs true xs ys
       knows-again n =
-          let h = stops-held xs ys c o p (rw (← at) at (place-stops xs ys c o (ownPlace c o) tableSize (rw at at more))) n in
+          let h = stops-held xs ys c o p stopped n in
           record {
             again = sym (rw (h .0, h .1) at (k .held p n));
             kept = kept-on (λ d q z w f x y. n (rw (at, x, y) (f .1)));
@@ -174,6 +235,9 @@ module _ (xs ys : List ℕ) (fs : List Field) (k : Kept xs ys (λ c o. repeats c
         };
       }
         where
+          bare : getD xs p 0 ≡ 0
+          bare = stops-free xs ys c o p stopped line e
+
           held : (i : ℕ) → (getD (set ys p c) i 0 ≡ 0 → ⊥) → Dec (i ≡ p)
               → withLine c o fs (getD (set ys p c) i 0) (getD (set xs p o) i 0) ≡ true
           held i n (yes x) =
@@ -186,12 +250,12 @@ module _ (xs ys : List ℕ) (fs : List Field) (k : Kept xs ys (λ c o. repeats c
           other : (d q : ℕ) → (d ≡ 0 → ⊥) → q < 2 ^ 32
               → Free (set ys p c) (tablePlace (set xs p o) (set ys p c) d q) → (o ≡ q → c ≡ d → ⊥) → withLine c o fs d q ≡ false
           other d q z y f n =
-              let b = free-before xs ys c o p more px py line e d q (ownPlace d q) tableSize f in
+              let b = free-before xs ys c o p more px py line e bare d q f in
               rw (k .free d q z y (b .0) (b .1)) (apart o q c d n)
 
           own : (d q : ℕ) → Free (set ys p c) (tablePlace (set xs p o) (set ys p c) d q) → o ≡ q → c ≡ d → ⊥
           own d q f x y =
-              let b = place-kept xs ys c o p more px py line e (ownPlace c o) tableSize (sym at) in
+              let b = place-kept xs ys c o p more px py line e bare (sym at) in
               let g : getD (set ys p c) p 0 ≡ 0 = rw (← x, ← y, b) at (f .1) in
               line (sym (getD-set-same ys p c 0 py) ∙ g)
 

@@ -1,5 +1,5 @@
 -- The table of a group's lines so far, by type and offset: two lists of 307 places, of which one with type 0 is free. A line is
--- sought from its own place on, up to a place that has it or is free. Assumes nothing.
+-- sought from its own place down, and then from the last, up to a place that has it or is free. Assumes nothing.
 use mathlib.Core.Path.{_≡_}
 use mathlib.Core.Bool.{Bool, true, false}
 use mathlib.Core.List.{List}
@@ -14,24 +14,29 @@ use Rattle.zeroing.specs.Lines.{repeats}
 abbrev pub tableSize : ℕ
 tableSize = 307
 
--- whether a place is free or has the line of a type at an offset
-abbrev pub stops : List ℕ → List ℕ → ℕ → ℕ → ℕ → Bool
-stops offsets types type offset i =
-    either (eqb (getD types i 0) 0) (both (eqb (getD types i 0) type) (eqb (getD offsets i 0) offset))
+-- whether a place has a type and an offset
+abbrev pub hasBoth : List ℕ → List ℕ → ℕ → ℕ → ℕ → Bool
+hasBoth offsets types type offset i = both (eqb (getD offsets i 0) offset) (eqb (getD types i 0) type)
 
--- the first such place of so many from one on, after the last of which the first follows; the size where there is none
-unfoldable pub placeFrom : List ℕ → List ℕ → ℕ → ℕ → ℕ → ℕ → ℕ
-placeFrom offsets types type offset i zero = tableSize
-placeFrom offsets types type offset i (suc left) =
-    cond (stops offsets types type offset i) i (placeFrom offsets types type offset ((i + 1) % tableSize) left)
+-- whether a place has the line of a type at an offset, or is free, where both are 0
+abbrev pub stops : List ℕ → List ℕ → ℕ → ℕ → ℕ → Bool
+stops offsets types type offset i = either (hasBoth offsets types type offset i) (hasBoth offsets types 0 0 i)
+
+-- the last such place below one; `none` where there is none
+unfoldable pub placeBelow : List ℕ → List ℕ → ℕ → ℕ → ℕ → ℕ → ℕ
+placeBelow offsets types type offset none zero = none
+placeBelow offsets types type offset none (suc i) =
+    cond (stops offsets types type offset i) i (placeBelow offsets types type offset none i)
 
 -- a line's own place: the lines of one type at offsets in a row stand 13 apart, and those of the twelve types beside each other
 abbrev pub ownPlace : ℕ → ℕ → ℕ
 ownPlace type offset = (offset % 65536 * 13 + type) % tableSize
 
--- the place where a line stands, or may be put
+-- the place where a line stands, or may be put: from its own place down, and from the last where there is none; the size where
+-- there is none at all
 abbrev pub tablePlace : List ℕ → List ℕ → ℕ → ℕ → ℕ
-tablePlace offsets types type offset = placeFrom offsets types type offset (ownPlace type offset) tableSize
+tablePlace offsets types type offset =
+    placeBelow offsets types type offset (placeBelow offsets types type offset tableSize tableSize) (ownPlace type offset + 1)
 
 -- the table keeps the lines that some fields have: what it has is one of them, and a line whose place is free is none of them
 pub record Kept (offsets types : List ℕ) (has : ℕ → ℕ → Bool) : Type 0 where

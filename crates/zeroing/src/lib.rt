@@ -10,7 +10,7 @@ ghost use mathlib.Core.Path.{_≡_};
 ghost use mathlib.Core.Bool.{false};
 ghost use mathlib.Core.List.{List};
 ghost use mathlib.Core.Option.{some};
-ghost use Prim.Native.Nat.{_<_};
+ghost use Prim.Native.Nat.{_<_, _≤_};
 ghost use lib.Dec.{eqb};
 ghost use lib.ListN.{length, drop, take};
 ghost use Rattle.text.specs.Bytes.{Str, both, either};
@@ -22,7 +22,7 @@ ghost use Rattle.nodes.specs.Index.{ForAll};
 ghost use Rattle.codegen_types.specs.Written.{refusalNumber};
 ghost use Rattle.codegen.specs.Zeroing.{zeroFieldsOfGroup};
 ghost use Rattle.zeroing.specs.Lines.{lineType, zeroText, repeats, slotLines, tagLines};
-ghost use Rattle.zeroing.specs.Table.{tableSize, stops, tablePlace, Knows, Kept, withLine};
+ghost use Rattle.zeroing.specs.Table.{tableSize, hasBoth, stops, placeBelow, tablePlace, Knows, Kept, withLine};
 ghost use Rattle.zeroing.specs.Added.{Added, AddedSlot, Adds};
 ghost use Rattle.zeroing.specs.Path.{Leads, innerLevels};
 ghost use Rattle.zeroing.specs.Told.{Zeroes};
@@ -107,36 +107,56 @@ fn is_repeat(s: &[u8], first: usize, count: usize, typ: u8, offset: u64) -> bool
     false
 }
 
-// Whether a place of the table is free, or has the line of a type at an offset.
-fn is_stop(offsets: &[u32], types: &[u8], i: usize, typ: u8, offset: u64) -> bool
+// Whether a place of the table has a type and an offset. Most places are passed over by their offset alone.
+fn has_both(offsets: &[u32], types: &[u8], i: usize, typ: u8, offset: u32) -> bool
     requires { ⌜ (i < length (now offsets)) × (i < length (now types)) ⌝ }
-    ensures { λ r. ⌜ r ≡ stops (now (offsets .entry)) (now (types .entry)) typ offset i ⌝ }
+    ensures { λ r. ⌜ r ≡ hasBoth (now (offsets .entry)) (now (types .entry)) typ offset i ⌝ }
 {
-    if types[i] == 0 {
-        return true;
-    }
-    if types[i] == typ {
-        return offsets[i] as u64 == offset;
+    if offsets[i] == offset {
+        return types[i] == typ;
     }
     false
 }
 
-// The place of the line of a type at an offset in the table: the first one, from the line's own on, that has the line or is
-// free. The table's size where there is none.
-fn place(offsets: &[u32], types: &[u8], typ: u8, offset: u64) -> usize
-    requires { ⌜ (length (now offsets) ≡ tableSize) × (length (now types) ≡ tableSize) ⌝ }
-    ensures { λ r. ⌜ r ≡ tablePlace (now (offsets .entry)) (now (types .entry)) typ offset ⌝ }
+// Whether a place of the table has the line of a type at an offset, or is free.
+fn is_stop(offsets: &[u32], types: &[u8], i: usize, typ: u8, offset: u32) -> bool
+    requires { ⌜ (i < length (now offsets)) × (i < length (now types)) ⌝ }
+    ensures { λ r. ⌜ r ≡ stops (now (offsets .entry)) (now (types .entry)) typ offset i ⌝ }
 {
-    let mut i = ((offset % 65536) as usize * 13 + typ as usize) % SIZE;
-    let mut left = SIZE;
-    while 0 < left {
+    if has_both(offsets, types, i, typ, offset) {
+        return true;
+    }
+    has_both(offsets, types, i, 0, 0)
+}
+
+// The last place of the table, below one, that is free or has the line of a type at an offset. The table's size where there is
+// none.
+fn place_below(offsets: &[u32], types: &[u8], end: usize, typ: u8, offset: u32) -> usize
+    requires { ⌜ (length (now offsets) ≡ tableSize) × (length (now types) ≡ tableSize) × (end ≤ tableSize) ⌝ }
+    ensures { λ r. ⌜ r ≡ placeBelow (now (offsets .entry)) (now (types .entry)) typ offset tableSize end ⌝ }
+{
+    let mut i = end;
+    while 0 < i {
+        i -= 1;
         if is_stop(offsets, types, i, typ, offset) {
             return i;
         }
-        i = (i + 1) % SIZE;
-        left -= 1;
     }
     SIZE
+}
+
+// The place of the line of a type at an offset in the table: the first one, from the line's own down, that has the line or is
+// free; where there is none, the last of all. The table's size where there is none at all.
+fn place(offsets: &[u32], types: &[u8], typ: u8, offset: u32) -> usize
+    requires { ⌜ (length (now offsets) ≡ tableSize) × (length (now types) ≡ tableSize) ⌝ }
+    ensures { λ r. ⌜ r ≡ tablePlace (now (offsets .entry)) (now (types .entry)) typ offset ⌝ }
+{
+    let own = ((offset % 65536) as usize * 13 + typ as usize) % SIZE;
+    let i = place_below(offsets, types, own + 1, typ, offset);
+    if i < SIZE {
+        return i;
+    }
+    place_below(offsets, types, SIZE, typ, offset)
 }
 
 // Whether a group has the line of a type at an offset already, after `count` fields, the first of them at `first`. If not, the
@@ -158,7 +178,8 @@ fn is_known(
     if 0xffff_ffff < offset {
         return is_repeat(s, first, count, typ, offset);
     }
-    let i = place(offsets, types, typ, offset);
+    let narrow = offset as u32;
+    let i = place(offsets, types, typ, narrow);
     if SIZE <= i {
         return is_repeat(s, first, count, typ, offset);
     }
@@ -166,7 +187,7 @@ fn is_known(
         return true;
     }
     types[i] = typ;
-    offsets[i] = offset as u32;
+    offsets[i] = narrow;
     false
 }
 

@@ -50,6 +50,7 @@ is-known-spec =
     (tie.spec
     (λ c κs. search needs)
     returns
+    (λ c. search needs)
     (λ c κs. search needs)
     (λ c κs. search needs)
     (λ c. search needs)
@@ -59,7 +60,6 @@ is-known-spec =
     (λ c. search needs)
     (λ c. search needs)
     returns-3
-    (λ c. search needs)
     (λ c. search needs)
     (λ c. search needs)
     (λ c. search needs)
