@@ -82,7 +82,7 @@ uint64_t kitlubas_admit(const uint8_t *s, size_t s_len, size_t *line);
 uint64_t kitlubas_answer(const uint8_t *s, size_t s_len, uint64_t id, uint64_t place, uint64_t request, uint64_t leaf,
                          size_t *fill, size_t *line, uint8_t *buf, size_t buf_len);
 
-/* How many numbers the index of a sheet of so many bytes needs, which is never more than 1,025. */
+/* How many numbers the index of a sheet of so many bytes needs, which is never more than 1,793. */
 size_t kitlubas_index_size(size_t size);
 
 /*

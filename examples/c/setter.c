@@ -11,7 +11,7 @@
 
 /* One byte more than a sheet may have, so that a longer one is seen to be. */
 static uint8_t sheet[65537];
-static uint64_t sheet_index[1025];
+static uint64_t sheet_index[1793];
 
 static int refused(const char *what, uint64_t number, size_t line)
 {

@@ -18,7 +18,7 @@ use Rattle.tree.specs.Read.{among}
 use Rattle.tree.specs.Tree.{Node}
 use Rattle.tree.proofs.OtherLines.{never}
 use Rattle.nodes.specs.Index.{entryAt, byId, nth, lookupFrom, lookup, entryWith, EntryIs, Entries, Indexed, Finds}
-use Rattle.nodes.specs.Index.{namesOf, rowsAfter, NameAt, parameterRows}
+use Rattle.nodes.specs.Index.{markEvery, namesOf, rowsAfter, NameAt, parameterRows}
 use Rattle.nodes.specs.declared.Entry.{Entry}
 use Rattle.nodes.specs.declared.Found.the-variants.{At, Nothing}
 use Rattle.nodes.specs.declared.Position.{Position}
@@ -165,29 +165,30 @@ module _ (s : Str) (index : List ℕ) (e : Entry) (k : ℕ) (n : Node) (x : Entr
   parameter-none h = names-out k (n .params) (omega (arith, x .count))
 
   module _ (h : k < e .count) where
-    -- one of the first 64 is sought from the P rows' beginning
+    -- one before the first mark is sought from the P rows' beginning
     pub parameter-first :
         (q : ℕ) → rows (drop q s) ≡ rowsAfter k (rows (drop (e .params) s)) → NameAt s (position.At q) k (n .params)
     parameter-first q f =
         rw (f, ← x .params) (name-after k (rows (drop (e .params) s)) (omega (arith, x .count, ap length (x .params))))
 
     -- any other from its mark
-    module _ (l : 64 ≤ k) where
+    module _ (l : markEvery ≤ k) where
       marked :
-          (e .marks + (k / 64 - 1) < length index)
-          × (namesOf (rows (drop (getD index (e .marks + (k / 64 - 1)) 0) s)) ≡ drop (64 * suc (k / 64 - 1)) (n .params))
-      marked = x .marks .each (k / 64 - 1) (omega (arith, x .count))
+          (e .marks + (k / markEvery - 1) < length index)
+          × (namesOf (rows (drop (getD index (e .marks + (k / markEvery - 1)) 0) s))
+          ≡ drop (markEvery * suc (k / markEvery - 1)) (n .params))
+      marked = x .marks .each (k / markEvery - 1) (omega (arith, x .count))
 
-      pub parameter-out : (r : Position) → length index ≤ e .marks + (k / 64 - 1) → NameAt s r k (n .params)
+      pub parameter-out : (r : Position) → length index ≤ e .marks + (k / markEvery - 1) → NameAt s r k (n .params)
       parameter-out r o = let z : ⊥ = omega (arith, marked .0) in absurd z
 
       pub parameter-marked :
-          (q : ℕ) → rows (drop q s) ≡ rowsAfter (k % 64) (rows (drop (getD index (e .marks + (k / 64 - 1)) 0) s))
+          (q : ℕ) → rows (drop q s) ≡ rowsAfter (k % markEvery) (rows (drop (getD index (e .marks + (k / markEvery - 1)) 0) s))
           → NameAt s (position.At q) k (n .params)
       parameter-marked q f =
-          let z : 64 * suc (k / 64 - 1) + k % 64 ≡ k = omega arith in
-          let p = name-past (64 * suc (k / 64 - 1)) (k % 64) (n .params)
-          (rows (drop (getD index (e .marks + (k / 64 - 1)) 0) s)) (marked .1) (omega (arith, x .count)) in
+          let z : markEvery * suc (k / markEvery - 1) + k % markEvery ≡ k = omega arith in
+          let p = name-past (markEvery * suc (k / markEvery - 1)) (k % markEvery) (n .params)
+          (rows (drop (getD index (e .marks + (k / markEvery - 1)) 0) s)) (marked .1) (omega (arith, x .count)) in
           rw f (rw z at p)
 
 -- the rows of a parameter, as the code finds them
@@ -198,19 +199,21 @@ module _ (s : Str) (index : List ℕ) (e : Entry) (k : ℕ) where
 
   module _ (h : k < e .count) where
     pub rows-first :
-        k < 64 → (q : ℕ) → rows (drop q s) ≡ rowsAfter k (rows (drop (e .params) s))
+        k < markEvery → (q : ℕ) → rows (drop q s) ≡ rowsAfter k (rows (drop (e .params) s))
         → some (rows (drop q s)) ≡ parameterRows s index e k
     unfolding parameterRows
-    rows-first l q f = rw (lt-ltb k (e .count) h, lt-ltb k 64 l, f)
+    rows-first l q f = rw (lt-ltb k (e .count) h, lt-ltb k markEvery l, f)
 
-    module _ (l : 64 ≤ k) where
-      pub rows-unmarked : length index ≤ e .marks + (k / 64 - 1) → none ≡ parameterRows s index e k
+    module _ (l : markEvery ≤ k) where
+      pub rows-unmarked : length index ≤ e .marks + (k / markEvery - 1) → none ≡ parameterRows s index e k
       unfolding parameterRows
-      rows-unmarked o = rw (lt-ltb k (e .count) h, le-ltb k 64 l, le-ltb (e .marks + (k / 64 - 1)) (length index) o)
+      rows-unmarked o =
+          rw (lt-ltb k (e .count) h, le-ltb k markEvery l, le-ltb (e .marks + (k / markEvery - 1)) (length index) o)
 
       pub rows-marked :
-          e .marks + (k / 64 - 1) < length index → (q : ℕ)
-          → rows (drop q s) ≡ rowsAfter (k % 64) (rows (drop (getD index (e .marks + (k / 64 - 1)) 0) s))
+          e .marks + (k / markEvery - 1) < length index → (q : ℕ)
+          → rows (drop q s) ≡ rowsAfter (k % markEvery) (rows (drop (getD index (e .marks + (k / markEvery - 1)) 0) s))
           → some (rows (drop q s)) ≡ parameterRows s index e k
       unfolding parameterRows
-      rows-marked i q f = rw (lt-ltb k (e .count) h, le-ltb k 64 l, lt-ltb (e .marks + (k / 64 - 1)) (length index) i, f)
+      rows-marked i q f =
+          rw (lt-ltb k (e .count) h, le-ltb k markEvery l, lt-ltb (e .marks + (k / markEvery - 1)) (length index) i, f)

@@ -1,5 +1,5 @@
 -- The index of a sheet's nodes, as one flat list of numbers that a caller lends: how many nodes there are, twelve numbers for
--- each of them, and the positions of every 64th parameter. Assumes nothing.
+-- each of them, and the positions of every 16th parameter. Assumes nothing.
 use mathlib.Core.Path.{_≡_}
 use mathlib.Core.List.{List, [], _∷_, _++_}
 use mathlib.Core.Option.{Option, none, some}
@@ -22,15 +22,22 @@ use Rattle.nodes.specs.declared.Position.the-variants as position
 abbrev pub entrySize : ℕ
 entrySize = 12
 
+-- every 16th P row of a node but the first has a mark in the index, its position
+abbrev pub markEvery : ℕ
+markEvery = 16
+
+-- the fewest bytes of so many P rows, each of which has 4 or more
+abbrev pub markBytes : ℕ
+markBytes = 4 * markEvery
+
 -- where the marks begin in the index of a sheet of n bytes: after the count and the entries of its nodes, of which there are at
 -- most 64, each with an N row of 151 bytes or more
 abbrev pub firstMark : ℕ → ℕ
 firstMark n = 1 + entrySize * min 64 (n / 151)
 
--- the numbers of the index of a sheet of n bytes, of which at most 65,536 are read: a mark stands for 64 P rows, of 4 bytes or
--- more each
+-- the numbers of the index of a sheet of n bytes, of which at most 65,536 are read: a mark stands for so many P rows
 abbrev pub indexSize : ℕ → ℕ
-indexSize n = firstMark n + min 256 (n / 256)
+indexSize n = firstMark n + min 65536 n / markBytes
 
 -- the entry whose numbers stand from a place of the index on
 abbrev pub entryAt : List ℕ → ℕ → Entry
@@ -98,10 +105,10 @@ entryWith index k =
     (cond (ltb (length index) (1 + entrySize * k + entrySize)) Nothing (At (entryAt index (1 + entrySize * k))))
     Nothing
 
--- where each 64th parameter but the first stands: the marks from a place of the index on
+-- where each parameter stands that has a mark: the marks from a place of the index on
 pub record Marked (s : Str) (index : List ℕ) (marks : ℕ) (names : List Str) : Type 0 where
-  pub each : (j : ℕ) → 64 * suc j < length names
-      → (marks + j < length index) × (namesOf (rows (drop (getD index (marks + j) 0) s)) ≡ drop (64 * suc j) names)
+  pub each : (j : ℕ) → markEvery * suc j < length names
+      → (marks + j < length index) × (namesOf (rows (drop (getD index (marks + j) 0) s)) ≡ drop (markEvery * suc j) names)
 
 -- an entry says of a node what its N line says, where that line stands, where its P lines begin and how many they are, and
 -- where its fields begin
@@ -149,14 +156,14 @@ abbrev pub rowsThere : Str → Position → Option Rows
 rowsThere s (position.At q) = some (rows (drop q s))
 rowsThere s position.Nothing = none
 
--- the rows from the P row of an entry's parameter with a number, from 0, on: one of the first 64 is counted from the first P row,
--- any other from the last mark before it, if the index has that mark
+-- the rows from the P row of an entry's parameter with a number, from 0, on: one before the first mark is counted from the
+-- first P row, any other from the last mark before it, if the index has that mark
 unfoldable pub parameterRows : Str → List ℕ → Entry → ℕ → Option Rows
 parameterRows s index e k =
     cond (ltb k (e .count))
-    (cond (ltb k 64) (some (rowsAfter k (rows (drop (e .params) s))))
-    (cond (ltb (e .marks + (k / 64 - 1)) (length index))
-    (some (rowsAfter (k % 64) (rows (drop (getD index (e .marks + (k / 64 - 1)) 0) s)))) none))
+    (cond (ltb k markEvery) (some (rowsAfter k (rows (drop (e .params) s))))
+    (cond (ltb (e .marks + (k / markEvery - 1)) (length index))
+    (some (rowsAfter (k % markEvery) (rows (drop (getD index (e .marks + (k / markEvery - 1)) 0) s)))) none))
     none
 
 -- a sheet by its root and its nodes

@@ -12,8 +12,14 @@ ghost use Rattle.tree.specs.Tree.{Node};
 ghost use Rattle.nodes.specs.Index.{firstMark, indexSize, entryAt, withEntry, lookup, entryWith, rowsAfter};
 ghost use Rattle.nodes.specs.Index.{EntryIs, NameAt, rowsThere, parameterRows};
 
-// How many numbers are room enough for the index of any sheet: its count, 64 entries of 12, and 256 marks.
-pub const INDEX_SIZE: usize = 1025;
+// How many numbers are room enough for the index of any sheet: its count, 64 entries of 12, and 1,024 marks.
+pub const INDEX_SIZE: usize = 1793;
+
+// Every 16th P row of a node but the first has a mark in the index, its position.
+pub const MARK_EVERY: u64 = 16;
+
+// The fewest bytes of so many P rows, each of which has 4 or more.
+const MARK_BYTES: usize = 4 * MARK_EVERY as usize;
 
 // What the index holds of a node: the numbers of its N row, where that row stands, where its P rows begin, how many they are,
 // where in the index their marks begin, and where its fields begin.
@@ -54,16 +60,16 @@ pub fn first_mark(size: usize) -> usize
     1 + 12 * (size / 151)
 }
 
-// How many numbers the index of a sheet of so many bytes has: after the place of the first mark one for each 256 bytes, of which
-// at most 65,536 are read.
+// How many numbers the index of a sheet of so many bytes has: from the place of the first mark on one for each 64 bytes, of
+// which at most 65,536 are read.
 pub fn index_size(size: usize) -> usize
     ensures { λ r. ⌜ r ≡ indexSize size ⌝ }
 {
     let first = first_mark(size);
     if 65536 <= size {
-        return first + 256;
+        return first + 65536 / MARK_BYTES;
     }
-    first + size / 256
+    first + size / MARK_BYTES
 }
 
 // The entry whose numbers stand from a place of the index on.
@@ -207,11 +213,11 @@ pub fn parameter(s: &[u8], index: &[u64], node: Entry, k: u64) -> Position
     if node.count <= k {
         return Position::Nothing;
     }
-    if k < 64 {
+    if k < MARK_EVERY {
         return Position::At(skip(s, node.params, k));
     }
     let marks = node.marks;
-    let j = (k / 64) as usize - 1;
+    let j = (k / MARK_EVERY) as usize - 1;
     if index.len() <= marks {
         return Position::Nothing;
     }
@@ -219,5 +225,5 @@ pub fn parameter(s: &[u8], index: &[u64], node: Entry, k: u64) -> Position
         return Position::Nothing;
     }
     let from = index[marks + j] as usize;
-    Position::At(skip(s, from, k % 64))
+    Position::At(skip(s, from, k % MARK_EVERY))
 }

@@ -34,7 +34,7 @@ ghost use Rattle.requests.specs.declared.Accessor.the-variants.{TypeText
 ghost use Rattle.requests.specs.declared.Answer.the-variants.{Refused};
 
 // How many numbers are room enough for the index of a sheet of at most 3,072 bytes.
-const SHORT_INDEX: usize = 253;
+const SHORT_INDEX: usize = 289;
 
 // A text of a field: of a slot its type's text for a leaf, by document 01's number, its getters, its setter and its hasers; of a
 // group its zeroing.

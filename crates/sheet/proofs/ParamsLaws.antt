@@ -21,7 +21,7 @@ use Rattle.tree.specs.Reader.{Rows}
 use Rattle.tree.specs.Read.{readParams}
 use Rattle.tree.specs.Walked.{passed}
 use Rattle.tree.proofs.OtherLines.{never, not-parameter}
-use Rattle.nodes.specs.Index.{namesOf}
+use Rattle.nodes.specs.Index.{markEvery, namesOf}
 use Rattle.nodes.proofs.NameLaws.{names-more, names-none}
 use Rattle.sheet.specs.Steps.{MarkRoom, hasMark, withMark, nextMark, SameBetween, ParamsRead}
 use Rattle.sheet.proofs.RoomLaws.{parameter-room}
@@ -30,16 +30,16 @@ use Rattle.row.specs.declared.Line.the-variants as line
 
 -- ---- which rows have a mark
 
-mark-yes : (k : ℕ) → hasMark k ≡ true → (0 < k) × (k % 64 ≡ 0)
-mark-yes k h = go (ltb 0 k) (eqb (k % 64) 0) refl refl h
+mark-yes : (k : ℕ) → hasMark k ≡ true → (0 < k) × (k % markEvery ≡ 0)
+mark-yes k h = go (ltb 0 k) (eqb (k % markEvery) 0) refl refl h
   where
-    go : (a b : Bool) → ltb 0 k ≡ a → eqb (k % 64) 0 ≡ b → both a b ≡ true → (0 < k) × (k % 64 ≡ 0)
-    go true true e f h = (ltb-true 0 k e, eqb-true (k % 64) 0 f)
+    go : (a b : Bool) → ltb 0 k ≡ a → eqb (k % markEvery) 0 ≡ b → both a b ≡ true → (0 < k) × (k % markEvery ≡ 0)
+    go true true e f h = (ltb-true 0 k e, eqb-true (k % markEvery) 0 f)
     go true false e f h = never cc
     go false b e f h = never cc
 
-mark-no : (k : ℕ) → hasMark k ≡ false → k % 64 ≡ 0 → k ≡ 0
-mark-no k h i = go (ltb 0 k) refl (rw (eq-eqb (k % 64) 0 i) at h)
+mark-no : (k : ℕ) → hasMark k ≡ false → k % markEvery ≡ 0 → k ≡ 0
+mark-no k h i = go (ltb 0 k) refl (rw (eq-eqb (k % markEvery) 0 i) at h)
   where
     go : (a : Bool) → ltb 0 k ≡ a → both a true ≡ false → k ≡ 0
     go true e h = never cc
@@ -50,17 +50,17 @@ module _ (x : List ℕ) (place k at : ℕ) where
   unfolding withMark nextMark
   mark-first h = rw h (refl, refl)
 
-  pub mark-not : (k % 64 ≡ 0 → ⊥) → (x ≡ withMark x place k at) × (place ≡ nextMark place k)
+  pub mark-not : (k % markEvery ≡ 0 → ⊥) → (x ≡ withMark x place k at) × (place ≡ nextMark place k)
   unfolding withMark nextMark
-  mark-not h = rw (ne-eqb (k % 64) 0 h) (go (ltb 0 k))
+  mark-not h = rw (ne-eqb (k % markEvery) 0 h) (go (ltb 0 k))
     where
       go : (a : Bool) → (x ≡ cond (both a false) (set x place at) x) × (place ≡ cond (both a false) (place + 1) place)
       go true = (refl, refl)
       go false = (refl, refl)
 
-  pub mark-put : (k ≡ 0 → ⊥) → k % 64 ≡ 0 → (set x place at ≡ withMark x place k at) × (place + 1 ≡ nextMark place k)
+  pub mark-put : (k ≡ 0 → ⊥) → k % markEvery ≡ 0 → (set x place at ≡ withMark x place k at) × (place + 1 ≡ nextMark place k)
   unfolding withMark nextMark
-  mark-put h i = let l : 0 < k = omega arith in rw (lt-ltb 0 k l, eq-eqb (k % 64) 0 i) (refl, refl)
+  mark-put h i = let l : 0 < k = omega arith in rw (lt-ltb 0 k l, eq-eqb (k % markEvery) 0 i) (refl, refl)
 
 -- ---- after some P rows
 
@@ -70,10 +70,10 @@ pub record Passing (s : Str) (rs : Rows) (marks : ℕ) (x y : List ℕ) (at coun
   pub names : namesOf (rows (drop at s)) ≡ drop count (namesOf rs)
   pub within : count ≤ length (namesOf rs)
   pub left : 4 * count + size (rows (drop at s)) ≤ size rs
-  pub next : place ≡ marks + (count - 1) / 64
+  pub next : place ≡ marks + (count - 1) / markEvery
   pub same : SameBetween x y 0 marks
-  pub marked : (j : ℕ) → 64 * suc j < count → marks + j < length y
-      → namesOf (rows (drop (getD y (marks + j) 0) s)) ≡ drop (64 * suc j) (namesOf rs)
+  pub marked : (j : ℕ) → markEvery * suc j < count → marks + j < length y
+      → namesOf (rows (drop (getD y (marks + j) 0) s)) ≡ drop (markEvery * suc j) (namesOf rs)
 
 pub passing-first : (s : Str) (from marks : ℕ) (x : List ℕ) → Passing s (rows (drop from s)) marks x x from 0 marks
 passing-first s from marks x = record {
@@ -123,7 +123,7 @@ module _ (s : Str) (rs : Rows) (marks : ℕ) (x y : List ℕ) (at count place : 
     pub passing-room : MarkRoom (length s) marks (size rs) → place < 2 ^ 64 - 1
     passing-room room = omega (arith, p .left, p .next, fits)
 
-    pub passing-few : MarkRoom (length s) marks (size rs) → count < 262400
+    pub passing-few : MarkRoom (length s) marks (size rs) → count < 65536
     passing-few room = omega (arith, p .left, fits)
 
     more : namesOf (rows (drop at s)) ≡ textAt (rows (drop at s)) ∷ namesOf (rows (drop e s))
@@ -143,11 +143,11 @@ module _ (s : Str) (rs : Rows) (marks : ℕ) (x y : List ℕ) (at count place : 
       marked = λ j h i. rw f (each (hasMark count) refl j h (rw f at i));
     }
       where
-        next-place : (b : Bool) → hasMark count ≡ b → cond b (place + 1) place ≡ marks + (count + 1 - 1) / 64
+        next-place : (b : Bool) → hasMark count ≡ b → cond b (place + 1) place ≡ marks + (count + 1 - 1) / markEvery
         next-place true m = let z = mark-yes count m in omega (arith, p .next)
-        next-place false m = go (ℕ-discrete (count % 64) 0)
+        next-place false m = go (ℕ-discrete (count % markEvery) 0)
           where
-            go : Dec (count % 64 ≡ 0) → place ≡ marks + (count + 1 - 1) / 64
+            go : Dec (count % markEvery ≡ 0) → place ≡ marks + (count + 1 - 1) / markEvery
             go (yes z) = let w = mark-no count m z in omega (arith, p .next)
             go (no z) = omega (arith, p .next)
 
@@ -156,21 +156,22 @@ module _ (s : Str) (rs : Rows) (marks : ℕ) (x y : List ℕ) (at count place : 
             getD-set-other y place q at 0 (λ z. omega (arith, p .next)) ∙ p .same .each q (omega arith) h
         kept false m q h = p .same .each q (omega arith) h
 
-        each : (b : Bool) → hasMark count ≡ b → (j : ℕ) → 64 * suc j < count + 1 → marks + j < length (cond b (set y place at) y)
-            → namesOf (rows (drop (getD (cond b (set y place at) y) (marks + j) 0) s)) ≡ drop (64 * suc j) (namesOf rs)
-        each true m j h i = go (ℕ-discrete (64 * suc j) count)
+        each : (b : Bool) → hasMark count ≡ b → (j : ℕ) → markEvery * suc j < count + 1
+            → marks + j < length (cond b (set y place at) y)
+            → namesOf (rows (drop (getD (cond b (set y place at) y) (marks + j) 0) s)) ≡ drop (markEvery * suc j) (namesOf rs)
+        each true m j h i = go (ℕ-discrete (markEvery * suc j) count)
           where
-            go : Dec (64 * suc j ≡ count)
-                → namesOf (rows (drop (getD (set y place at) (marks + j) 0) s)) ≡ drop (64 * suc j) (namesOf rs)
+            go : Dec (markEvery * suc j ≡ count)
+                → namesOf (rows (drop (getD (set y place at) (marks + j) 0) s)) ≡ drop (markEvery * suc j) (namesOf rs)
             go (yes z) =
                 let w : marks + j ≡ place = omega (arith, p .next, mark-yes count m) in
                 rw (z, w, getD-set-same y place at 0 (omega (arith, length-set y place at))) (p .names)
             go (no z) =
                 rw (getD-set-other y place (marks + j) at 0 (λ w. omega (arith, p .next, mark-yes count m)))
                 (p .marked j (omega arith) (omega (arith, length-set y place at)))
-        each false m j h i = go (ℕ-discrete (64 * suc j) count)
+        each false m j h i = go (ℕ-discrete (markEvery * suc j) count)
           where
-            go : Dec (64 * suc j ≡ count)
-                → namesOf (rows (drop (getD y (marks + j) 0) s)) ≡ drop (64 * suc j) (namesOf rs)
+            go : Dec (markEvery * suc j ≡ count)
+                → namesOf (rows (drop (getD y (marks + j) 0) s)) ≡ drop (markEvery * suc j) (namesOf rs)
             go (yes z) = let w = mark-no count m (omega arith) in let v : ⊥ = omega arith in absurd v
             go (no z) = p .marked j (omega arith) i

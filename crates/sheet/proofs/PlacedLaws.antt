@@ -8,7 +8,7 @@ use lib.ListN.{length, getD, set, length-set}
 use lib.Seq.{getD-set-same, getD-set-other}
 use Rattle.text.specs.Bytes.{Str}
 use Rattle.tree.specs.Tree.{Node}
-use Rattle.nodes.specs.Index.{entryAt, firstMark, Marked, Entries, Indexed}
+use Rattle.nodes.specs.Index.{entryAt, markEvery, firstMark, Marked, Entries, Indexed}
 use Rattle.nodes.specs.declared.Entry.{Entry}
 use Rattle.sheet.specs.Steps.{SameBetween, Placed}
 
@@ -20,7 +20,7 @@ Filled s x end p (n ∷ ns) = Placed s x end (entryAt x p) n × Filled s x end (
 -- the marks of a node stay where the index keeps its numbers there
 pub marked-same :
     (s : Str) (x y : List ℕ) (from to marks : ℕ) (names : List Str) → SameBetween x y from to → length y ≡ length x → from ≤ marks
-    → marks + (length names - 1) / 64 ≤ to → Marked s x marks names → Marked s y marks names
+    → marks + (length names - 1) / markEvery ≤ to → Marked s x marks names → Marked s y marks names
 marked-same s x y from to marks names e l a b m = record {
   each = λ j h.
       let r = m .each j h in

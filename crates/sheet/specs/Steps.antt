@@ -15,7 +15,7 @@ use Rattle.tree.specs.Read.{among, readFields, groupIds, readParams, readMember
 use Rattle.tree.specs.Walked.{passed, walked}
 use Rattle.tree.specs.declared.Walk.{Walk}
 use Rattle.tree.specs.declared.Walk.the-variants.{Next, Refused}
-use Rattle.nodes.specs.Index.{entryAt, namesOf, firstMark, indexSize, Marked, EntryIs, Indexed}
+use Rattle.nodes.specs.Index.{entryAt, namesOf, markEvery, markBytes, firstMark, indexSize, Marked, EntryIs, Indexed}
 use Rattle.nodes.specs.declared.Entry.{Entry}
 use Rattle.sheet.specs.declared.Turn.{Turn}
 use Rattle.sheet.specs.declared.Turn.the-variants as turn
@@ -62,18 +62,18 @@ Turned s rs seen count groups flags (turn.End w) =
 
 -- ---- the index
 
--- in the index of a sheet of n bytes the next mark has this place, and there is room for one more in each 256 of the bytes that
+-- in the index of a sheet of n bytes the next mark has this place, and there is room for one more in each 64 of the bytes that
 -- are left
 abbrev pub MarkRoom : ℕ → ℕ → ℕ → Type 0
-MarkRoom n place left = 256 * place + left ≤ 256 * indexSize n + 255
+MarkRoom n place left = markBytes * place + left ≤ markBytes * indexSize n + (markBytes - 1)
 
 -- so many N rows, of 151 bytes or more each, and what is left are no more than the n bytes of a sheet
 abbrev pub NodeRoom : ℕ → ℕ → ℕ → Type 0
 NodeRoom n count left = 151 * count + left ≤ n
 
--- whether the P row with a number, from 0, has a mark: each 64th of a node but the first
+-- whether the P row with a number, from 0, has a mark: each 16th of a node but the first
 abbrev pub hasMark : ℕ → Bool
-hasMark k = both (ltb 0 k) (eqb (k % 64) 0)
+hasMark k = both (ltb 0 k) (eqb (k % markEvery) 0)
 
 -- the index after the P row with a number k at a position: a row that has a mark has its position put at a place
 unfoldable pub withMark : List ℕ → ℕ → ℕ → ℕ → List ℕ
@@ -91,7 +91,7 @@ pub record SameBetween (x y : List ℕ) (from to : ℕ) : Type 0 where
 pub record ParamsRead (s : Str) (rs : Rows) (marks : ℕ) (x y : List ℕ) (r : ParamsRun) : Type 0 where
   pub walk : got tt (rows (drop (r .at) s)) ≡ passed (readParams rs)
   pub count : r .count ≡ length (namesOf rs)
-  pub next : r .marks ≡ marks + (r .count - 1) / 64
+  pub next : r .marks ≡ marks + (r .count - 1) / markEvery
   pub left : size (rows (drop (r .at) s)) ≤ size rs
   pub room : MarkRoom (length s) (r .marks) (size (rows (drop (r .at) s)))
   pub same : SameBetween x y 0 marks
@@ -101,7 +101,7 @@ pub record ParamsRead (s : Str) (rs : Rows) (marks : ℕ) (x y : List ℕ) (r : 
 pub record Placed (s : Str) (index : List ℕ) (end : ℕ) (e : Entry) (n : Node) : Type 0 where
   pub is : EntryIs s index e n
   pub first : firstMark (length s) ≤ e .marks
-  pub last : e .marks + (length (n .params) - 1) / 64 ≤ end
+  pub last : e .marks + (length (n .params) - 1) / markEvery ≤ end
 
 -- ---- nodes
 

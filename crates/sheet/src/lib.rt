@@ -92,7 +92,7 @@ fn flag(flags: &mut [u8], id: u64)
     flags[(id % 2048) as usize] = 1;
 }
 
-// Puts the mark of the P row with a number, from 0, that stands at a position: each 64th row of a node but the first has one.
+// Puts the mark of the P row with a number, from 0, that stands at a position: each 16th row of a node but the first has one.
 // It answers with the place of the next mark.
 fn mark(index: &mut [u64], place: usize, number: u64, at: usize) -> usize
     requires { ⌜ place < 2 ^ 64 - 1 ⌝ }
@@ -101,7 +101,7 @@ fn mark(index: &mut [u64], place: usize, number: u64, at: usize) -> usize
     if number == 0 {
         return place;
     }
-    if number % 64 != 0 {
+    if number % nodes::MARK_EVERY != 0 {
         return place;
     }
     nodes::store(index, place, at as u64);

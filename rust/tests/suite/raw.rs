@@ -234,7 +234,7 @@ fn numbers_of_no_request() {
 
 #[test]
 fn the_size_of_an_index() {
-    assert!((0..70_000).chain([usize::MAX, usize::MAX / 2 + 1]).all(|length| index_size(length) <= 1025));
+    assert!((0..70_000).chain([usize::MAX, usize::MAX / 2 + 1]).all(|length| index_size(length) <= 1793));
 }
 
 /// An index of any length is answered as its sheet is admitted; the whole one has the nodes.

@@ -1,5 +1,5 @@
--- `nodes::parameter` meets its contract: one of the first 64 parameters stands so many rows after the first, any other so many
--- after its mark, and there is a mark wherever there is a parameter. Assumes nothing.
+-- `nodes::parameter` meets its contract: a parameter before the first mark stands so many rows after the first, any
+-- other so many after its mark, and there is a mark wherever there is a parameter. Assumes nothing.
 use borrow.Author.Needs.{needs}
 use native.Mathlib.Omega.{arith}
 use Rattle.nodes.proofs.Laws.{parameter-none, parameter-first, parameter-out, parameter-marked}

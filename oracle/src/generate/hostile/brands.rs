@@ -4,6 +4,9 @@ use super::super::corners::{node, slot, Corner};
 use super::{binds, inherits, long_scopes, unbound};
 use crate::sheet::{Binding, Node, Scope, Sheet, Slot, Type, MAX_LEVEL, MAX_NODES};
 
+/// Every so many parameters of a node the index has a position: the last of so many stands furthest behind one.
+const MARK_EVERY: usize = 16;
+
 /// Types nested 16 deep: their size is bounded by the levels.
 pub fn nested() -> Vec<Corner> {
     let mut corners = Vec::new();
@@ -143,21 +146,23 @@ pub fn nest_of_scopes_long(count: usize) -> Vec<Node> {
     vec![with_parameters(1, 0, 2).slots(slots), with_parameters(2, 0, 320)]
 }
 
-/// So many bindings, each the last of some twenty times as many parameters of another node; the last of 64, so that it stands
+/// So many bindings, each the last of some twenty times as many parameters of another node; the last of 16, so that it stands
 /// furthest from the position that the index has.
 pub fn far(count: usize) -> Vec<Node> {
-    let parameters = (count * 22).div_ceil(64) * 64;
+    let parameters = (count * 22).div_ceil(MARK_EVERY) * MARK_EVERY;
     let last = Type::Parameter { scope_id: 1, index: parameters as u16 - 1 };
     let typ = Type::Struct(2, vec![binds(2, vec![last; count])]);
     vec![with_parameters(1, 0, parameters), with_parameters(2, 0, count).slots([slot("ward", typ)])]
 }
 
-/// So many bindings, each the last of 64 parameters, behind 63 names as long as a name can be.
+/// So many bindings, each the last of 64 parameters, behind 63 names as long as a name can be: 15 of them stand between it and
+/// the position that the index has.
 fn far_behind(last_name: &str, count: usize) -> Vec<Node> {
+    let before = 4 * MARK_EVERY - 1;
     let mut named = node(1, 0, "bed", &[]);
-    named.parameters = vec!["T".repeat(64); 63];
+    named.parameters = vec!["T".repeat(64); before];
     named.parameters.push(last_name.to_string());
-    let last = Type::Parameter { scope_id: 1, index: 63 };
+    let last = Type::Parameter { scope_id: 1, index: before as u16 };
     let typ = Type::Struct(2, vec![binds(2, vec![last; count])]);
     vec![named, with_parameters(2, 0, count).slots([slot("first", Type::Plain(1)), slot("ward", typ)])]
 }
