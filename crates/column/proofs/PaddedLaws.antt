@@ -12,17 +12,17 @@ use native.Mathlib.Omega.{arith}
 use lib.Dec.{eqb, ltb}
 use lib.ListN.{length, getD, take, drop, replicate, length-append, length-drop, length-replicate, take-append-drop}
 use lib.ListN.{List·getD-eq-default}
-use lib.Seq.{drop-cons, drop-drop, getD-drop, take-append-seam, length-take-le}
+use lib.Seq.{drop-cons, drop-drop, getD-drop, take-append-seam, getD-append-seam, length-take-le}
 use borrow.Author.Tests.{eq-eqb, ne-eqb, lt-ltb, le-ltb, ltb-true, ltb-false, eqb-true, eqb-false}
 use Rattle.text.specs.Bytes.{Str, cond, unit}
 use Rattle.text.specs.Decimal.{decimal}
 use Rattle.text.proofs.DecimalLaws.{decimal-low, decimal-high, decimal-length}
-use Rattle.column.specs.Number.{trimmed, digits, lone, unpadded, number, within, columnOf, padded}
+use Rattle.column.specs.Number.{trimmed, digits, lone, unpadded, number, within, columnOf, most, padded}
 use Rattle.column.specs.Texts.{endsIn}
 use Rattle.column.proofs.Laws.{unpadded-digits}
 
 -- none is no number
-none-some : {A : Type 0} {v : ℕ} → none ≡ some v → A
+pub none-some : {A : Type 0} {v : ℕ} → none ≡ some v → A
 none-some e = let z : _≡_ {A = ℕ} 0 1 = cc in let y : ⊥ = omega arith in absurd y
 
 -- a byte that goes on with a number: it is a digit, and the number fits
@@ -272,3 +272,79 @@ ends-stands ok t a e = go (eqb (getD t a 0) 32) refl e
             let y : ⊥ = omega arith in
             absurd y
     go false s e = let z : _≡_ {A = ℕ} 0 1 = cc in let y : ⊥ = omega arith in absurd y
+
+-- ---- a number by its last two bytes, where a space stands before them
+
+-- the last digit of a number, and those before it
+last-digit : (n : ℕ) (P : Str → Type 0) → ((front : Str) → P (front ++ unit (48 + n % 10))) → P (decimal n)
+last-digit n P f = go (ltb n 10) refl
+  where
+    go : (t : Bool) → ltb n 10 ≡ t → P (decimal n)
+    go true e =
+        let l = ltb-true n 10 e in
+        let m : n % 10 ≡ n = omega arith in
+        let p = f [] in
+        rw (decimal-low n l) (rw m at p)
+    go false e = rw (decimal-high n (ltb-false n 10 e)) (f (decimal (n / 10)))
+
+-- the third byte from the end of 21
+third-last :
+    (p front rest : Str) (z x y : ℕ) → length (p ++ (front ++ unit z ++ unit x ++ unit y)) ≡ 21
+    → getD ((p ++ (front ++ unit z ++ unit x ++ unit y)) ++ rest) 18 0 ≡ z
+third-last p front rest z x y h =
+    let m = simp length-append at h in
+    let l : length (p ++ front) ≡ 18 = rw length-append (omega arith) in
+    let e : (p ++ (front ++ unit z ++ unit x ++ unit y)) ++ rest ≡ (p ++ front) ++ (z ∷ x ∷ y ∷ rest) = simp append-assoc in
+    rw (e, ← l) (getD-append-seam (p ++ front) z (x ∷ y ∷ rest) 0)
+
+-- a number of three digits or more has a digit there
+third-digit :
+    (m k x y : ℕ) (rest : Str) → length (replicate k 32 ++ (decimal m ++ unit x ++ unit y)) ≡ 21
+    → getD ((replicate k 32 ++ (decimal m ++ unit x ++ unit y)) ++ rest) 18 0 ≡ 48 + m % 10
+third-digit m k x y rest =
+    last-digit m (λ d. length (replicate k 32 ++ (d ++ unit x ++ unit y)) ≡ 21
+    → getD ((replicate k 32 ++ (d ++ unit x ++ unit y)) ++ rest) 18 0 ≡ 48 + m % 10)
+    (λ front. third-last (replicate k 32) front rest (48 + m % 10) x y)
+
+three-digits : (n : ℕ) (rest : Str) → 100 ≤ n → n < 2 ^ 64 → getD (padded n ++ rest) 18 0 ≡ 48 + n / 10 / 10 % 10
+unfolding padded
+three-digits n rest h s = go (21 - length (decimal n)) (padded-length n s)
+  where
+    go :
+        (k : ℕ) → length (replicate k 32 ++ decimal n) ≡ 21
+        → getD ((replicate k 32 ++ decimal n) ++ rest) 18 0 ≡ 48 + n / 10 / 10 % 10
+    go k =
+        rw (decimal-high n (omega arith), decimal-high (n / 10) (omega arith))
+        (third-digit (n / 10 / 10) k (48 + n / 10 % 10) (48 + n % 10) rest)
+
+last-two :
+    (n : ℕ) (rest : Str) → n < 2 ^ 64 → getD (padded n ++ rest) 18 0 ≡ 32
+    → getD (padded n ++ rest) 19 0 % 16 * 10 + getD (padded n ++ rest) 20 0 % 16 ≡ n
+unfolding padded
+last-two n rest s h = go (ltb n 10) (ltb n 100) refl refl
+  where
+    low : (d : ℕ) → d < 10 → (48 + d) % 16 ≡ d
+    low d l = omega arith
+
+    go : (p q : Bool) → ltb n 10 ≡ p → ltb n 100 ≡ q
+        → getD (padded n ++ rest) 19 0 % 16 * 10 + getD (padded n ++ rest) 20 0 % 16 ≡ n
+    go true q e f = let l = ltb-true n 10 e in rw (padded, decimal-low n l) (omega arith)
+    go false true e f =
+        let l = ltb-false n 10 e in
+        let m = ltb-true n 100 f in
+        let x = low (n / 10) (omega arith) in
+        let y = low (n % 10) (omega arith) in
+        rw (padded, decimal-high n l, decimal-low (n / 10) (omega arith), x, y) (omega arith)
+    go false false e f =
+        let z = three-digits n rest (ltb-false n 100 f) s in let y : ⊥ = omega arith in absurd y
+
+-- the number in the columns from a on, by their last two bytes
+pub known-two :
+    (t : Str) (a n x y : ℕ) → getD t (a + 18) 0 ≡ 32 → x ≡ getD t (a + 19) 0 → y ≡ getD t (a + 20) 0
+    → columnOf t a 0 (most 64) ≡ some n → x % 16 * 10 + y % 16 ≡ n
+known-two t a n x y h e f is =
+    let s = column-stands t a 0 (most 64) n is in
+    let l = s .high in
+    let at : (i : ℕ) → getD t (a + i) 0 ≡ getD (padded n ++ drop (a + 21) t) i 0 =
+    λ i. sym (getD-drop a t i 0) ∙ ap (λ (u : Str). getD u i 0) (s .here) in
+    rw (e, f, at 19, at 20) (last-two n (drop (a + 21) t) (omega arith) (sym (at 18) ∙ h))

@@ -3,7 +3,9 @@ use terms::limits;
 ghost use mathlib.Core.Path.{_≡_};
 ghost use Prim.Native.Nat.{_≤_, _<_};
 ghost use lib.ListN.{length, drop};
-ghost use Rattle.column.specs.Number.{numberSaid, trimmed, digits, unpadded, columnOf};
+ghost use mathlib.Core.Option.{some};
+ghost use Prim.Native.Nat.{ℕ};
+ghost use Rattle.column.specs.Number.{numberSaid, trimmed, digits, unpadded, columnOf, most};
 ghost use Rattle.column.specs.Fours.{fourBytes};
 ghost use Rattle.column.specs.Texts.{isDigit, isWord, isGraphic, all, sized, isName, isGraphicText, endsIn};
 
@@ -148,6 +150,26 @@ pub fn column(t: &[u8], a: usize, least: u64, most: u64) -> Number
         return Number::Not;
     }
     Number::Is(v)
+}
+
+// The number in the 21 columns from `a` on, where they are known to have one: the last two give it where a space stands before
+// them. Of other columns nothing is said.
+pub fn known(t: &[u8], a: usize) -> u64
+    ensures { λ r. ⌜ ((n : ℕ) → columnOf (now (t .entry)) a 0 (most 64) ≡ some n → r ≡ n) ⌝ }
+{
+    if t.len() < 21 {
+        return 0;
+    }
+    if t.len() - 21 < a {
+        return 0;
+    }
+    if t[a + 18] == b' ' {
+        return wide(t[a + 19]) % 16 * 10 + wide(t[a + 20]) % 16;
+    }
+    let Number::Is(v) = column(t, a, 0, u64::MAX) else {
+        return 0;
+    };
+    v
 }
 
 // 0 to 9.

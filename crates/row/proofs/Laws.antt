@@ -168,6 +168,24 @@ rows-length (b ∷ s) = go (eqb b 10) (rows s) (rows-length s)
     go false [] h = omega arith
     go false (r ∷ rs) h = omega arith
 
+-- bytes that are dropped make no more rows
+rows-drop : (k : ℕ) (s : Str) → length (rows (drop k s)) ≤ length (rows s)
+unfolding rows onto
+rows-drop zero s = omega arith
+rows-drop (suc k) [] = omega arith
+rows-drop (suc k) (b ∷ s) = go (eqb b 10) (rows s) (rows-drop k s)
+  where
+    go : (t : Bool) (rs : List Str) → length (rows (drop k s)) ≤ length rs
+        → length (rows (drop k s)) ≤ length {A = Str} (elim t [ true ↦ (b ∷ []) ∷ rs | false ↦ onto b rs ])
+    go true rs h = omega arith
+    go false [] h = omega arith
+    go false (r ∷ rs) h = h
+
+pub rows-fewer : (s : Str) (a b : ℕ) → a ≤ b → length (rows (drop b s)) ≤ length (rows (drop a s))
+rows-fewer s a b h =
+    let e : a + (b - a) ≡ b = omega arith in
+    rw e at (rw (drop-drop (b - a) a s) at (rows-drop (b - a) (drop a s)))
+
 -- rows joined are the bytes again
 pub joined-rows : (s : Str) → joined (rows s) ≡ s
 unfolding joined rows onto

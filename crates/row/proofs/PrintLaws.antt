@@ -27,16 +27,16 @@ use Rattle.row.specs.Line.{Content, Root, Node, Parameter, Field, Group,
 use Rattle.row.proofs.Laws.{newlines-append, rows-line}
 
 -- numbers that fit their columns
-abbrev Narrow : List ℕ → Type 0
+abbrev pub Narrow : List ℕ → Type 0
 Narrow [] = Unit
 Narrow (n ∷ ns) = (n < 2 ^ 64) × Narrow ns
 
-narrow-at : (ns : List ℕ) (k : ℕ) → Narrow ns → k < length ns → getD ns k 0 < 2 ^ 64
+pub narrow-at : (ns : List ℕ) (k : ℕ) → Narrow ns → k < length ns → getD ns k 0 < 2 ^ 64
 narrow-at [] k f l = let z : ⊥ = omega arith in absurd z
 narrow-at (n ∷ ns) zero f l = f .0
 narrow-at (n ∷ ns) (suc k) f l = narrow-at ns k (f .1) (omega arith)
 
-columns-append : (ns : List ℕ) (s t : Str) → columns ns (s ++ t) ≡ columns ns s ++ t
+pub columns-append : (ns : List ℕ) (s t : Str) → columns ns (s ++ t) ≡ columns ns s ++ t
 unfolding columns
 columns-append [] s t = refl
 columns-append (n ∷ ns) s t = rw (columns-append ns s t) (sym (append-assoc (padded n) (columns ns s) t))
@@ -64,7 +64,7 @@ drop-seam : (k : ℕ) (s t : Str) → length s ≡ k → drop k (s ++ t) ≡ t
 drop-seam k s t e = rw (← e) (drop-append-seam s t)
 
 -- what stands after k of the numbers
-drop-columns :
+pub drop-columns :
     (k : ℕ) (ns : List ℕ) (end : Str) → Narrow ns → k ≤ length ns → drop (k * 21) (columns ns end) ≡ columns (drop k ns) end
 unfolding columns
 drop-columns zero ns end f l = refl
@@ -93,7 +93,7 @@ module _ (letter : ℕ) (ns : List ℕ) (end : Str) (fits : Narrow ns) where
       (ok : Str → Bool) (text : Str) → end ≡ 32 ∷ text → endsIn ok (letter ∷ columns ns end) (suc (length ns * 21)) ≡ ok text
   ends-read ok text e = ends-printed ok _ text (suc (length ns * 21)) (rest-read ∙ e)
 
-columns-length : (ns : List ℕ) → Narrow ns → length (columns ns []) ≡ length ns * 21
+pub columns-length : (ns : List ℕ) → Narrow ns → length (columns ns []) ≡ length ns * 21
 unfolding columns
 columns-length [] f = refl
 columns-length (n ∷ ns) f =

@@ -1,8 +1,10 @@
 // Rows of a sheet: where a row ends, what it says, and the text that it has.
 mod ends;
+mod parts;
 
 use column::Number;
 pub use ends::row_end;
+pub use parts::part;
 use terms::kinds;
 use terms::limits;
 ghost use mathlib.Core.Path.{_≡_};
@@ -111,6 +113,12 @@ pub enum Line {
 // What the row at a position says, and where the next row starts.
 pub struct Got {
     pub line: Line,
+    pub next: usize,
+}
+
+// How many types, scopes or bindings belong to a row, and where the next row starts.
+pub struct Owing {
+    pub owed: u64,
     pub next: usize,
 }
 
@@ -544,6 +552,9 @@ pub fn unbound_run(s: &[u8], at: usize, most: u64) -> u64
     ensures rows { λ r. ⌜ rows (drop at (now (s .entry))) ≡ unboundRows r ++ rows (drop (at + 2 * r) (now (s .entry))) ⌝ }
 {
     if s.len() <= at {
+        return 0;
+    }
+    if s[at] != b'U' {
         return 0;
     }
     if most < ((s.len() - at) / 2) as u64 {

@@ -15,13 +15,18 @@ returns c =
 
 returns-2 : tie.Need-returns-2
 returns-2 c =
-    let a = c .before .before .before .before .before .args in
-    let r = c .unbound-front .ensures in
-    run (a .s .now) (a .at) (a .at + 2 * a .most - a .at) _ (a .most) (r .0) (r .1) (omega arith)
+    let a = c .before .before .before .before .args in
+    run-none (a .s .now) (a .at) (a .most)
 
 returns-3 : tie.Need-returns-3
 returns-3 c =
-    let a = c .before .before .before .before .before .args in
+    let a = c .before .before .before .before .before .before .before .args in
+    let r = c .unbound-front .ensures in
+    run (a .s .now) (a .at) (a .at + 2 * a .most - a .at) _ (a .most) (r .0) (r .1) (omega arith)
+
+returns-4 : tie.Need-returns-4
+returns-4 c =
+    let a = c .before .before .before .before .before .before .before .args in
     let r = c .unbound-front2 .ensures in
     run (a .s .now) (a .at) (length (a .s .now) - a .at) _ (a .most) (r .0) (r .1) (omega arith)
 
@@ -31,15 +36,17 @@ unbound-run-spec =
     (tie.spec
     returns
     (λ c. search needs)
-    (λ c. search needs)
-    (λ c. search needs)
-    (λ c. search needs)
-    (λ c. search needs)
-    (λ c. search needs)
-    (λ c κs. search needs)
     returns-2
     (λ c. search needs)
     (λ c. search needs)
     (λ c. search needs)
+    (λ c. search needs)
+    (λ c. search needs)
+    (λ c. search needs)
     (λ c κs. search needs)
-    returns-3)
+    returns-3
+    (λ c. search needs)
+    (λ c. search needs)
+    (λ c. search needs)
+    (λ c κs. search needs)
+    returns-4)
