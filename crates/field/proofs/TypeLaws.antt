@@ -3,7 +3,7 @@
 use mathlib.Core.Path.{_≡_, refl, sym, _∙_}
 use mathlib.Core.Bool.{Bool, true, false}
 use mathlib.Core.List.{[], _∷_}
-use Prim.Native.Nat.{ℕ, zero, suc, _+_, _<_, _≤_}
+use Prim.Native.Nat.{ℕ, zero, suc, _<_, _≤_}
 use native.Mathlib.Nat.{add-zero}
 use native.Mathlib.Omega.{arith}
 use borrow.Author.Tests.{eq-eqb, ne-eqb, eqb-true, eqb-false, ltb-true, lt-ltb, le-ltb}
@@ -13,7 +13,7 @@ use lib.Dec.{eqb, ltb}
 use lib.ListN.{drop, length}
 use Rattle.text.specs.Bytes.{Str, cond}
 use Rattle.row.specs.Rows.{rows, restOf}
-use Rattle.row.specs.Line.{lineSaid, lineAt, lineOf, asType}
+use Rattle.row.specs.Line.{lineSaid, lineAt, asType}
 use Rattle.row.specs.declared.Line.{Line}
 use Rattle.row.specs.declared.Line.the-variants as line
 use Rattle.row.proofs.Line.{the-type}
@@ -23,8 +23,10 @@ use Rattle.tree.specs.Reader.{Rows, Reading, Reader, got, no, mapR, times, On}
 use Rattle.tree.specs.Read as read
 use Rattle.tree.specs.Read.{readType, typeFrom, branded}
 use Rattle.tree.proofs.OtherLines.{not-type}
-use Rattle.types.specs.Find.{After, kindAt, owed, pastRows}
-use Rattle.types.proofs.Laws.{as-type, on-map, on-all, past-type, past-next, past-none}
+use Rattle.row.specs.Part.{owed}
+use Rattle.row.proofs.Laws.{rows-fewer}
+use Rattle.types.specs.Find.{After, kindAt, pastRows, AllParts, Past}
+use Rattle.types.proofs.Laws.{as-type, on-map, on-all, past-type, past-next, past-none, parts-next, type-parts}
 use Rattle.types.proofs.TypeLaws.{type-kind}
 use Rattle.field.specs.Slot.{HasId}
 use Rattle.field.specs.Parts.{Gets, TypeIs}
@@ -64,30 +66,24 @@ type-id (suc n) rs =
     go k a b c false false false false f e q = eqb-false a 0 e
 
 -- the type that is read, by its row
-type-gets : (s : Str) (r : TypeSpan) (rs : Rows) → r .kind ≡ kindAt rs → r .id ≡ idAt rs → rows (drop (r .past) s) ≡ pastRows rs 1
+type-gets : (s : Str) (r : TypeSpan) (rs : Rows) → r .kind ≡ kindAt rs → r .id ≡ idAt rs → Past rs 1 (rows (drop (r .past) s))
     → Gets (readType 16 rs) (TypeIs s r)
-type-gets s r rs k i p = go (readType 16 rs) (type-kind 16 rs) (type-id 16 rs) (past-type 16 rs)
+type-gets s r rs k i p = go (readType 16 rs) (type-kind 16 rs) (type-id 16 rs) (past-type 16 rs) (type-parts 16 rs)
   where
     go : (g : Reading Ty) → On g (λ ty. tree.kind ty ≡ kindAt rs) → On g (λ ty. HasId ty (idAt rs))
-        → After g (λ rest. pastRows rs 1 ≡ rest) → Gets g (TypeIs s r)
-    go (got ty rest) x y z = record { kind = x ∙ sym k; id = rw i y; past = p ∙ z }
-    go (no j rest) x y z = tt
+        → After g (λ rest. pastRows rs 1 ≡ rest) → On g (λ ty. AllParts rs 1) → Gets g (TypeIs s r)
+    go (got ty rest) x y z all = record { kind = x ∙ sym k; id = rw i y; past = p all ∙ z }
+    go (no j rest) x y z all = tt
 
 -- rows are passed over, none are added
-past-fewer : (rs : Rows) (n : ℕ) → length (pastRows rs n) ≤ length rs
-unfolding pastRows
-past-fewer [] n = omega arith
-past-fewer (r ∷ rs) zero = omega arith
-past-fewer (r ∷ rs) (suc n) = let h = past-fewer rs (owed (lineOf r) + n) in omega arith
-
 pub rest-fewer : (rs rest : Rows) → rest ≡ restOf rs → length rest ≤ length rs
 unfolding restOf
 rest-fewer [] rest e = rw e (omega arith)
 rest-fewer (r ∷ rs) rest e = rw e (omega arith)
 
-pub nested-fewer : (rs rest q : Rows) (n : ℕ) → rest ≡ restOf rs → q ≡ pastRows rest n → length q ≤ length rs
-nested-fewer rs rest q n e f =
-    let g = rest-fewer rs rest e in let h = past-fewer rest n in rw f (omega arith)
+pub nested-fewer : (s : Str) (rs : Rows) (next past : ℕ) → rows (drop next s) ≡ restOf rs → next ≤ past
+    → length (rows (drop past s)) ≤ length rs
+nested-fewer s rs next past e l = omega (arith, rest-fewer rs (rows (drop next s)) e, rows-fewer s next past l)
 
 -- what the code says of the row that stands first, and the rows after it
 module _ (s : Str) (r : TypeSpan) (rs rest : Rows) (l : Line) (here : lineSaid l ≡ lineAt rs) (after : rest ≡ restOf rs) where
@@ -96,8 +92,9 @@ module _ (s : Str) (r : TypeSpan) (rs rest : Rows) (l : Line) (here : lineSaid l
   type-other other = rw (← here, not-type {A = Reader _} l _ _ other) tt
 
   module _ (k a b c : ℕ) (is : l ≡ line.Typ k a b c) (id : r .id ≡ a) where
-    past-is : rows (drop (r .past) s) ≡ pastRows rest (owed (lineSaid l)) → rows (drop (r .past) s) ≡ pastRows rs 1
-    past-is h = h ∙ sym (rw (add-zero, ← here, ← after) at (past-next rs 0))
+    past-is : Past rest (owed (lineSaid l)) (rows (drop (r .past) s)) → Past rs 1 (rows (drop (r .past) s))
+    past-is h = λ p.
+        h (rw (add-zero, ← here, ← after) at (parts-next rs 0 p .1)) ∙ sym (rw (add-zero, ← here, ← after) at (past-next rs 0))
 
     id-is : r .id ≡ idAt rs
     unfolding lineSaid
@@ -110,21 +107,22 @@ module _ (s : Str) (r : TypeSpan) (rs rest : Rows) (l : Line) (here : lineSaid l
     pub type-plain : r .kind ≡ k → k < 14 → rows (drop (r .past) s) ≡ rest → Gets (readType 16 rs) (TypeIs s r)
     unfolding lineSaid owed
     type-plain e h p =
-        type-gets s r rs (below (omega arith) e) id-is (past-is (p ∙ rw (is, lt-ltb k 14 h) (sym (past-none rest))))
+        type-gets s r rs (below (omega arith) e) id-is (past-is (λ _. p ∙ rw (is, lt-ltb k 14 h) (sym (past-none rest))))
 
-    pub type-list : r .kind ≡ k → k ≡ 14 → rows (drop (r .past) s) ≡ pastRows rest 1 → Gets (readType 16 rs) (TypeIs s r)
+    pub type-list : r .kind ≡ k → k ≡ 14 → Past rest 1 (rows (drop (r .past) s)) → Gets (readType 16 rs) (TypeIs s r)
     unfolding lineSaid owed
     type-list e h p =
-        type-gets s r rs (below (omega arith) e) id-is (past-is (p ∙ rw (is, le-ltb k 14 (omega arith), eq-eqb k 14 h) refl))
+        type-gets s r rs (below (omega arith) e) id-is (past-is (rw (is, le-ltb k 14 (omega arith), eq-eqb k 14 h) p))
 
-    pub type-brand : r .kind ≡ k → 14 ≤ k → (k ≡ 14 → ⊥) → k < 18 → rows (drop (r .past) s) ≡ pastRows rest b
+    pub type-brand : r .kind ≡ k → 14 ≤ k → (k ≡ 14 → ⊥) → k < 18 → Past rest b (rows (drop (r .past) s))
         → Gets (readType 16 rs) (TypeIs s r)
     unfolding lineSaid owed
     type-brand e h n u p =
-        type-gets s r rs (below u e) id-is (past-is (p ∙ rw (is, le-ltb k 14 h, ne-eqb k 14 n, lt-ltb k 18 u) refl))
+        type-gets s r rs (below u e) id-is (past-is (rw (is, le-ltb k 14 h, ne-eqb k 14 n, lt-ltb k 18 u) p))
 
     pub type-pointer : r .kind ≡ 18 → 18 ≤ k → rows (drop (r .past) s) ≡ rest → Gets (readType 16 rs) (TypeIs s r)
     unfolding lineSaid owed
     type-pointer e h p =
         type-gets s r rs (e ∙ rw (← here, is, le-ltb k 18 h) refl) id-is
-        (past-is (p ∙ rw (is, le-ltb k 14 (omega arith), ne-eqb k 14 (λ z. omega arith), le-ltb k 18 h) (sym (past-none rest))))
+        (past-is (λ _. p
+        ∙ rw (is, le-ltb k 14 (omega arith), ne-eqb k 14 (λ z. omega arith), le-ltb k 18 h) (sym (past-none rest))))

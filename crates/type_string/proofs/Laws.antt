@@ -38,7 +38,7 @@ use Rattle.codegen_types.specs.declared.Leaf.the-variants.{Owned}
 use Rattle.codegen_types.specs.declared.Written.{Written}
 use Rattle.codegen_types.proofs.Laws.{refusal-then, brand-chain}
 use Rattle.codegen_types.proofs.WrittenLaws.{not-ok, ok-one, text-of, around}
-use Rattle.types.specs.Find.{pastRows, ScopeAt, before, endOf, ChainOf, LastScopes}
+use Rattle.types.specs.Find.{Past, ScopeAt, before, endOf, ChainOf, LastScopes}
 use Rattle.types.specs.declared.Links.{Links}
 use Rattle.types.proofs.ChainLaws.{before-step, before-out}
 use Rattle.types.proofs.ScopeLaws.{placed, scope-there}
@@ -292,7 +292,7 @@ binds-none sheet left n rs l p f h e =
 abbrev args : Text → ℕ → Arguments
 args t b = record { text = t; sep = b }
 
-module _ (sheet : Sheet) (left n : ℕ) (rs rest : Rows) (more : 0 < n) (past : rest ≡ pastRows rs 1) (l : List ℕ) (p : Arguments)
+module _ (sheet : Sheet) (left n : ℕ) (rs rest : Rows) (more : 0 < n) (past : Past rs 1 rest) (l : List ℕ) (p : Arguments)
     (l₁ : List ℕ) (t₁ : Text) (l₂ : List ℕ) (w : Written) (a : Wrote l (p .text) (unit (p .sep)) l₁ t₁)
     (one : On (readBinding (readType left) rs) (λ f. Writes (onlyOf (bindingsOf (f stop) sheet)) l₁ t₁ l₂ w))
     (l′ : List ℕ) (r : Argued) where

@@ -1,6 +1,6 @@
 -- Laws of what stands where in a sheet: what a reader reads is passed over by counting what is owed, and of a brand's scopes the
 -- last with an id counts. By induction on levels, counts and rows. Assumes nothing.
-use mathlib.Core.Path.{_≡_, refl, sym, ap, _∙_}
+use mathlib.Core.Path.{_≡_, refl, sym, _∙_}
 use mathlib.Core.Bool.{Bool, true, false}
 use mathlib.Core.List.{List, [], _∷_, _++_}
 use mathlib.Core.Option.{Option, none, some}
@@ -11,7 +11,7 @@ use native.Mathlib.Omega.{arith}
 use borrow.Author.Tests.{eq-eqb, ne-eqb}
 use lib.Dec.{eqb, ltb}
 use lib.ListN.{length, drop, length-drop}
-use package.types.Run.{OneOf, miss}
+use package.types.Run.{OneOf}
 use denote.Enum.Declared.{tagOf}
 use Rattle.row.proofs.Line.{the-type}
 use Rattle.row.proofs.Laws.{rows-out, rows-length}
@@ -21,7 +21,8 @@ use Rattle.row.specs.Rows.{rows, restOf, unboundRows}
 use Rattle.row.specs.Line.{lineSaid, lineOf, lineAt, reader, unboundLine, asType, asScope, asUnbound}
 use Rattle.row.specs.Line.{Content, Root, Node, Parameter, Field, Group, Typ, Scope, Unbound, Value, Word, Bad}
 use Rattle.row.specs.declared.Line.{Line}
-use Rattle.row.specs.declared.Line.the-variants as variant
+use Rattle.row.specs.declared.Owing.{Owing}
+use Rattle.row.specs.Part.{owed, isPart, PartAt}
 use Rattle.tree.specs.Tree as tree
 use Rattle.tree.specs.Tree.{Ty, Scopes, Binds, Sheet, end, stop, bound, inherit, bind}
 use Rattle.tree.specs.Reader.{Rows, Reading, got, no, Reader, _then_, mapR, times, onType, On, Has}
@@ -29,7 +30,7 @@ use Rattle.tree.specs.Read as read
 use Rattle.tree.specs.Read.{readType, typeFrom, readBinding}
 use Rattle.codegen_types.specs.TypeString as typeString
 use Rattle.codegen_types.specs.TypeString.{orElse, scopeOf, scopesOf, bindingsOf}
-use Rattle.types.specs.Find.{After, owed, pastRows, lastScope, ScopeHere, ScopeIs}
+use Rattle.types.specs.Find.{After, pastRows, AllParts, Past, lastScope, ScopeHere, ScopeIs}
 
 -- what holds for a letter's lines and for all others
 pub as-type : {A : Type 0} (P : A → Type 0) (l : Content) (y : (ℕ → ℕ → ℕ → ℕ → A)) (z : A)
@@ -124,182 +125,229 @@ past-out [] n h = refl
 past-out (r ∷ rs) zero h = let z : ⊥ = omega arith in absurd z
 past-out (r ∷ rs) (suc n) h = past-out rs (owed (lineOf r) + n) (omega arith)
 
+parts-none : (rs : Rows) → AllParts rs 0
+unfolding AllParts
+parts-none [] = tt
+parts-none (r ∷ rs) = tt
+
+pub parts-next : (rs : Rows) (n : ℕ) → AllParts rs (suc n)
+    → (isPart (lineAt rs) ≡ true) × AllParts (restOf rs) (owed (lineAt rs) + n)
+unfolding AllParts restOf lineAt
+parts-next [] n h = absurd h
+parts-next (r ∷ rs) n h = h
+
+parts-row : (rs : Rows) (n : ℕ) → isPart (lineAt rs) ≡ true → AllParts (restOf rs) (owed (lineAt rs) + n) → AllParts rs (suc n)
+unfolding AllParts restOf lineAt
+parts-row [] n p h = let z : _≡_ {A = ℕ} 0 1 = cc in let y : ⊥ = omega arith in absurd y
+parts-row (r ∷ rs) n p h = (p, h)
+
+-- the first of some rows that are all there, and those after them
+pub parts-split : (rs : Rows) (m n : ℕ) → AllParts rs (m + n) → AllParts rs m × AllParts (pastRows rs m) n
+unfolding AllParts pastRows
+parts-split [] zero n h = (tt, rw zero-add at h)
+parts-split [] (suc m) n h = absurd (rw (suc-add m n, AllParts) at h)
+parts-split (r ∷ rs) zero n h = (tt, rw zero-add at h)
+parts-split (r ∷ rs) (suc m) n h =
+    let g = rw (suc-add m n, AllParts) at h in
+    let e : owed (lineOf r) + (m + n) ≡ owed (lineOf r) + m + n = omega arith in
+    let w = parts-split rs (owed (lineOf r) + m) n (rw e at (g .1)) in
+    ((g .0, w .0), w .1)
+
+-- what stands after m types, scopes or bindings stands after n of the rows `rest`, and if those are there so are these
+record Leads (rs : Rows) (m : ℕ) (rest : Rows) (n : ℕ) : Type 0 where
+  past : pastRows rs m ≡ pastRows rest n
+  parts : AllParts rest n → AllParts rs m
+
+same : (rs : Rows) (n : ℕ) → Leads rs n rs n
+same rs n = record { past = refl; parts = λ h. h }
+
+infixr 40 _to_
+_to_ : {rs q rest : Rows} {m j n : ℕ} → Leads rs m q j → Leads q j rest n → Leads rs m rest n
+v to w = record { past = v .past ∙ w .past; parts = λ h. v .parts (w .parts h) }
+
+-- one row
+leads-row : (rs : Rows) (n m : ℕ) → isPart (lineAt rs) ≡ true → owed (lineAt rs) + n ≡ m → Leads rs (suc n) (restOf rs) m
+leads-row rs n m p e = record { past = past-next rs n ∙ rw e refl; parts = λ h. parts-row rs n p (rw e h) }
+
 -- a reader reads what counts as one
 abbrev Passes : {A : Type 0} → Reader A → Type 0
-Passes one = (n : ℕ) (rs : Rows) → After (one rs) (λ rest. pastRows rs (suc n) ≡ pastRows rest n)
+Passes one = (n : ℕ) (rs : Rows) → After (one rs) (λ rest. Leads rs (suc n) rest n)
 
 passes-times : {A : Type 0} (one : Reader (A → A)) (base : A) → Passes one → (k n : ℕ) (rs : Rows)
-    → After (times one base k rs) (λ rest. pastRows rs (k + n) ≡ pastRows rest n)
+    → After (times one base k rs) (λ rest. Leads rs (k + n) rest n)
 unfolding times
-passes-times one base h zero n rs = rw zero-add
+passes-times one base h zero n rs = rw zero-add (same rs n)
 passes-times {A} one base h (suc k) n rs = rw suc-add (go (passes-times one base h k n) (one rs) (h (k + n) rs))
   where
-    go : ((rs : Rows) → After (times one base k rs) (λ rest. pastRows rs (k + n) ≡ pastRows rest n)) → (g : Reading (A → A))
-        → After g (λ rest. pastRows rs (suc (k + n)) ≡ pastRows rest (k + n))
-        → After (g then λ f. mapR f (times one base k)) (λ rest. pastRows rs (suc (k + n)) ≡ pastRows rest n)
+    go : ((rs : Rows) → After (times one base k rs) (λ rest. Leads rs (k + n) rest n)) → (g : Reading (A → A))
+        → After g (λ rest. Leads rs (suc (k + n)) rest (k + n))
+        → After (g then λ f. mapR f (times one base k)) (λ rest. Leads rs (suc (k + n)) rest n)
     go ih (got f q) e =
-        after-map f (λ rest. pastRows rs (suc (k + n)) ≡ pastRows rest n) (times one base k q)
-        (after-one (λ rest. pastRows q (k + n) ≡ pastRows rest n) (λ rest. pastRows rs (suc (k + n)) ≡ pastRows rest n)
-        (times one base k q) (λ rest i. e ∙ i) (ih q))
+        after-map f (λ rest. Leads rs (suc (k + n)) rest n) (times one base k q)
+        (after-one (λ rest. Leads q (k + n) rest n) (λ rest. Leads rs (suc (k + n)) rest n)
+        (times one base k q) (λ rest i. e to i) (ih q))
     go ih (no j q) e = tt
 
 passes-binding : (ty : Reader Ty) → Passes ty → Passes (readBinding ty)
 unfolding readBinding owed
 passes-binding ty h n rs =
-    as-unbound (λ (f : Reader (Binds → Binds)). After (f rs) (λ rest. pastRows rs (suc n) ≡ pastRows rest n)) (lineAt rs) _ _
-    (λ e. past-next rs n ∙ rw (e, zero-add))
-    (after-map (λ t bs. bound t bs) (λ rest. pastRows rs (suc n) ≡ pastRows rest n) (ty rs) (h n rs))
+    as-unbound (λ (f : Reader (Binds → Binds)). After (f rs) (λ rest. Leads rs (suc n) rest n)) (lineAt rs) _ _
+    (λ e. leads-row rs n n (rw e) (rw (e, zero-add)))
+    (after-map (λ t bs. bound t bs) (λ rest. Leads rs (suc n) rest n) (ty rs) (h n rs))
 
 passes-scope : (ty : Reader Ty) → Passes ty → Passes (read.readScope ty)
 unfolding read.readScope owed
 passes-scope ty h n rs =
-    as-scope (λ (f : Reader (Scopes → Scopes)). After (f rs) (λ rest. pastRows rs (suc n) ≡ pastRows rest n)) (lineAt rs) _ _
+    as-scope (λ (f : Reader (Scopes → Scopes)). After (f rs) (λ rest. Leads rs (suc n) rest n)) (lineAt rs) _ _
     (λ i b c e. go i b c e (eqb b 0) refl)
     tt
   where
     go : (i b c : ℕ) → lineAt rs ≡ Scope i b c → (t : Bool) → eqb b 0 ≡ t
         → After {A = Scopes → Scopes} (cond t (got (λ ss. inherit i ss))
         (mapR (λ bs ss. bind i bs ss) (times (readBinding ty) stop c)) (restOf rs))
-        (λ rest. pastRows rs (suc n) ≡ pastRows rest n)
-    go i b c e true z = past-next rs n ∙ rw (e, z, zero-add)
+        (λ rest. Leads rs (suc n) rest n)
+    go i b c e true z = leads-row rs n n (rw e) (rw (e, z, zero-add))
     go i b c e false z =
-        after-map (λ bs ss. bind i bs ss) (λ rest. pastRows rs (suc n) ≡ pastRows rest n)
+        after-map (λ bs ss. bind i bs ss) (λ rest. Leads rs (suc n) rest n)
         (times (readBinding ty) stop c (restOf rs))
-        (after-one (λ rest. pastRows (restOf rs) (c + n) ≡ pastRows rest n) (λ rest. pastRows rs (suc n) ≡ pastRows rest n)
+        (after-one (λ rest. Leads (restOf rs) (c + n) rest n) (λ rest. Leads rs (suc n) rest n)
         (times (readBinding ty) stop c (restOf rs))
-        (λ rest j. past-next rs n ∙ rw (e, z) j) (passes-times (readBinding ty) stop (passes-binding ty h) c n (restOf rs)))
+        (λ rest j. leads-row rs n (c + n) (rw e) (rw (e, z)) to j)
+        (passes-times (readBinding ty) stop (passes-binding ty h) c n (restOf rs)))
 
-pub passes-type : (left : ℕ) → Passes (readType left)
+passes-type : (left : ℕ) → Passes (readType left)
 unfolding readType typeFrom owed
 passes-type zero n rs =
-    as-type (λ (f : Reader Ty). After (f rs) (λ rest. pastRows rs (suc n) ≡ pastRows rest n)) (lineAt rs) _ _ (λ k a b c e. tt)
-    tt
+    as-type (λ (f : Reader Ty). After (f rs) (λ rest. Leads rs (suc n) rest n)) (lineAt rs) _ _ (λ k a b c e. tt) tt
 passes-type (suc l) n rs = made (passes-type l)
   where
     go : Passes (readType l) → (k a b c : ℕ) → lineAt rs ≡ Typ k a b c → (x y z : Bool) → ltb k 14 ≡ x → eqb k 14 ≡ y
         → ltb k 18 ≡ z
         → After (cond x (got (tree.plain k)) (cond y (mapR (λ t. tree.list t) (readType l))
         (cond z (mapR (read.branded k a) (times (read.readScope (readType l)) end b)) (got (read.pointer a b c)))) (restOf rs))
-        (λ rest. pastRows rs (suc n) ≡ pastRows rest n)
-    go ih k a b c e true y z p q r = past-next rs n ∙ rw (e, p, zero-add)
+        (λ rest. Leads rs (suc n) rest n)
+    go ih k a b c e true y z p q r = leads-row rs n n (rw e) (rw (e, p, zero-add))
     go ih k a b c e false true z p q r =
-        after-map (λ t. tree.list t) (λ rest. pastRows rs (suc n) ≡ pastRows rest n) (readType l (restOf rs))
-        (after-one (λ rest. pastRows (restOf rs) (suc n) ≡ pastRows rest n) (λ rest. pastRows rs (suc n) ≡ pastRows rest n)
-        (readType l (restOf rs))
-        (λ rest j. past-next rs n ∙ rw (e, p, q, one-add) j) (ih n (restOf rs)))
+        after-map (λ t. tree.list t) (λ rest. Leads rs (suc n) rest n) (readType l (restOf rs))
+        (after-one (λ rest. Leads (restOf rs) (suc n) rest n) (λ rest. Leads rs (suc n) rest n) (readType l (restOf rs))
+        (λ rest j. leads-row rs n (suc n) (rw e) (rw (e, p, q, one-add)) to j) (ih n (restOf rs)))
     go ih k a b c e false false true p q r =
-        after-map (read.branded k a) (λ rest. pastRows rs (suc n) ≡ pastRows rest n)
+        after-map (read.branded k a) (λ rest. Leads rs (suc n) rest n)
         (times (read.readScope (readType l)) end b (restOf rs))
-        (after-one (λ rest. pastRows (restOf rs) (b + n) ≡ pastRows rest n) (λ rest. pastRows rs (suc n) ≡ pastRows rest n)
+        (after-one (λ rest. Leads (restOf rs) (b + n) rest n) (λ rest. Leads rs (suc n) rest n)
         (times (read.readScope (readType l)) end b (restOf rs))
-        (λ rest j. past-next rs n ∙ rw (e, p, q, r) j) (passes-times (read.readScope (readType l)) end (passes-scope
-        (readType l) ih)
-        b n (restOf rs)))
-    go ih k a b c e false false false p q r = past-next rs n ∙ rw (e, p, q, r, zero-add)
+        (λ rest j. leads-row rs n (b + n) (rw e) (rw (e, p, q, r)) to j)
+        (passes-times (read.readScope (readType l)) end (passes-scope (readType l) ih) b n (restOf rs)))
+    go ih k a b c e false false false p q r = leads-row rs n n (rw e) (rw (e, p, q, r, zero-add))
 
-    made : Passes (readType l) → After (onType (typeFrom (readType l)) (no 2) rs) (λ rest. pastRows rs (suc n) ≡ pastRows rest n)
+    made : Passes (readType l) → After (onType (typeFrom (readType l)) (no 2) rs) (λ rest. Leads rs (suc n) rest n)
     made ih =
-        as-type (λ (f : Reader Ty). After (f rs) (λ rest. pastRows rs (suc n) ≡ pastRows rest n)) (lineAt rs) _ _
+        as-type (λ (f : Reader Ty). After (f rs) (λ rest. Leads rs (suc n) rest n)) (lineAt rs) _ _
         (λ k a b c e. go ih k a b c e (ltb k 14) (eqb k 14) (ltb k 18) refl refl refl) tt
 
--- the rows after a type
+-- the rows after what counts as one, and its own rows
+past-one : {A : Type 0} (one : Reader A) → Passes one → (rs : Rows) → After (one rs) (λ rest. pastRows rs 1 ≡ rest)
+past-one one h rs =
+    after-one (λ rest. Leads rs 1 rest 0) (λ rest. pastRows rs 1 ≡ rest) (one rs) (λ rest w. w .past ∙ past-none rest) (h 0 rs)
+
+parts-read : {A : Type 0} (rs : Rows) (m : ℕ) (g : Reading A) → After g (λ rest. Leads rs m rest 0) → On g (λ a. AllParts rs m)
+parts-read rs m (got a rest) w = w .parts (parts-none rest)
+parts-read rs m (no k rest) w = tt
+
+-- of a type
 pub past-type : (left : ℕ) (rs : Rows) → After (readType left rs) (λ rest. pastRows rs 1 ≡ rest)
-past-type left rs =
-    after-one (λ rest. pastRows rs 1 ≡ pastRows rest 0) (λ rest. pastRows rs 1 ≡ rest) (readType left rs)
-    (λ rest e. e ∙ past-none rest) (passes-type left 0 rs)
+past-type left rs = past-one (readType left) (passes-type left) rs
 
--- the rows after a binding
+pub type-parts : (left : ℕ) (rs : Rows) → On (readType left rs) (λ t. AllParts rs 1)
+type-parts left rs = parts-read rs 1 (readType left rs) (passes-type left 0 rs)
+
+-- of a binding
 pub past-binding : (left : ℕ) (rs : Rows) → After (readBinding (readType left) rs) (λ rest. pastRows rs 1 ≡ rest)
-past-binding left rs =
-    after-one (λ rest. pastRows rs 1 ≡ pastRows rest 0) (λ rest. pastRows rs 1 ≡ rest) (readBinding (readType left) rs)
-    (λ rest e. e ∙ past-none rest) (passes-binding (readType left) (passes-type left) 0 rs)
+past-binding left rs = past-one (readBinding (readType left)) (passes-binding (readType left) (passes-type left)) rs
 
--- the rows after a scope
+pub binding-parts : (left : ℕ) (rs : Rows) → On (readBinding (readType left) rs) (λ f. AllParts rs 1)
+binding-parts left rs =
+    parts-read rs 1 (readBinding (readType left) rs) (passes-binding (readType left) (passes-type left) 0 rs)
+
+-- of scopes
 past-scope : (left : ℕ) (rs : Rows) → After (read.readScope (readType left) rs)
     (λ rest. pastRows (restOf rs) (owed (lineAt rs)) ≡ rest)
 past-scope left rs =
-    after-one (λ rest. pastRows rs 1 ≡ pastRows rest 0) (λ rest. pastRows (restOf rs) (owed (lineAt rs)) ≡ rest)
+    after-one (λ rest. pastRows rs 1 ≡ rest) (λ rest. pastRows (restOf rs) (owed (lineAt rs)) ≡ rest)
     (read.readScope (readType left) rs)
-    (λ rest e. rw add-zero at (sym (past-next rs 0)) ∙ e ∙ past-none rest) (passes-scope (readType left) (passes-type left) 0 rs)
+    (λ rest e. rw add-zero at (sym (past-next rs 0)) ∙ e)
+    (past-one (read.readScope (readType left)) (passes-scope (readType left) (passes-type left)) rs)
 
--- a row that owes nothing
-pub owed-none : (l : Line) → OneOf (0 ∷ 1 ∷ 2 ∷ 3 ∷ 4 ∷ 7 ∷ 8 ∷ 9 ∷ 10 ∷ []) (tagOf the-type l) → owed (lineSaid l) ≡ 0
-unfolding lineSaid owed
-owed-none (variant.Typ k a b c) h = absurd (miss (0 ∷ 1 ∷ 2 ∷ 3 ∷ 4 ∷ 7 ∷ 8 ∷ 9 ∷ 10 ∷ []) 5 tt h)
-owed-none (variant.Scope i b c) h = absurd (miss (0 ∷ 1 ∷ 2 ∷ 3 ∷ 4 ∷ 7 ∷ 8 ∷ 9 ∷ 10 ∷ []) 6 tt h)
-owed-none variant.Root h = refl
-owed-none (variant.Node i q k x y c o) h = refl
-owed-none variant.Parameter h = refl
-owed-none (variant.Field o d e q) h = refl
-owed-none (variant.Group i d) h = refl
-owed-none variant.Unbound h = refl
-owed-none (variant.Value k b) h = refl
-owed-none (variant.Word x) h = refl
-owed-none variant.Bad h = refl
+pub scopes-parts : (left n : ℕ) (rs : Rows) → On (times (read.readScope (readType left)) end n rs) (λ ss. AllParts rs n)
+scopes-parts left n rs =
+    parts-read rs n (times (read.readScope (readType left)) end n rs)
+    (rw add-zero at (passes-times (read.readScope (readType left)) end (passes-scope (readType left) (passes-type left)) n 0 rs))
 
--- one turn of passing over rows: n rows are owed at a position, and the row there owes more
-past-turn : (rs : Rows) (n : ℕ) → 0 < n → pastRows rs n ≡ pastRows (restOf rs) (owed (lineAt rs) + (n - 1))
-past-turn rs zero h = let z : ⊥ = omega arith in absurd z
-past-turn rs (suc n) h = rw (sub-one (suc n)) (past-next rs n)
+-- ---- the walk that passes over rows
 
-pub past-on : (rs rest : Rows) (n m : ℕ) (l : Content) → 0 < n → l ≡ lineAt rs → rest ≡ restOf rs → m ≡ owed l
-    → pastRows rs n ≡ pastRows rest (m + (n - 1))
-past-on rs rest n m l h e f g = past-turn rs n h ∙ rw (← e, ← f, ← g) refl
+-- m types, scopes or bindings from the rows rs on are n from the rows `rest` on, if they are there
+pub record Onward (rs : Rows) (m : ℕ) (rest : Rows) (n : ℕ) : Type 0 where
+  pub past : AllParts rs m → pastRows rs m ≡ pastRows rest n
+  pub parts : AllParts rs m → AllParts rest n
 
--- more is owed than a text can have rows
-pub past-far : (s : Str) (at n : ℕ) → length s ≤ n → rows (drop (length s) s) ≡ pastRows (rows (drop at s)) n
-past-far s at n h =
-    rows-out s (length s) (omega arith) ∙ sym (past-out (rows (drop at s)) n
-    (omega (arith, rows-length (drop at s), length-drop at s)))
+pub onward-start : (rs : Rows) (n : ℕ) → Onward rs n rs n
+onward-start rs n = record { past = λ h. refl; parts = λ h. h }
 
-pub past-done : (rs : Rows) (n : ℕ) → n ≤ 0 → pastRows rs n ≡ rs
-past-done rs n h = let z : n ≡ 0 = omega arith in rw z (past-none rs)
+infixl 40 _on_
+pub _on_ : {rs q rest : Rows} {m j n : ℕ} → Onward rs m q j → Onward q j rest n → Onward rs m rest n
+v on w = record { past = λ h. v .past h ∙ w .past (v .parts h); parts = λ h. w .parts (v .parts h) }
 
-pub past-end : (s : Str) (at n : ℕ) → length s ≤ at → rows (drop at s) ≡ pastRows (rows (drop at s)) n
-unfolding pastRows
-past-end s at n h = rw (rows-out s at h)
+-- one row
+onward-one : (rs : Rows) (n : ℕ) → Onward rs (suc n) (restOf rs) (owed (lineAt rs) + n)
+onward-one rs n = record { past = λ h. past-next rs n; parts = λ h. parts-next rs n h .1 }
+
+-- a row that is not read
+pub onward-row : (s : Str) (at : ℕ) (o : Owing) (n : ℕ) → PartAt s at o → 0 < n
+    → Onward (rows (drop at s)) n (rows (drop (o .next) s)) (o .owed + (n - 1))
+onward-row s at o zero w h = let z : ⊥ = omega arith in absurd z
+onward-row s at o (suc n) w h = record {
+  past = λ p. let e = parts-next (rows (drop at s)) n p .0 in
+      past-next (rows (drop at s)) n ∙ rw (sub-one (suc n), w .rest e, w .owes e) refl;
+  parts = λ p. let e = parts-next (rows (drop at s)) n p in rw (sub-one (suc n), w .rest (e .0), w .owes (e .0)) (e .1);
+}
 
 -- a run of U rows: each counts as one, and owes nothing
-owed-unbound : owed (lineOf (85 ∷ 10 ∷ [])) ≡ 0
-unfolding owed lineOf reader unboundLine
-owed-unbound = refl
+run-on : (r : ℕ) (rs : Rows) (n : ℕ) → r ≤ n → Onward (unboundRows r ++ rs) n rs (n - r)
+unfolding unboundRows restOf lineAt owed lineOf reader unboundLine
+run-on zero rs n h = let e : n - 0 ≡ n = omega arith in rw e (onward-start rs n)
+run-on (suc r) rs zero h = let z : ⊥ = omega arith in absurd z
+run-on (suc r) rs (suc n) h =
+    let e : suc n - suc r ≡ n - r = omega arith in
+    let first : Onward (unboundRows (suc r) ++ rs) (suc n) (unboundRows r ++ rs) n =
+    rw zero-add at (onward-one (unboundRows (suc r) ++ rs) n) in
+    rw e (first on run-on r rs n (omega arith))
 
-pub past-run : (r : ℕ) (rs : Rows) (n : ℕ) → r ≤ n → pastRows (unboundRows r ++ rs) n ≡ pastRows rs (n - r)
-unfolding pastRows unboundRows
-past-run zero rs n h = ap (pastRows rs) (omega arith)
-past-run (suc r) rs zero h = let z : ⊥ = omega arith in absurd z
-past-run (suc r) rs (suc n) h =
-    ap (pastRows (unboundRows r ++ rs)) none-owed ∙ past-run r rs n (omega arith) ∙ ap (pastRows rs) same
-  where
-    none-owed : owed (lineOf (85 ∷ 10 ∷ [])) + n ≡ n
-    none-owed = rw (owed-unbound) (zero-add n)
-
-    same : n - r ≡ suc n - suc r
-    same = omega arith
-
--- the same from a position on, with the rows that are left
-pub run-past : (rs rest : Rows) (r n : ℕ) → r ≤ n → rs ≡ unboundRows r ++ rest → pastRows rs n ≡ pastRows rest (n - r)
-run-past rs rest r n h e = rw e (past-run r rest n h)
-
--- one row at least is passed over, where there is one
-pub run-fewer : (rs rest : Rows) (r : ℕ) → length (restOf rs) < length rs → rs ≡ unboundRows r ++ rest
-    → length (restOf rest) < length rs
-unfolding unboundRows restOf
-run-fewer rs rest zero h e = rw (← e) h
-run-fewer rs rest (suc r) h e = rw e (more r)
-  where
-    fewer : (rs : Rows) → length (restOf rs) ≤ length rs
-    fewer [] = omega arith
-    fewer (x ∷ rs) = omega arith
-
-    more : (r : ℕ) → length (restOf rest) < suc (length (unboundRows r ++ rest))
-    more zero = let z = fewer rest in omega arith
-    more (suc r) = let z = more r in omega arith
+pub onward-run : (rs rest : Rows) (r n : ℕ) → r ≤ n → rs ≡ unboundRows r ++ rest → Onward rs n rest (n - r)
+onward-run rs rest r n h e = rw e (run-on r rest n h)
 
 -- a run of U rows lies within the sheet
 pub run-in : (at r l : ℕ) → (0 < r → at + 2 * r ≤ l) → at < l → at + 2 * r ≤ l
 run-in at zero l h a = omega arith
 run-in at (suc r) l h a = h (omega arith)
+
+-- one byte at least is passed over, where there is one
+pub run-further : (s : Str) (at r : ℕ) (o : Owing) → at < length s → PartAt s (at + 2 * r) o → at < o .next
+run-further s at zero o h w = let e : at + 2 * 0 ≡ at = omega arith in rw e at (w .further) h
+run-further s at (suc r) o h w = omega (arith, w .after)
+
+-- where the walk comes to: nothing is owed, the sheet is at its end, or more is owed than it can have rows
+module _ {rs : Rows} {m : ℕ} where
+  pub past-done : {rest : Rows} {n : ℕ} → Onward rs m rest n → n ≤ 0 → Past rs m rest
+  past-done {rest} {n} w h = let z : n ≡ 0 = omega arith in λ p. sym (w .past p ∙ rw z (past-none rest))
+
+  pub past-end : (s : Str) (at n : ℕ) → Onward rs m (rows (drop at s)) n → length s ≤ at → Past rs m (rows (drop at s))
+  unfolding pastRows
+  past-end s at n w h = λ p. sym (w .past p ∙ rw (rows-out s at h))
+
+  pub past-far : (s : Str) (at n : ℕ) → Onward rs m (rows (drop at s)) n → length s ≤ n → Past rs m (rows (drop (length s) s))
+  past-far s at n w h = λ p.
+      rows-out s (length s) (omega arith) ∙ sym (w .past p ∙ past-out (rows (drop at s)) n
+      (omega (arith, rows-length (drop at s), length-drop at s)))
 
 -- ---- the scope that counts
 

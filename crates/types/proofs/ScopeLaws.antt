@@ -5,6 +5,7 @@ use mathlib.Core.List.{List, [], _∷_}
 use mathlib.Core.Option.{Option, none, some}
 use Prim.Native.Nat.{ℕ, zero, suc, _+_, _-_, _<_, _≤_}
 use native.Mathlib.Omega.{arith}
+use native.Mathlib.Numerals.{sub-one}
 use borrow.Author.Tests.{eq-eqb, ne-eqb, eqb-true, eqb-false}
 use lib.Dec.{eqb}
 use native.Mathlib.Decide.{ℕ-discrete}
@@ -14,6 +15,7 @@ use package.types.Run.{OneOf}
 use denote.Enum.Declared.{tagOf}
 use Rattle.row.proofs.Line.{the-type}
 use Rattle.row.proofs.Laws.{rows-out}
+use Rattle.row.proofs.PartLaws.{scope-owed}
 use Rattle.text.specs.Bytes.{Str, cond}
 use Rattle.row.specs.Rows.{rows, restOf}
 use Rattle.row.specs.Line as content
@@ -26,9 +28,11 @@ use Rattle.tree.specs.Read as read
 use Rattle.tree.specs.Read.{readType}
 use Rattle.codegen_types.specs.TypeString.{Scope, scopeOf, scopesOf}
 use Rattle.tree.proofs.OtherLines.{never}
-use Rattle.types.specs.Find.{lastScope, pastRows, owed}
+use Rattle.row.specs.Part.{owed}
+use Rattle.types.specs.Find.{lastScope, pastRows, AllParts, Past}
 use Rattle.types.specs.Find.{orNone, LastScopes, Noted, ScopeIs, ScopeAt, ScopeHere}
-use Rattle.types.proofs.Laws.{on-one, scope-counts, scope-none, scope-other, scope-this, scope-next}
+use Rattle.types.proofs.Laws.{on-two, parts-next, parts-split, scopes-parts}
+use Rattle.types.proofs.Laws.{scope-counts, scope-none, scope-other, scope-this, scope-next}
 
 -- ---- noting a position
 
@@ -104,10 +108,11 @@ last-or id (suc n) rs f g h = go (lineAt rs) (λ rest x y. last-or id n rest x y
     go (content.Word x) ih = h
     go content.Bad ih = h
 
--- n scopes are left from a position on, and these places are noted
+-- n scopes are left from a position on, and these places are noted, if the rows of all scopes are there
 pub record Passing (s : Str) (from count : ℕ) (ids : List ℕ) (at n : ℕ) (places : List ℕ) : Type 0 where
   pub size : length places ≡ 16
-  pub each : (k : ℕ) → k < length ids → k < 16
+  pub parts : AllParts (rows (drop from s)) count → AllParts (rows (drop at s)) n
+  pub each : AllParts (rows (drop from s)) count → (k : ℕ) → k < length ids → k < 16
       → orNone (lastScope (getD ids k 0) count (rows (drop from s)) none)
       ≡ orNone (lastScope (getD ids k 0) n (rows (drop at s)) (some (rows (drop (getD places k 0) s))))
 
@@ -115,7 +120,8 @@ module _ (s : Str) (from count : ℕ) (ids : List ℕ) where
   pub pass-start : Passing s from count ids from count (replicate 16 (length s))
   pass-start = record {
     size = length-replicate 16 (length s);
-    each = λ k x y. last-or (getD ids k 0) count (rows (drop from s)) none
+    parts = λ p. p;
+    each = λ p k x y. last-or (getD ids k 0) count (rows (drop from s)) none
         (some (rows (drop (getD (replicate 16 (length s)) k 0) s)))
         (rw (getD-replicate 16 k (length s) 0 y) (sym (rows-out s (length s) (omega arith))));
   }
@@ -123,23 +129,24 @@ module _ (s : Str) (from count : ℕ) (ids : List ℕ) where
   module _ (at n : ℕ) (places : List ℕ) (w : Passing s from count ids at n places) where
     pub pass-none : n ≤ 0 → LastScopes s from count ids places
     pass-none h = record {
-      each = λ k x y. sym ((w .each) k x y ∙ ap orNone (scope-none (getD ids k 0) n (rows (drop at s)) _ h));
+      each = λ p k x y. sym ((w .each) p k x y ∙ ap orNone (scope-none (getD ids k 0) n (rows (drop at s)) _ h));
     }
 
     pub pass-other : (l : Line) → lineSaid l ≡ lineAt (rows (drop at s))
         → OneOf (0 ∷ 1 ∷ 2 ∷ 3 ∷ 4 ∷ 5 ∷ 7 ∷ 8 ∷ 9 ∷ 10 ∷ []) (tagOf the-type l) → LastScopes s from count ids places
     pass-other l e h = record {
-      each = λ k x y. sym ((w .each) k x y ∙ ap orNone (scope-other (getD ids k 0) n (rows (drop at s)) _ l e h));
+      each = λ p k x y. sym ((w .each) p k x y ∙ ap orNone (scope-other (getD ids k 0) n (rows (drop at s)) _ l e h));
     }
 
     module _ (more : 0 < n) (l : Line) (e : lineSaid l ≡ lineAt (rows (drop at s))) (i b c : ℕ) (is : l ≡ line.Scope i b c)
         (after : List ℕ) (noted : Noted ids i at places after) where
       -- after this scope
-      turn-on : (rest : Rows) → rest ≡ pastRows (restOf (rows (drop at s))) (owed (lineSaid (line.Scope i b c))) → (k : ℕ)
+      turn-on : AllParts (rows (drop from s)) count → (rest : Rows)
+          → rest ≡ pastRows (restOf (rows (drop at s))) (owed (lineSaid (line.Scope i b c))) → (k : ℕ)
           → k < length ids → k < 16 → orNone (lastScope (getD ids k 0) count (rows (drop from s)) none)
           ≡ orNone (lastScope (getD ids k 0) (n - 1) rest (some (rows (drop (getD after k 0) s))))
       unfolding lineSaid
-      turn-on rest past k x y = (w .each) k x y ∙ go (eqb i (getD ids k 0)) refl
+      turn-on p rest past k x y = (w .each) p k x y ∙ go (eqb i (getD ids k 0)) refl
         where
           id : ℕ
           id = getD ids k 0
@@ -158,16 +165,40 @@ module _ (s : Str) (from count : ℕ) (ids : List ℕ) where
 
       pub pass-last : n ≡ 1 → LastScopes s from count ids after
       pass-last z = record {
-        each = λ k x y. sym (turn-on (pastRows (restOf (rows (drop at s))) (owed (lineSaid (line.Scope i b c)))) refl k x y
+        each = λ p k x y. sym (turn-on p (pastRows (restOf (rows (drop at s))) (owed (lineSaid (line.Scope i b c)))) refl k x y
             ∙ ap orNone (scope-none (getD ids k 0) (n - 1) _ _ (omega arith)));
       }
 
-      pub pass-next : (next m to : ℕ) → rows (drop next s) ≡ restOf (rows (drop at s)) → m ≡ owed (lineSaid (line.Scope i b c))
-          → rows (drop to s) ≡ pastRows (rows (drop next s)) m → Passing s from count ids to (n - 1) after
-      pass-next next m to f g h = record {
+      -- it owes its count; its bindings are there, and the scopes after them
+      here : lineAt (rows (drop at s)) ≡ content.Scope i b c
+      unfolding lineSaid
+      here = sym e ∙ ap lineSaid is
+
+      owes : owed (content.Scope i b c) ≡ c
+      owes = scope-owed (rows (drop at s)) i b c here
+
+      own-parts : AllParts (rows (drop from s)) count → AllParts (restOf (rows (drop at s))) c
+          × AllParts (pastRows (restOf (rows (drop at s))) c) (n - 1)
+      own-parts p = go n more (w .parts p)
+        where
+          go : (n : ℕ) → 0 < n → AllParts (rows (drop at s)) n → AllParts (restOf (rows (drop at s))) c
+              × AllParts (pastRows (restOf (rows (drop at s))) c) (n - 1)
+          go zero h q = let z : ⊥ = omega arith in absurd z
+          go (suc n) h q =
+              rw (sub-one (suc n)) (parts-split (restOf (rows (drop at s))) c n
+              (rw (here, owes) at (parts-next (rows (drop at s)) n q .1)))
+
+      pub pass-next : (next to : ℕ) → rows (drop next s) ≡ restOf (rows (drop at s))
+          → Past (rows (drop next s)) c (rows (drop to s)) → Passing s from count ids to (n - 1) after
+      unfolding lineSaid
+      pass-next next to f h = record {
         size = noted .size;
-        each = λ k x y. turn-on (rows (drop to s)) (h ∙ rw (f, g) refl) k x y;
+        parts = λ p. rw (to-is p) (own-parts p .1);
+        each = λ p k x y. turn-on p (rows (drop to s)) (to-is p ∙ rw owes refl) k x y;
       }
+        where
+          to-is : AllParts (rows (drop from s)) count → rows (drop to s) ≡ pastRows (restOf (rows (drop at s))) c
+          to-is p = rw f at h (own-parts p .0)
 
 -- ---- the scopes, for those who walk along the chain
 
@@ -185,14 +216,15 @@ pub placed : (left : ℕ) (sheet : Sheet) (s : Str) (from n : ℕ) (nodes places
     → On (times (read.readScope (readType left)) end n (rows (drop from s)))
     (λ ss. ScopeAt left sheet (rows (drop (getD places k 0) s)) (scopeOf (getD nodes k 0) (scopesOf ss sheet)))
 placed left sheet s from n nodes places count k w h f g =
-    rw ((w .each) k (rw (length-take-le count nodes g) h) (omega arith), getD-take count nodes k 0 h)
-    (on-one (λ ss. ScopeIs left sheet (lastScope (getD nodes k 0) n (rows (drop from s)) none)
+    on-two (λ ss. AllParts (rows (drop from s)) n)
+    (λ ss. ScopeIs left sheet (lastScope (getD nodes k 0) n (rows (drop from s)) none)
     (scopeOf (getD nodes k 0) (scopesOf ss sheet)))
-    (λ ss. ScopeAt left sheet (orNone (lastScope (getD nodes k 0) n (rows (drop from s)) none))
-    (scopeOf (getD nodes k 0) (scopesOf ss sheet)))
+    (λ ss. ScopeAt left sheet (rows (drop (getD places k 0) s)) (scopeOf (getD nodes k 0) (scopesOf ss sheet)))
     (times (read.readScope (readType left)) end n (rows (drop from s)))
-    (λ ss v. scope-at left sheet (lastScope (getD nodes k 0) n (rows (drop from s)) none)
-    (scopeOf (getD nodes k 0) (scopesOf ss sheet)) v) (scope-counts left (getD nodes k 0) sheet n (rows (drop from s))))
+    (λ ss p v. rw ((w .each) p k (rw (length-take-le count nodes g) h) (omega arith), getD-take count nodes k 0 h)
+    (scope-at left sheet (lastScope (getD nodes k 0) n (rows (drop from s)) none)
+    (scopeOf (getD nodes k 0) (scopesOf ss sheet)) v))
+    (scopes-parts left n (rows (drop from s))) (scope-counts left (getD nodes k 0) sheet n (rows (drop from s)))
 
 -- a scope's row stands at a place only where there is a scope
 pub scope-there : (left : ℕ) (sheet : Sheet) (q : Rows) (o : Option Scope) (l : Line) (i b m : ℕ) → lineSaid l ≡ lineAt q

@@ -30,9 +30,9 @@ use Rattle.codegen_types.specs.TypeString.{typeString, scopesOf, bindingsOf, an
 use Rattle.codegen_types.specs.TypeString.{elementLeaf}
 use Rattle.codegen_types.specs.declared.Leaf.{Leaf}
 use Rattle.codegen_types.specs.declared.Leaf.the-variants.{Owned}
-use Rattle.types.specs.Find.{After, kindAt, typeRow, TypeRowAt, pastRows, firstScope, ScopeHere}
+use Rattle.types.specs.Find.{After, kindAt, typeRow, TypeRowAt, pastRows, AllParts, Past, firstScope, ScopeHere}
 use Rattle.types.specs.declared.TypeRow.{TypeRow}
-use Rattle.types.proofs.Laws.{on-map, on-one, on-two, on-all, as-type, as-unbound, past-binding}
+use Rattle.types.proofs.Laws.{on-map, on-one, on-two, on-all, as-type, as-unbound, past-binding, binding-parts}
 
 -- ---- a type by its row
 
@@ -243,22 +243,22 @@ unfolding readBinding
 bind-typed left rs P l at other h = rw (← at, not-unbound l _ _ other) (on-map (λ t bs. bound t bs) P (readType left rs) h)
 
 -- one binding, and the others after it
-pub binds-more : (left n : ℕ) (rs rest : Rows) → 0 < n → rest ≡ pastRows rs 1
+pub binds-more : (left n : ℕ) (rs rest : Rows) → 0 < n → Past rs 1 rest
     → (P : (Binds → Binds) → Type 0) (Q R : Binds → Type 0)
     → On (readBinding (readType left) rs) P → On (times (readBinding (readType left)) stop (n - 1) rest) Q
     → ((f : Binds → Binds) → OneBind f → P f → (bs : Binds) → Q bs → R (f bs))
     → On (times (readBinding (readType left)) stop n rs) R
 binds-more left n rs rest more past P Q R first others law =
     rw (times-more (readBinding (readType left)) stop n rs more)
-    (go (readBinding (readType left) rs) first (one-bind left rs) (past-binding left rs))
+    (go (readBinding (readType left) rs) first (one-bind left rs) (past-binding left rs) (binding-parts left rs))
   where
-    go : (g : Reading (Binds → Binds)) → On g P → On g OneBind → After g (λ q. pastRows rs 1 ≡ q)
+    go : (g : Reading (Binds → Binds)) → On g P → On g OneBind → After g (λ q. pastRows rs 1 ≡ q) → On g (λ f. AllParts rs 1)
         → On (g then λ f. mapR f (times (readBinding (readType left)) stop (n - 1))) R
-    go (no k q) h o e = tt
-    go (got f q) h o e =
+    go (no k q) h o e all = tt
+    go (got f q) h o e all =
         on-map f R (times (readBinding (readType left)) stop (n - 1) q)
         (on-one Q (λ bs. R (f bs)) (times (readBinding (readType left)) stop (n - 1) q) (λ bs w. law f o h bs w)
-        (rw (past ∙ e) at others))
+        (rw (past all ∙ e) at others))
 
 -- ---- a scope by its row
 

@@ -1,6 +1,7 @@
 -- Where things stand in a sheet, told by rows: what follows a type or a scope, the scope of a brand that counts, and the chain of
 -- a node's parents. Assumes nothing.
 use mathlib.Core.Path.{_≡_}
+use mathlib.Core.Bool.{true}
 use mathlib.Core.List.{List, [], _∷_}
 use mathlib.Core.Option.{Option, none, some}
 use Prim.Native.Nat.{ℕ, zero, suc, _+_, _<_, _≤_}
@@ -9,6 +10,7 @@ use lib.ListN.{drop, take, length, getD}
 use Rattle.text.specs.Bytes.{Str, cond}
 use Rattle.row.specs.Rows.{rows, restOf}
 use Rattle.row.specs.Line.{Content, lineOf, lineAt, asType, asScope}
+use Rattle.row.specs.Part.{owed, isPart}
 use Rattle.tree.specs.Tree.{Node, Sheet, end}
 use Rattle.tree.specs.Reader.{Rows, Reading, got, no, On, Has}
 use Rattle.tree.specs.Read as read
@@ -54,17 +56,22 @@ pub record TypeRowAt (s : Str) (at : ℕ) (r : TypeRow) : Type 0 where
   pub row : r ≡ typeRow (lineAt (rows (drop at s))) (r .next)
   pub next : rows (drop (r .next) s) ≡ restOf (rows (drop at s))
 
--- how many types, scopes or bindings a line announces: a list one, a brand its scopes, a bind its bindings
-unfoldable pub owed : Content → ℕ
-owed l =
-    asType l (λ k a b c. cond (ltb k 14) 0 (cond (eqb k 14) 1 (cond (ltb k 18) b 0)))
-    (asScope l (λ i b n. cond (eqb b 0) 0 n) 0)
-
 -- the rows after n types, scopes or bindings
 unfoldable pub pastRows : Rows → ℕ → Rows
 pastRows [] n = []
 pastRows (r ∷ rs) zero = r ∷ rs
 pastRows (r ∷ rs) (suc n) = pastRows rs (owed (lineOf r) + n)
+
+-- the rows of n types, scopes or bindings are all there, each of them part of a type
+unfoldable pub AllParts : Rows → ℕ → Type 0
+AllParts [] zero = Unit {0}
+AllParts [] (suc n) = ⊥
+AllParts (r ∷ rs) zero = Unit {0}
+AllParts (r ∷ rs) (suc n) = (isPart (lineOf r) ≡ true) × AllParts rs (owed (lineOf r) + n)
+
+-- if they are, these are the rows after them
+abbrev pub Past : Rows → ℕ → Rows → Type 0
+Past rs n rest = AllParts rs n → rest ≡ pastRows rs n
 
 -- the rows from the last of n scopes with an id on; where there is none, those found before
 unfoldable pub lastScope : ℕ → ℕ → Rows → Option Rows → Option Rows
@@ -135,9 +142,10 @@ abbrev pub orNone : Option Rows → Rows
 orNone none = []
 orNone (some rs) = rs
 
--- the position of the last scope of each of these ids, of at most 16, and the sheet's end where there is none
+-- if the rows of so many scopes are there, the position of the last with each of these ids, of at most 16, and the sheet's end
+-- where there is none
 pub record LastScopes (s : Str) (from count : ℕ) (ids places : List ℕ) : Type 0 where
-  pub each : (k : ℕ) → k < length ids → k < 16
+  pub each : AllParts (rows (drop from s)) count → (k : ℕ) → k < length ids → k < 16
       → rows (drop (getD places k 0) s) ≡ orNone (lastScope (getD ids k 0) count (rows (drop from s)) none)
 
 -- a position is noted for each of these ids that is i

@@ -7,11 +7,12 @@ use row::Line;
 use terms::kinds;
 use terms::refusals;
 ghost use mathlib.Core.Path.{_≡_};
+ghost use Prim.Native.Nat.{_≤_};
 ghost use lib.ListN.{drop, length};
 ghost use Rattle.text.specs.Bytes.{Str};
 ghost use Rattle.row.specs.Rows.{rows};
 ghost use Rattle.row.specs.Line.{lineSaid};
-ghost use Rattle.types.specs.Find.{typeRow, TypeRowAt, kindAt, owed, pastRows, stepOf, ChainOf, LastScopes, Noted};
+ghost use Rattle.types.specs.Find.{typeRow, TypeRowAt, kindAt, Past, stepOf, ChainOf, LastScopes, Noted};
 
 // What a T row says of a type: its numbers, and where what belongs to it begins.
 pub struct TypeRow {
@@ -75,34 +76,11 @@ pub fn kind(s: &[u8], at: usize) -> u64
     }
 }
 
-// How many types, scopes or bindings follow a row that belong to it.
-fn owed(line: Line) -> u64
-    ensures { λ r. ⌜ r ≡ owed (lineSaid line) ⌝ }
-{
-    match line {
-        Line::Typ {
-            kind,
-            a: _,
-            b,
-            c: _,
-        } => match kind {
-            kinds::LIST => 1,
-            kinds::ENUM..=kinds::INTERFACE => b,
-            _ => 0,
-        },
-        Line::Scope { id: _, bind, count } => {
-            if bind == 0 {
-                return 0;
-            }
-            count
-        }
-        _ => 0,
-    }
-}
-
-// The position after so many types, scopes or bindings. A run of U rows is passed over at once.
+// The position after so many types, scopes or bindings, whose rows are known to be good: they are passed over by their length,
+// and a run of U rows at once.
 pub fn past(s: &[u8], from: usize, count: u64) -> usize
-    ensures { λ r. ⌜ rows (drop r (now (s .entry))) ≡ pastRows (rows (drop from (now (s .entry)))) count ⌝ }
+    ensures further { λ r. ⌜ from ≤ r ⌝ }
+    ensures rows { λ r. ⌜ Past (rows (drop from (now (s .entry)))) count (rows (drop r (now (s .entry)))) ⌝ }
 {
     let mut at = from;
     let mut n = count;
@@ -116,14 +94,12 @@ pub fn past(s: &[u8], from: usize, count: u64) -> usize
         if n == 0 {
             return at;
         }
-        let g = row::next(s, at);
-        let line = g.line;
-        let more = owed(line);
-        if u64::MAX - n < more {
+        let part = row::part(s, at);
+        if u64::MAX - n < part.owed {
             return s.len();
         }
-        n = more + (n - 1);
-        at = g.next;
+        n = part.owed + (n - 1);
+        at = part.next;
     }
     at
 }
@@ -214,7 +190,8 @@ fn note(ids: &[u64], places: &mut [usize; 16], id: u64, at: usize)
     }
 }
 
-// The positions of the last of so many scopes with each of at most 16 ids; the sheet's end where there is none.
+// The positions of the last of so many scopes with each of at most 16 ids; the sheet's end where there is none. What belongs to
+// a scope is passed over.
 pub fn scopes(s: &[u8], from: usize, count: u64, ids: &[u64]) -> [usize; 16]
     ensures { λ r. ⌜ LastScopes (now (s .entry)) from count (now (ids .entry)) r ⌝ }
 {
@@ -228,7 +205,7 @@ pub fn scopes(s: &[u8], from: usize, count: u64, ids: &[u64]) -> [usize; 16]
         let Line::Scope {
             id,
             bind: _,
-            count: _,
+            count: bindings,
         } = line
         else {
             return places;
@@ -237,7 +214,7 @@ pub fn scopes(s: &[u8], from: usize, count: u64, ids: &[u64]) -> [usize; 16]
         if n == 1 {
             return places;
         }
-        at = past(s, g.next, owed(line));
+        at = past(s, g.next, bindings);
         n -= 1;
     }
     places

@@ -19,8 +19,8 @@ returns-2 c =
     let a = at-next .before .before .args in
     let g = at-next .next in (
       type-list (a .s .now) _ _ _ _ (g .ensures .0) (g .ensures .1) _ _ _ _ (at-line .line .given .1) refl refl
-          (c .before .match2 .keys1) (c .past .ensures),
-      nested-fewer _ _ _ _ (g .ensures .1) (c .past .ensures),
+          (c .before .match2 .keys1) (c .past .ensures .1),
+      nested-fewer (a .s .now) _ _ _ (g .ensures .1) (c .past .ensures .0),
     )
 
 returns-3 : tie.Need-returns-3
@@ -42,8 +42,8 @@ returns-4 c =
     let a = at-next .before .before .args in
     let g = at-next .next in (
       type-brand (a .s .now) _ _ _ _ (g .ensures .0) (g .ensures .1) _ _ _ _ (at-line .line .given .1) refl refl
-          (at-if1 .if1 .left) (at-if1 .before .match2 .rest .1) (c .before .if2 .taken) (c .past2 .ensures),
-      nested-fewer _ _ _ _ (g .ensures .1) (c .past2 .ensures),
+          (at-if1 .if1 .left) (at-if1 .before .match2 .rest .1) (c .before .if2 .taken) (c .past2 .ensures .1),
+      nested-fewer (a .s .now) _ _ _ (g .ensures .1) (c .past2 .ensures .0),
     )
 
 returns-5 : tie.Need-returns-5

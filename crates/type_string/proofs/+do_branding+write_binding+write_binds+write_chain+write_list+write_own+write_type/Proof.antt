@@ -134,7 +134,7 @@ write-binds-returns t c =
     let at-byte = at-write-binding .before .before .before .before in let at-test = at-byte .before .before .before in
     let at-loop = at-test .before in let at-args = at-loop .before .before .before .before .before in (
       λ ns x. (at-loop .loop .inv .2) ns x _ _ (law.binds-stop (sheetOf (at-args .args .root .now) ns) (at-args .args .left)
-          (at-loop .loop .n) _ _ (at-test .loop-test .taken) refl _ _ _ _ _ _ (at-byte .byte .ensures)
+          (at-loop .loop .n) _ _ (at-test .loop-test .taken) (λ _. refl) _ _ _ _ _ _ (at-byte .byte .ensures)
           ((at-write-binding .write-binding .ensures .0) ns x) _ _ _ (c .enum-told2 .given .1) refl),
       (at-loop .loop .inv .1) ⨟ some-text (at-byte .byte .ensures) ⨟ (at-write-binding .write-binding .ensures .1),
     )
@@ -146,7 +146,7 @@ write-binds-returns-2 t c =
     let at-byte = at-write-binding .before .before .before .before in let at-test = at-byte .before .before .before in
     let at-loop = at-test .before in let at-args = at-loop .before .before .before .before .before in (
       λ ns x. (at-loop .loop .inv .2) ns x _ _ (law.binds-on (sheetOf (at-args .args .root .now) ns) (at-args .args .left)
-          (at-loop .loop .n) _ _ (at-test .loop-test .taken) refl _ _ _ _ _ _ (at-byte .byte .ensures)
+          (at-loop .loop .n) _ _ (at-test .loop-test .taken) (λ _. refl) _ _ _ _ _ _ (at-byte .byte .ensures)
           ((at-write-binding .write-binding .ensures .0) ns x) _ _ (at-enum-told .enum-told .given .1)
           (law.binds-none (sheetOf (at-args .args .root .now) ns) _ ((at-loop .loop .n) - 1) _ _ _ _
           (omega (arith, (c .if1 .taken))) (at-enum-told .enum-told .given .1))),
@@ -164,7 +164,7 @@ write-binds-loop-again t c =
       (at-loop .loop .inv .1) ⨟ some-text (at-byte .byte .ensures) ⨟ (at-write-binding .write-binding .ensures .1),
       λ ns x l′ r h. (at-loop .loop .inv .2) ns x l′ r
           (law.binds-on (sheetOf (at-args .args .root .now) ns) (at-args .args .left) (at-loop .loop .n) _ _
-          (at-test .loop-test .taken) (c .past .ensures) _ _ _ _ _ _ (at-byte .byte .ensures)
+          (at-test .loop-test .taken) (c .past .ensures .1) _ _ _ _ _ _ (at-byte .byte .ensures)
           ((at-write-binding .write-binding .ensures .0) ns x) l′ r (at-enum-told .enum-told .given .1) h),
     )
 

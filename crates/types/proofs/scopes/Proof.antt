@@ -27,11 +27,11 @@ returns-2 c =
 
 loop-again : tie.Need-loop-again Inv-loop μ-loop
 loop-again c =
-    let at-owed = c .before in let at-note = at-owed .before .before in let at-line = at-note .before .before .before in
+    let at-note = c .before .before in let at-line = at-note .before .before .before in
     let at-next = at-line .before .before in let at-test = at-next .before in
     pass-next _ _ _ _ _ _ _ (at-test .before .loop .inv) (at-test .loop-test .taken) _ (at-next .next .ensures .0)
-    _ _ _ (at-line .line .given .1) _ (at-note .note .ensures) (at-next .next .result .next) _ (c .past .result)
-    (at-next .next .ensures .1) (at-owed .owed .ensures) (c .past .ensures)
+    _ _ _ (at-line .line .given .1) _ (at-note .note .ensures) (at-next .next .result .next) (c .past .result)
+    (at-next .next .ensures .1) (c .past .ensures .1)
 
 returns-3 : tie.Need-returns-3 Inv-loop μ-loop
 returns-3 c = pass-none _ _ _ _ _ _ _ (c .before .loop .inv) (c .loop-test .left)
@@ -48,7 +48,6 @@ scopes-spec =
     returns
     (λ c κs. search needs)
     returns-2
-    (λ c κs. search needs)
     (λ c κs. search needs)
     (λ c. search needs)
     (λ c. search needs)
