@@ -16,7 +16,7 @@ pub enum Number {
 }
 
 // A byte as a number of 64 bits.
-fn wide(b: u8) -> u64
+pub fn wide(b: u8) -> u64
     ensures { λ r. ⌜ r ≡ b ⌝ }
     ensures { λ r. ⌜ r < 256 ⌝ }
 {

@@ -13,7 +13,6 @@ use lib.Dec.{eqb}
 use borrow.Author.Tests.{eq-eqb, ne-eqb, eqb-false}
 use Rattle.text.specs.Bytes.{Str, cond, unit}
 use Rattle.row.specs.Rows.{rowLen, onto, rows, joined, restOf, newlines, size, lineNo}
-use Rattle.row.specs.Ends.{Passes}
 use Rattle.row.specs.Line.{reader, badLine, lineOf, textStart, textOf, textAt}
 
 -- where a row goes on and where it ends
@@ -24,37 +23,6 @@ rowLen-here s i h e = rw (drop-cons s i 0, rowLen, eq-eqb (getD s i 0) 10 e)
 pub rowLen-more : (s : Str) (i : ℕ) → i < length s → (getD s i 0 ≡ 10 → ⊥) → rowLen (drop i s) ≡ suc (rowLen (drop (i + 1) s))
 unfolding rowLen
 rowLen-more s i h e = rw (add-one, drop-cons s i 0, rowLen, ne-eqb (getD s i 0) 10 e)
-
--- eight bytes of which the first seven are not byte 10
-pub passes :
-    (s : Str) (i : ℕ) → i + 8 ≤ length s → (getD s i 0 ≡ 10 → ⊥) → (getD s (i + 1) 0 ≡ 10 → ⊥) → (getD s (i + 2) 0 ≡ 10 → ⊥)
-    → (getD s (i + 3) 0 ≡ 10 → ⊥) → (getD s (i + 4) 0 ≡ 10 → ⊥) → (getD s (i + 5) 0 ≡ 10 → ⊥) → (getD s (i + 6) 0 ≡ 10 → ⊥)
-    → Passes s i (not (eqb (getD s (i + 7) 0) 10))
-passes s i h a b c d e f g = go (eqb (getD s (i + 7) 0) 10) refl
-  where
-    on : (m n : ℕ) → n ≡ m + 1 → m < length s → (getD s m 0 ≡ 10 → ⊥) → rowLen (drop m s) ≡ 1 + rowLen (drop n s)
-    on m n e h x = let z = rowLen-more s m h x in rw e (omega (arith, z))
-
-    go : (t : Bool) → eqb (getD s (i + 7) 0) 10 ≡ t → Passes s i (not t)
-    go true k = tt
-    go false k =
-        omega (
-          arith,
-          on i (i + 1) (omega arith) (omega arith) a,
-          on (i + 1) (i + 2) (omega arith) (omega arith) b,
-          on (i + 2) (i + 3) (omega arith) (omega arith) c,
-          on (i + 3) (i + 4) (omega arith) (omega arith) d,
-          on (i + 4) (i + 5) (omega arith) (omega arith) e,
-          on (i + 5) (i + 6) (omega arith) (omega arith) f,
-          on (i + 6) (i + 7) (omega arith) (omega arith) g,
-          on (i + 7) (i + 8) (omega arith) (omega arith) (eqb-false (getD s (i + 7) 0) 10 k),
-        )
-
--- where eight bytes are passed, the row ends where that of the bytes after them ends
-pub passed-eight :
-    (s : Str) (i : ℕ) (b : Bool) → Passes s i b → not b ≡ false → i + 8 + rowLen (drop (i + 8) s) ≡ i + rowLen (drop i s)
-passed-eight s i true h e = omega (arith, h)
-passed-eight s i false h e = let z : _≡_ {A = ℕ} 0 1 = cc in let w : ⊥ = omega arith in absurd w
 
 pub rowLen-end : (s : Str) (i : ℕ) → length s ≤ i → rowLen (drop i s) ≡ 0
 unfolding rowLen

@@ -1,6 +1,7 @@
 -- Worked rows, by computation: what each says, at the bounds of document 01 and one past them. Assumes nothing.
 use mathlib.Core.Path.{_≡_, refl}
 use mathlib.Core.List.{List, [], _∷_, _++_, map}
+use mathlib.Core.Option.{none, some}
 use Prim.Native.Nat.{_-_, _^_}
 use Prim.Native.String as S
 use lib.ListN.{length, replicate}
@@ -9,6 +10,7 @@ use Rattle.text.specs.Decimal.{decimal}
 use Rattle.column.specs.Number.{trimmed, digits, unpadded, columnOf, padded}
 use Rattle.column.specs.Texts.{isWord, isGraphic, all, isName, isGraphicText, endsIn}
 use Rattle.row.specs.Rows.{rows, onto, newlines, size, lineNo}
+use Rattle.row.specs.Newline.{firstNewline, newlineFrom}
 use Rattle.row.specs.Line.{rootLine, nodeLine, parameterLine, fieldLine, groupLine}
 use Rattle.row.specs.Line.{typeLine, scopeLine, unboundLine, valueLine, wordLine}
 use Rattle.row.specs.Line.{mostA, mostB, mostC, mostCount, mostBits, reader, lineOf, textStart, textOf}
@@ -174,3 +176,10 @@ torn = refl
 second : lineNo (row "U" [] "" ++ ascii "U") (rows (ascii "U")) ≡ 2
 unfolding justified row rows onto newlines size lineNo
 second = refl
+
+-- the first byte 10 from each start on, from the end and past it; bytes 11 and 138 are others
+newlines-from :
+    map (newlineFrom (11 ∷ 10 ∷ 138 ∷ 10 ∷ 65 ∷ [])) (0 ∷ 1 ∷ 2 ∷ 3 ∷ 4 ∷ 5 ∷ 9 ∷ [])
+    ≡ some 1 ∷ some 1 ∷ some 3 ∷ some 3 ∷ none ∷ none ∷ none ∷ []
+unfolding firstNewline newlineFrom
+newlines-from = refl

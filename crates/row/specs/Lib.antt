@@ -1,5 +1,6 @@
 pub mod Rows
-pub mod Ends
+pub mod Newline
+pub mod Word
 pub mod Line
 pub mod Span
 pub mod Part

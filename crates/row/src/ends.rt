@@ -1,66 +1,96 @@
-// Where a row ends.
+// Where a row ends: the search for byte 10, by words of eight bytes.
+use column::wide;
 ghost use mathlib.Core.Path.{_≡_};
 ghost use Prim.Native.Nat.{_+_, _≤_};
-ghost use lib.ListN.{drop, length};
+ghost use lib.ListN.{take, drop, length};
 ghost use Rattle.row.specs.Rows.{rowLen};
-ghost use Rattle.row.specs.Ends.{Passes};
+ghost use Rattle.row.specs.Newline.{newlineSaid, newlineFrom, FirstAtOrAfter};
+ghost use Rattle.row.specs.Word.{wordOf, marked};
 
-// Whether none of the eight bytes from `i` on is byte 10.
-fn goes_on(s: &[u8], i: usize) -> bool
-    requires { ⌜ i + 8 ≤ length (now s) ⌝ }
-    ensures { λ r. ⌜ Passes (now (s .entry)) i r ⌝ }
-{
-    if s[i] == b'\n' {
-        return false;
-    }
-    if s[i + 1] == b'\n' {
-        return false;
-    }
-    if s[i + 2] == b'\n' {
-        return false;
-    }
-    if s[i + 3] == b'\n' {
-        return false;
-    }
-    if s[i + 4] == b'\n' {
-        return false;
-    }
-    if s[i + 5] == b'\n' {
-        return false;
-    }
-    if s[i + 6] == b'\n' {
-        return false;
-    }
-    s[i + 7] != b'\n'
+// Byte 10 in each of eight places, the seven low bits of each, and the highest bit of each.
+const TENS: u64 = 0x0a0a_0a0a_0a0a_0a0a;
+
+const LOW: u64 = 0x7f7f_7f7f_7f7f_7f7f;
+
+const HIGH: u64 = 0x8080_8080_8080_8080;
+
+// Where a byte 10 stands, or that there is none.
+pub enum Newline {
+    At(usize),
+    Nothing,
 }
 
-// Past eights of bytes in which there is no byte 10.
-fn past_eights(s: &[u8], from: usize) -> usize
-    ensures { λ r. ⌜ r + rowLen (drop r (now (s .entry))) ≡ from + rowLen (drop from (now (s .entry))) ⌝ }
+// The eight bytes from `i` on as one number, the first lowest: one load.
+fn word(s: &[u8], i: usize) -> u64
+    requires { ⌜ i + 8 ≤ length (now s) ⌝ }
+    ensures { λ r. ⌜ r ≡ wordOf (take 8 (drop i (now (s .entry)))) ⌝ }
 {
-    if s.len() <= from {
+    wide(s[i])
+        + 0x100 * wide(s[i + 1])
+        + 0x1_0000 * wide(s[i + 2])
+        + 0x100_0000 * wide(s[i + 3])
+        + 0x1_0000_0000 * wide(s[i + 4])
+        + 0x100_0000_0000 * wide(s[i + 5])
+        + 0x1_0000_0000_0000 * wide(s[i + 6])
+        + 0x100_0000_0000_0000 * wide(s[i + 7])
+}
+
+// The highest bit of each byte 10 of a word. Seven low bits that are not those of 10, plus 127, reach the highest bit and go no
+// further; nor is a byte 10 whose highest bit is set.
+fn marks(w: u64) -> u64
+    ensures { λ r. ⌜ r ≡ marked 8 w ⌝ }
+{
+    let others = ((w & LOW) ^ TENS) + LOW;
+    ((others | w) & HIGH) ^ HIGH
+}
+
+// Past words without a byte 10, and past the bytes before it in the word that has one.
+fn past_words(s: &[u8], from: usize) -> usize
+    ensures { λ r. ⌜ newlineFrom (now (s .entry)) r ≡ newlineFrom (now (s .entry)) from ⌝ }
+{
+    if s.len() < 8 {
         return from;
     }
+    let last = s.len() - 8;
     let mut i = from;
-    while 8 <= s.len() - i {
-        if !goes_on(s, i) {
-            return i;
+    while i <= last {
+        let m = marks(word(s, i));
+        if m != 0 {
+            return i + (u64::trailing_zeros(m) / 8) as usize;
         }
         i += 8;
     }
     i
 }
 
-// The position after the first byte 10 at or after `from`, or the end where there is none: by eights, and the last few singly.
-pub fn row_end(s: &[u8], from: usize) -> usize
-    ensures { λ r. ⌜ r ≡ from + rowLen (drop from (now (s .entry))) ⌝ }
+// The first byte 10 at or after `from`: by words while eight bytes remain, and the last few singly.
+pub fn find_newline(s: &[u8], from: usize) -> Newline
+    ensures is { λ r. ⌜ newlineSaid r ≡ newlineFrom (now (s .entry)) from ⌝ }
+    ensures first { λ r. ⌜ FirstAtOrAfter (now (s .entry)) from (newlineSaid r) ⌝ }
 {
-    let mut i = past_eights(s, from);
+    let mut i = past_words(s, from);
     while i < s.len() {
         if s[i] == b'\n' {
-            return i + 1;
+            return Newline::At(i);
         }
         i += 1;
     }
-    i
+    Newline::Nothing
+}
+
+// The position after the first byte 10 at or after `from`, or the end where there is none. Where a row's letter fixes its end,
+// that byte stands at `from` and nothing is searched.
+pub fn row_end(s: &[u8], from: usize) -> usize
+    ensures { λ r. ⌜ r ≡ from + rowLen (drop from (now (s .entry))) ⌝ }
+{
+    if s.len() <= from {
+        return from;
+    }
+    if s[from] == b'\n' {
+        return from + 1;
+    }
+    match find_newline(s, from) {
+        Newline::At(i) => i + 1,
+        Newline::Nothing => s.len(),
+    }
 }

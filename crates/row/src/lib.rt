@@ -3,6 +3,8 @@ mod ends;
 mod parts;
 
 use column::Number;
+pub use ends::Newline;
+pub use ends::find_newline;
 pub use ends::row_end;
 pub use parts::part;
 use terms::kinds;

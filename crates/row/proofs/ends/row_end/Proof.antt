@@ -1,49 +1,63 @@
--- `row::row_end` meets its contract. At each turn the row from the start ends where the row from `i` on ends.
--- Assumes nothing.
-use mathlib.Core.Path.{_≡_}
-use Prim.Native.Nat.{_+_, _-_}
+-- `row::row_end` meets its contract: the row ends after the first byte 10, or with the sheet. Assumes nothing.
+use mathlib.Core.Path.{_≡_, sym, ap, _∙_}
+use mathlib.Core.Option.{some}
 use native.Mathlib.Omega.{arith}
-use lib.ListN.{length, drop}
 use borrow.Author.Needs.{needs}
-use Rattle.row.specs.Rows.{rowLen}
-use Rattle.row.proofs.Laws.{rowLen-here, rowLen-more, rowLen-end}
+use Rattle.row.specs.Newline.{newlineSaid, newlineFrom}
+use Rattle.row.proofs.Laws.{rowLen-here, rowLen-end, row-bounds}
+use Rattle.row.proofs.NewlineLaws.{ends-found, ends-none}
 use Rattle.row.proofs.ends.row_end.Statement.{statement}
 use Rattle.row.proofs.ends.row_end.Tie as tie
 
-abbrev Inv-loop : tie.InvT-loop
-Inv-loop s from i₀ i = from + rowLen (drop from s) ≡ i + rowLen (drop i s)
-
-abbrev μ-loop : tie.MeasureT-loop
-μ-loop s from i₀ i = length s - i
-
-returns : tie.Need-returns Inv-loop μ-loop
+returns : tie.Need-returns
 returns c =
-    let turn = c .before .before in
-    let i = turn .before .loop .i in
-    omega (arith, rowLen-here (turn .before .before .before .before .args .s .now) i (turn .loop-test .taken) (c .if1 .taken))
+    let a = c .before .before .args in
+    omega (arith, rowLen-end (a .s .now) (a .from) (c .if1 .taken))
 
-loop-again : tie.Need-loop-again Inv-loop μ-loop
-loop-again c =
-    let turn = c .before .before in
-    let i = turn .before .loop .i in
-    omega (arith, rowLen-more (turn .before .before .before .before .args .s .now) i (turn .loop-test .taken) (c .if1 .left))
-
-returns-2 : tie.Need-returns-2 Inv-loop μ-loop
+returns-2 : tie.Need-returns-2
 returns-2 c =
-    omega (arith, rowLen-end (c .before .before .before .before .args .s .now) (c .before .loop .i) (c .loop-test .left))
+    let a = c .before .before .before .before .args in
+    omega (arith, rowLen-here (a .s .now) (a .from) (c .before .before .if1 .left) (c .if2 .taken))
+
+-- what was found
+said :
+    (c : tie.After-i)
+    → some (c .i .given .0 .0)
+    ≡ newlineFrom (c .before .before .before .before .before .before .before .args .s .now)
+    (c .before .before .before .before .before .before .before .args .from)
+said c = ap newlineSaid (sym (c .i .given .1)) ∙ c .before .before .find-newline .ensures .0
+
+add-result-2 : tie.Need-add-result-2
+add-result-2 c =
+    let outside = c .before .before .before .before .before .before in
+    let a = outside .before .before .args in
+    let ends = ends-found (a .s .now) (a .from) _ (said (c .before)) in
+    record { fits = omega (arith, row-bounds (a .s .now) (a .from) _ (outside .if1 .left) ends .1) }
+
+returns-3 : tie.Need-returns-3
+returns-3 c =
+    let a = c .before .before .before .before .before .before .before .before .args in
+    ends-found (a .s .now) (a .from) _ (said (c .before))
+
+returns-4 : tie.Need-returns-4
+returns-4 c =
+    let found = c .before .before in
+    let outside = found .before .before .before in
+    let a = outside .before .before .args in
+    ends-none (a .s .now) (a .from) (outside .if1 .left)
+    (ap newlineSaid (sym (c .enum-told .given .1)) ∙ found .find-newline .ensures .0)
 
 pub row-end-spec : {M : Type 1} → statement M
 row-end-spec =
     tie.close
     (tie.spec
-    Inv-loop
-    μ-loop
-    (λ c κs. search needs)
-    (λ c. search needs)
-    (λ c. search needs)
-    (λ c. search needs)
     returns
     (λ c. search needs)
     (λ c. search needs)
-    loop-again
-    returns-2)
+    returns-2
+    (λ c κs. search needs)
+    (λ c. search needs)
+    add-result-2
+    (λ c. search needs)
+    returns-3
+    returns-4)

@@ -1,8 +1,8 @@
--- `row::goes_on` meets its contract: a byte 10 among the eight says nothing, and eight others lengthen the row. Assumes nothing.
-use Rattle.row.proofs.Laws.{passes}
+-- `bench_ends::goes_on` meets its contract: a byte 10 among the eight says nothing, and eight others are passed. Assumes nothing.
+use Rattle.bench_ends.proofs.Laws.{passes}
 use borrow.Author.Needs.{needs}
-use Rattle.row.proofs.ends.goes_on.Statement.{statement}
-use Rattle.row.proofs.ends.goes_on.Tie as tie
+use Rattle.bench_ends.proofs.goes_on.Statement.{statement}
+use Rattle.bench_ends.proofs.goes_on.Tie as tie
 
 returns-8 : tie.Need-returns-8
 returns-8 c =

@@ -1,17 +1,17 @@
--- `row::past_eights` meets its contract. At each turn the row from the start ends where the row from `i` on ends.
+-- `bench_ends::past_eights` meets its contract. At each turn the first byte 10 from `i` on is the first from the start on.
 -- Assumes nothing.
 use mathlib.Core.Path.{_≡_, refl, _∙_}
-use Prim.Native.Nat.{_+_, _-_, _≤_}
+use Prim.Native.Nat.{_-_, _≤_}
 use native.Mathlib.Omega.{arith}
-use lib.ListN.{length, drop}
-use Rattle.row.specs.Rows.{rowLen}
-use Rattle.row.proofs.Laws.{passed-eight}
+use lib.ListN.{length}
+use Rattle.row.specs.Newline.{newlineFrom}
+use Rattle.bench_ends.proofs.Laws.{passed}
 use borrow.Author.Needs.{needs}
-use Rattle.row.proofs.ends.past_eights.Statement.{statement}
-use Rattle.row.proofs.ends.past_eights.Tie as tie
+use Rattle.bench_ends.proofs.past_eights.Statement.{statement}
+use Rattle.bench_ends.proofs.past_eights.Tie as tie
 
 abbrev Inv-loop : tie.InvT-loop
-Inv-loop s from i₀ i = (i ≤ length s) × (i + rowLen (drop i s) ≡ from + rowLen (drop from s))
+Inv-loop s from i₀ i = (i ≤ length s) × (newlineFrom s i ≡ newlineFrom s from)
 
 abbrev μ-loop : tie.MeasureT-loop
 μ-loop s from i₀ i = length s - i
@@ -24,7 +24,7 @@ loop-again c =
     let at-loop = c .before .before .before in
     let s = at-loop .before .before .before .args .s .now in (
       omega (arith, c .before .before .loop-test .taken, at-loop .loop .inv .0),
-      passed-eight s (at-loop .loop .i) (c .before .goes-on .result) (c .before .goes-on .ensures) (c .if2 .left)
+      passed s (at-loop .loop .i) (c .before .goes-on .result) (c .before .goes-on .ensures) (c .if2 .left)
           ∙ at-loop .loop .inv .1,
     )
 
