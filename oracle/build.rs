@@ -1,8 +1,10 @@
 //! Cuts capnpc's functions out of its sources, unchanged, into the files that src/codegen.rs, src/codegen_types.rs
-//! and src/pointer_constants.rs include; and links the static library of Kitlubas.
+//! and src/pointer_constants.rs include; and links the static library of Kitlubas and
+//! that of the bench.
 //!
 //! CAPNPC_SRC names the folder that holds capnpc/src; by default it is docs/src of the folder `shared` beside the
-//! project. KITLUBAS_LIB names the archive; by default the one that `rt staticlib exports` writes.
+//! project. KITLUBAS_LIB names the archive; by default the one that `rt staticlib exports` writes. The bench's is the one that
+//! `rt staticlib bench_ends` writes.
 
 #[path = "build/cut.rs"]
 mod cut;
@@ -68,12 +70,13 @@ fn main() {
         write(file, cut_items(&read(&sources, file), items, file));
     }
 
-    link(&setting("KITLUBAS_LIB", package.join("../target/staticlib/libexports.a")));
+    link(&setting("KITLUBAS_LIB", package.join("../target/staticlib/libexports.a")), "exports");
+    link(&package.join("../target/staticlib/libbench_ends.a"), "bench_ends");
 }
 
-/// Tells cargo where the archive lies that src/boundary.rs links.
-fn link(archive: &Path) {
-    assert!(archive.exists(), "{}: not there; `rt staticlib exports` writes it", archive.display());
+/// Tells cargo where an archive lies that src/boundary.rs links, and of which crate it is.
+fn link(archive: &Path, name: &str) {
+    assert!(archive.exists(), "{}: not there; `rt staticlib {name}` writes it", archive.display());
     println!("cargo:rerun-if-changed={}", archive.display());
     let folder = archive.parent().expect("the archive lies in a folder");
     println!("cargo:rustc-link-search=native={}", folder.display());

@@ -1,4 +1,4 @@
-//! The functions of Kitlubas' static library, by the declarations that the crate in rust/ has too. Every `unsafe` of this
+//! The functions of Kitlubas' static library, by the declarations that the crate in rust/ has too, and of the bench's. Every `unsafe` of this
 //! package is here. A slice passes as its pointer and its length; `at` is a fill count, and the answer is the new one.
 
 // The crate in rust/ calls the others.
@@ -9,6 +9,32 @@ mod declarations;
 // The archive is linked for the declarations.
 #[link(name = "exports", kind = "static")]
 extern "C" {}
+
+// Both searches for byte 10, which crate bench_ends has for the measurements alone.
+#[link(name = "bench_ends", kind = "static")]
+extern "C" {
+    fn bench_newline_by_words(s: *const u8, s_len: usize, from: usize) -> usize;
+    fn bench_newline_by_bytes(s: *const u8, s_len: usize, from: usize) -> usize;
+}
+
+pub mod ends {
+    use super::{bench_newline_by_bytes, bench_newline_by_words};
+
+    /// The search as it is.
+    pub fn by_words(s: &[u8], from: usize) -> Option<usize> {
+        found(unsafe { bench_newline_by_words(s.as_ptr(), s.len(), from) })
+    }
+
+    /// The search as it was.
+    pub fn by_bytes(s: &[u8], from: usize) -> Option<usize> {
+        found(unsafe { bench_newline_by_bytes(s.as_ptr(), s.len(), from) })
+    }
+
+    /// The largest number stands for none.
+    fn found(answer: usize) -> Option<usize> {
+        (answer != usize::MAX).then_some(answer)
+    }
+}
 
 pub mod leaves {
     use super::declarations::*;

@@ -15,7 +15,8 @@ oracle sample WHAT FOLDER write FOLDER/stdin and FOLDER/stdout, which a program 
                           `requests` (what single requests are answered)
 oracle bounds             print the name of each sheet at a bound and its answer
 oracle measure TABLE SIDE print the names of the cases of a table of bench/run and do each twice, by `rust`, `rust-from-bytes`
-                          or `kitlubas`; TABLE is `names`, `admission` or `requests`; callgrind counts the second round
+                          or `kitlubas`; TABLE is `names`, `admission`, `requests`, `ends-by-bytes` or `ends-by-words`;
+                          callgrind counts the second round
 oracle time TABLE SIDE    print the nanoseconds of the cases of a table
 oracle sheets FOLDER      write the sheets that requests and the program are measured on, and print the worst: name, how much
                           of it there is, file

@@ -1,5 +1,5 @@
-// Both searches for byte 10, for bench/ alone: as it is, by words, and as it was, by eight comparisons. Each answers the position
-// of the first byte 10 at or after `from`, or 18446744073709551615 where there is none.
+// Both searches for byte 10, for bench/ alone: as it is, by words, and as it was, by eight comparisons. Each answers the
+// position of the first byte 10 at or after `from`, or 18446744073709551615 where there is none.
 use row::Newline;
 ghost use mathlib.Core.Path.{_≡_};
 ghost use Prim.Native.Nat.{_+_, _≤_};

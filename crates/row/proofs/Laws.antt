@@ -1,6 +1,6 @@
 -- Laws of rows and of the loops over them: what the rows from a position on are, by the byte there. Assumes nothing.
 use mathlib.Core.Path.{_≡_, refl, sym, ap, _∙_}
-use mathlib.Core.Bool.{Bool, true, false, not}
+use mathlib.Core.Bool.{Bool, true, false}
 use mathlib.Core.List.{List, [], _∷_, _++_}
 use Prim.Native.Nat.{ℕ, zero, suc, _+_, _-_, _<_, _≤_}
 use native.Mathlib.Decide.{decLe}
@@ -10,7 +10,7 @@ use native.Mathlib.Nat.{add-sub-cancel-left, suc-add, zero-add, sub-zero, suc-su
 use lib.ListN.{length, getD, drop, take, drop-of-length-le, length-take, length-drop}
 use lib.Seq.{drop-cons, drop-drop, take-suc, take-all, take-take, take-nil, length-take-le, getD-drop, getD-take}
 use lib.Dec.{eqb}
-use borrow.Author.Tests.{eq-eqb, ne-eqb, eqb-false}
+use borrow.Author.Tests.{eq-eqb, ne-eqb}
 use Rattle.text.specs.Bytes.{Str, cond, unit}
 use Rattle.row.specs.Rows.{rowLen, onto, rows, joined, restOf, newlines, size, lineNo}
 use Rattle.row.specs.Line.{reader, badLine, lineOf, textStart, textOf, textAt}

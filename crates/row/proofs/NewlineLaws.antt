@@ -7,7 +7,7 @@ use mathlib.Core.Option.{Option, none, some}
 use Prim.Native.Nat.{ℕ, zero, suc, _+_, _/_, _≤_, _<_}
 use native.Mathlib.Omega.{arith}
 use native.Mathlib.Decide.{decLe}
-use native.Mathlib.Nat.{add-zero, add-suc, suc-add}
+use native.Mathlib.Nat.{add-zero, add-suc, suc-add, le-of-suc-le-suc, not-suc-le-zero}
 use native.Mathlib.Numerals.{add-one}
 use lib.Count.{trailingZeros, trailing-of-zero}
 use lib.Dec.{eqb}
@@ -17,8 +17,8 @@ use borrow.Author.Tests.{eq-eqb, ne-eqb, eqb-true, eqb-false}
 use Rattle.text.specs.Bytes.{Str}
 use Rattle.row.specs.Rows.{rowLen}
 use Rattle.row.specs.Newline.{firstNewline, newlineFrom, FirstAtOrAfter}
-use Rattle.row.specs.Word.{wordOf, marked}
-use Rattle.row.proofs.WordLaws.{lead, lowest-eight}
+use Rattle.row.specs.Eights.{wordOf, newlineBits}
+use Rattle.row.proofs.WordLaws.{lead, lowest-eight, some-bit}
 
 -- a byte 10 is found where it stands, another is passed, and past the end there is none
 pub found-here : (s : Str) (i : ℕ) → i < length s → getD s i 0 ≡ 10 → newlineFrom s i ≡ some i
@@ -48,7 +48,8 @@ module _ (s : Str) (from : ℕ) (other : getD s from 0 ≡ 10 → ⊥) where
 
 first-within : (k : ℕ) (s : Str) (from : ℕ) → length s ≤ from + k → FirstAtOrAfter s from (newlineFrom s from)
 first-within zero s from h = rw (found-none s from (omega arith)) (λ j a b byte10. let z : ⊥ = omega arith in z)
-first-within (suc k) s from h = go (first-within k s (from + 1) (omega arith)) (decLe (length s) from) (eqb (getD s from 0) 10) refl
+first-within (suc k) s from h =
+    go (first-within k s (from + 1) (omega arith)) (decLe (length s) from) (eqb (getD s from 0) 10) refl
   where
     go :
         FirstAtOrAfter s (from + 1) (newlineFrom s (from + 1)) → Dec (length s ≤ from) → (p : Bool) → eqb (getD s from 0) 10 ≡ p
@@ -83,16 +84,45 @@ pub past-lead : (s : Str) (i n : ℕ) → newlineFrom s (i + lead (take n (drop 
 unfolding newlineFrom
 past-lead s i n = rw (← drop-drop (lead (take n (drop i s))) i s) (lead-passed n (drop i s) i)
 
--- eight bytes with their marks: from the lowest mark the same is found as from their start, and from their end where none is
-module _
-    (s : Str) (i m : ℕ) (h : i + 8 ≤ length s) (fits : (j : ℕ) → getD s j 0 < 256) (e : m ≡ marked 8 (wordOf (take 8 (drop i s))))
+-- where a byte 10 stands among some bytes, it is found there
+lead-found :
+    (n : ℕ) (t : Str) (at : ℕ) → lead (take n t) < length (take n t) → firstNewline at t ≡ some (at + lead (take n t))
+unfolding firstNewline lead
+lead-found zero t at h = absurd (not-suc-le-zero h)
+lead-found (suc n) [] at h = absurd (not-suc-le-zero h)
+lead-found (suc n) (b ∷ t) at h = go (lead-found n t (suc at)) (eqb b 10) refl h
   where
-    pub past-mark : newlineFrom s (i + trailingZeros 64 m / 8) ≡ newlineFrom s i
-    past-mark = ap (λ (k : ℕ). newlineFrom s (i + k)) (lowest-eight s i m h fits e) ∙ past-lead s i 8
+    go :
+        (lead (take n t) < length (take n t) → firstNewline (suc at) t ≡ some (suc at + lead (take n t)))
+        → (p : Bool) → eqb b 10 ≡ p → elim p [ true ↦ 0 | false ↦ suc (lead (take n t)) ] < suc (length (take n t))
+        → _≡_ {A = Option ℕ} (elim p [ true ↦ some at | false ↦ firstNewline (suc at) t ])
+        (some (at + elim p [ true ↦ 0 | false ↦ suc (lead (take n t)) ]))
+    go f true e h = ap some (sym (add-zero at))
+    go f false e h =
+        f (le-of-suc-le-suc h) ∙ ap some (suc-add at (lead (take n t)) ∙ sym (add-suc at (lead (take n t))))
 
-    pub past-word : m ≡ 0 → newlineFrom s (i + 8) ≡ newlineFrom s i
+-- eight bytes as a word, and its bits: where one is set, the lowest tells where the first byte 10 stands, and where none is, the
+-- same is found from their end on as from their start
+module _
+    (s : Str) (i w bits : ℕ) (h : i + 8 ≤ length s) (fits : (j : ℕ) → getD s j 0 < 256) (is : w ≡ wordOf (take 8 (drop i s)))
+    (e : bits ≡ newlineBits 8 w)
+  where
+    same-bits : bits ≡ newlineBits 8 (wordOf (take 8 (drop i s)))
+    same-bits = e ∙ ap (newlineBits 8) is
+
+    lowest : trailingZeros 64 bits / 8 ≡ lead (take 8 (drop i s))
+    lowest = ap (λ (k : ℕ). trailingZeros 64 k / 8) same-bits ∙ lowest-eight s i h fits
+
+    pub found-bit : (bits ≡ 0 → ⊥) → some (i + trailingZeros 64 bits / 8) ≡ newlineFrom s i
+    unfolding newlineFrom
+    found-bit set =
+        ap (λ (k : ℕ). some (i + k)) lowest
+        ∙ sym (lead-found 8 (drop i s) i (some-bit s i h fits (λ z. set (same-bits ∙ z))))
+
+    pub past-word : bits ≡ 0 → newlineFrom s (i + 8) ≡ newlineFrom s i
     past-word z =
-        ap (λ (k : ℕ). newlineFrom s (i + k / 8)) (sym (trailing-of-zero 64) ∙ ap (trailingZeros 64) (sym z)) ∙ past-mark
+        ap (λ (k : ℕ). newlineFrom s (i + k / 8)) (sym (trailing-of-zero 64) ∙ ap (trailingZeros 64) (sym z))
+        ∙ ap (λ (k : ℕ). newlineFrom s (i + k)) lowest ∙ past-lead s i 8
 
 -- a row ends after the first byte 10, or has all bytes
 first-ends : (t : Str) (at i : ℕ) → firstNewline at t ≡ some i → at + rowLen t ≡ i + 1

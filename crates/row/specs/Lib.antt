@@ -1,6 +1,6 @@
 pub mod Rows
 pub mod Newline
-pub mod Word
+pub mod Eights
 pub mod Line
 pub mod Span
 pub mod Part

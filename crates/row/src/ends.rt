@@ -1,11 +1,12 @@
 // Where a row ends: the search for byte 10, by words of eight bytes.
 use column::wide;
 ghost use mathlib.Core.Path.{_≡_};
-ghost use Prim.Native.Nat.{_+_, _≤_};
+ghost use Prim.Native.Nat.{_+_, _/_, _≤_};
+ghost use lib.Count.{trailingZeros};
 ghost use lib.ListN.{take, drop, length};
 ghost use Rattle.row.specs.Rows.{rowLen};
 ghost use Rattle.row.specs.Newline.{newlineSaid, newlineFrom, FirstAtOrAfter};
-ghost use Rattle.row.specs.Word.{wordOf, marked};
+ghost use Rattle.row.specs.Eights.{wordOf, newlineBits, wordsSaid};
 
 // Byte 10 in each of eight places, the seven low bits of each, and the highest bit of each.
 const TENS: u64 = 0x0a0a_0a0a_0a0a_0a0a;
@@ -20,8 +21,14 @@ pub enum Newline {
     Nothing,
 }
 
+// What words say: where the first byte 10 stands, or from where on it is left to seek.
+enum Words {
+    Found(usize),
+    Left(usize),
+}
+
 // The eight bytes from `i` on as one number, the first lowest: one load.
-fn word(s: &[u8], i: usize) -> u64
+fn eight_bytes(s: &[u8], i: usize) -> u64
     requires { ⌜ i + 8 ≤ length (now s) ⌝ }
     ensures { λ r. ⌜ r ≡ wordOf (take 8 (drop i (now (s .entry)))) ⌝ }
 {
@@ -35,40 +42,59 @@ fn word(s: &[u8], i: usize) -> u64
         + 0x100_0000_0000_0000 * wide(s[i + 7])
 }
 
-// The highest bit of each byte 10 of a word. Seven low bits that are not those of 10, plus 127, reach the highest bit and go no
-// further; nor is a byte 10 whose highest bit is set.
-fn marks(w: u64) -> u64
-    ensures { λ r. ⌜ r ≡ marked 8 w ⌝ }
+// The highest bit of each byte 10 of a word. Seven low bits other than those of 10, plus 127, reach the highest bit and go no
+// further; a byte whose own highest bit is set is another too.
+fn newline_bits(w: u64) -> u64
+    ensures { λ r. ⌜ r ≡ newlineBits 8 w ⌝ }
 {
     let others = ((w & LOW) ^ TENS) + LOW;
     ((others | w) & HIGH) ^ HIGH
 }
 
-// Past words without a byte 10, and past the bytes before it in the word that has one.
-fn past_words(s: &[u8], from: usize) -> usize
-    ensures { λ r. ⌜ newlineFrom (now (s .entry)) r ≡ newlineFrom (now (s .entry)) from ⌝ }
+// How many bytes of a word stand before its first byte 10, by the word's bits. The first four places are told by a test each, so
+// that behind a short line the next search need not wait for a count of zeros.
+fn before_first(bits: u64) -> usize
+    ensures { λ r. ⌜ r ≡ trailingZeros 64 bits / 8 ⌝ }
+{
+    if bits % 0x100 != 0 {
+        return 0;
+    }
+    if bits % 0x1_0000 != 0 {
+        return 1;
+    }
+    if bits % 0x100_0000 != 0 {
+        return 2;
+    }
+    if bits % 0x1_0000_0000 != 0 {
+        return 3;
+    }
+    (u64::trailing_zeros(bits) / 8) as usize
+}
+
+// The search by words, while eight bytes remain.
+fn by_words(s: &[u8], from: usize) -> Words
+    ensures { λ r. ⌜ wordsSaid (now (s .entry)) r ≡ newlineFrom (now (s .entry)) from ⌝ }
 {
     if s.len() < 8 {
-        return from;
+        return Words::Left(from);
     }
     let last = s.len() - 8;
     let mut i = from;
     while i <= last {
-        let m = marks(word(s, i));
-        if m != 0 {
-            return i + (u64::trailing_zeros(m) / 8) as usize;
+        let bits = newline_bits(eight_bytes(s, i));
+        if bits != 0 {
+            return Words::Found(i + before_first(bits));
         }
         i += 8;
     }
-    i
+    Words::Left(i)
 }
 
-// The first byte 10 at or after `from`: by words while eight bytes remain, and the last few singly.
-pub fn find_newline(s: &[u8], from: usize) -> Newline
-    ensures is { λ r. ⌜ newlineSaid r ≡ newlineFrom (now (s .entry)) from ⌝ }
-    ensures first { λ r. ⌜ FirstAtOrAfter (now (s .entry)) from (newlineSaid r) ⌝ }
+// The search byte by byte.
+fn singly(s: &[u8], from: usize) -> Newline
+    ensures { λ r. ⌜ newlineSaid r ≡ newlineFrom (now (s .entry)) from ⌝ }
 {
-    let mut i = past_words(s, from);
+    let mut i = from;
     while i < s.len() {
         if s[i] == b'\n' {
             return Newline::At(i);
@@ -76,6 +102,17 @@ pub fn find_newline(s: &[u8], from: usize) -> Newline
         i += 1;
     }
     Newline::Nothing
+}
+
+// The first byte 10 at or after `from`: by words while eight bytes remain, and the last few singly.
+pub fn find_newline(s: &[u8], from: usize) -> Newline
+    ensures is { λ r. ⌜ newlineSaid r ≡ newlineFrom (now (s .entry)) from ⌝ }
+    ensures first { λ r. ⌜ FirstAtOrAfter (now (s .entry)) from (newlineSaid r) ⌝ }
+{
+    match by_words(s, from) {
+        Words::Found(i) => Newline::At(i),
+        Words::Left(i) => singly(s, i),
+    }
 }
 
 // The position after the first byte 10 at or after `from`, or the end where there is none. Where a row's letter fixes its end,

@@ -1,6 +1,7 @@
 //! Work to be measured, by capnpc's functions or by the static library. The script bench/run has callgrind count the
 //! instructions of `measured_round` alone, so that what comes before it falls out.
 
+mod ends;
 mod leaves;
 mod requests;
 mod sheets;
@@ -45,6 +46,8 @@ pub fn cases(table: &str, side: Side) -> Option<Vec<(String, Round)>> {
             sheets::admitted().into_iter().map(|(name, bytes)| Some((name, admission(bytes(), side)?))).collect()
         }
         "requests" => Some(requests::cases(side)),
+        "ends-by-bytes" if side == Side::Kitlubas => Some(ends::cases(boundary::ends::by_bytes)),
+        "ends-by-words" if side == Side::Kitlubas => Some(ends::cases(boundary::ends::by_words)),
         _ => None,
     }
 }

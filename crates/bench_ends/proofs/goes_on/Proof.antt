@@ -1,4 +1,5 @@
--- `bench_ends::goes_on` meets its contract: a byte 10 among the eight says nothing, and eight others are passed. Assumes nothing.
+-- `bench_ends::goes_on` meets its contract: a byte 10 among the eight says nothing, and eight others are passed.
+-- Assumes nothing.
 use Rattle.bench_ends.proofs.Laws.{passes}
 use borrow.Author.Needs.{needs}
 use Rattle.bench_ends.proofs.goes_on.Statement.{statement}
