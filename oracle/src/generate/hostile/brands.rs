@@ -136,8 +136,14 @@ pub fn nest_of_scopes(count: usize) -> Vec<Node> {
     vec![with_parameters(1, 0, 2).slots([slot("ward", typ)])]
 }
 
-/// The same behind another field, the outermost brand with so many unbound parameters that the field's texts have more than
-/// 32,768 bytes.
+/// The same with scopes that bind one parameter each, to nothing.
+pub fn nest_of_binds(count: usize) -> Vec<Node> {
+    let typ = nest_around(Type::Enum(1, vec![unbound(u64::MAX, 1); count]), 15);
+    vec![with_parameters(1, 0, 2).slots([slot("ward", typ)])]
+}
+
+/// The first of these behind another field, the outermost brand with so many unbound parameters that the field's texts have more
+/// than 32,768 bytes.
 pub fn nest_of_scopes_long(count: usize) -> Vec<Node> {
     let mut bindings = vec![Binding::Unbound; 320];
     bindings[0] = Binding::Type(nest_around(Type::Enum(1, long_scopes(count)), 14));

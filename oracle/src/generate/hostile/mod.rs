@@ -17,9 +17,10 @@ type Shape = fn(usize) -> Vec<Node>;
 type Lines = fn(usize) -> Vec<u8>;
 
 /// Shapes that grow with their sheet.
-const GROWING: [(&str, Shape); 28] = [
+const GROWING: [(&str, Shape); 29] = [
     ("nest", brands::nest),
     ("nest of scopes", brands::nest_of_scopes),
+    ("nest of scopes that bind", brands::nest_of_binds),
     ("nest of scopes with long texts", brands::nest_of_scopes_long),
     ("far", brands::far),
     ("far behind long names", brands::far_behind_long_names),

@@ -17,9 +17,9 @@ fn below_a_group(slots: impl IntoIterator<Item = Slot>) -> Vec<Node> {
     vec![node(1, 0, "bed", &[]).group(group("place", 2)), node(2, 1, "place", &[]).slots(slots)]
 }
 
-/// Slots whose lines all have one place in the table of `zeroing`, which has 307.
+/// Slots whose lines all have one place in the table of `zeroing`, which has 307 and looks at the low 16 bits of an offset.
 fn slots_of_one_place(count: usize) -> impl Iterator<Item = Slot> {
-    (0..count).map(|at| slot("s", Type::Plain(7)).at(at as u32 * 307))
+    (0..count as u32).map(|at| slot("s", Type::Plain(7)).at(at % 213 * 307 + at / 213 * 65536))
 }
 
 pub fn one_place(count: usize) -> Vec<Node> {
@@ -34,7 +34,7 @@ pub fn zeroed_cycle(count: usize) -> Vec<Node> {
     in_itself((0..count).map(|at| slot("s", Type::Plain(7)).at(at as u32)))
 }
 
-/// Slots of a group that is in itself: all of them are zeroed on each of 16 levels, before the 17th is refused.
+/// Slots of a group that is in itself: the Rust zeroes all of them on each of 16 levels, before the 17th is refused.
 fn in_itself(slots: impl IntoIterator<Item = Slot>) -> Vec<Node> {
     vec![node(1, 0, "bed", &[]).slots(slots).group(group("self", 1))]
 }
