@@ -1,6 +1,7 @@
 // What the program `accessors` prints: document 01's headers and texts, in their order, in pieces as large as the output buffer
 // holds. All that is printed of a field is a unit: its parts, one behind the other, each written once, straight into the buffer.
 use codegen_types::Refusal;
+use codegen_types::Written;
 use field::Field;
 use field::Group;
 use field::Slot;
@@ -16,10 +17,10 @@ ghost use mathlib.Core.Path.{_≡_};
 ghost use mathlib.Core.List.{_∷_};
 ghost use Prim.Native.Nat.{_*_};
 ghost use lib.ListN.{length};
-ghost use Rattle.text.specs.Text.{Wrote};
+ghost use Rattle.text.specs.Text.{Wrote, stateAt};
 ghost use Rattle.field.specs.declared.Field.the-variants as field-is;
 ghost use Rattle.requests.specs.Requests.{accessorText};
-ghost use Rattle.requests.specs.Told.{OfField};
+ghost use Rattle.requests.specs.Told.{OfField, AccessorWritten};
 ghost use Rattle.parts.specs.Program.{partsFrom, accessorOf, headerText, refusedText, partText};
 ghost use Rattle.parts.specs.Program.{opening as Program·opening};
 ghost use Rattle.parts.specs.Fit.{partMost, fitOf, Within, TakesAtMost, Puts, partsAfter, PartPut, PartsPut, FieldPut};
@@ -35,6 +36,12 @@ enum Part {
     HaserReader,
     HaserBuilder,
     Zero,
+}
+
+// A part that is to be written, and whether its text is measured before.
+struct Job {
+    part: Part,
+    measured: bool,
 }
 
 // The part after a part of the same field, or none.
@@ -156,6 +163,28 @@ fn refused(number: u64, buf: &mut [u8]) -> Fit
     taken(t, buf)
 }
 
+// The text of a part of a field that was read, from the start of the buffer on.
+fn write_text(
+    root: &[u8],
+    s: &[u8],
+    index: &[u64],
+    field: Field,
+    tag: u64,
+    job: Job,
+    buf: &mut [u8],
+) -> Written
+    ensures { λ r. ⌜ AccessorWritten (now (s .entry)) (now (index .entry)) (now (root .entry)) tag field
+        (accessorOf (job .part)) (now (buf .entry)) (stateAt 0) (now (buf .exit)) r ⌝ }
+{
+    let part = job.part;
+    let accessor = asked(part);
+    let t = Text::at(0);
+    if job.measured {
+        return requests::write_accessor(root, s, index, field, tag, accessor, t, buf);
+    }
+    requests::field_accessor(root, s, index, field, tag, accessor, t, buf)
+}
+
 // What stands under the header of a part of a field that was read. Where its text is refused or too long, the refusal is written
 // over it.
 fn under_header(
@@ -164,16 +193,15 @@ fn under_header(
     index: &[u64],
     field: Field,
     tag: u64,
-    part: Part,
+    job: Job,
     buf: &mut [u8],
 ) -> Fit
     ensures within { λ r. ⌜ Within r (now (buf .exit)) ⌝ }
     ensures fits { λ r. ⌜ TakesAtMost 65536 (now (buf .entry)) r ⌝ }
     ensures said { λ r. ⌜ OfField (now (root .entry)) (now (s .entry)) (now (index .entry)) tag field
-        (λ sheet at. Puts (partText (accessorText sheet at (accessorOf part))) (now (buf .exit)) r) ⌝ }
+        (λ sheet at. Puts (partText (accessorText sheet at (accessorOf (job .part)))) (now (buf .exit)) r) ⌝ }
 {
-    let accessor = asked(part);
-    let written = requests::write_accessor(root, s, index, field, tag, accessor, Text::at(0), buf);
+    let written = write_text(root, s, index, field, tag, job, buf);
     let refusal = written.refusal;
     if let Refusal::Number(number) = refusal {
         return refused(number, buf);
@@ -193,20 +221,21 @@ fn write_part(
     name: &[u8],
     field: Field,
     tag: u64,
-    part: Part,
+    job: Job,
     out: &mut [u8],
 ) -> Fit
     ensures within { λ r. ⌜ Within r (now (out .exit)) ⌝ }
     ensures fits { λ r. ⌜ TakesAtMost (partMost (now (name .entry))) (now (out .entry)) r ⌝ }
-    ensures said { λ r. ⌜ PartPut (now (root .entry)) (now (s .entry)) (now (index .entry)) tag field (now (name .entry)) part
-        (now (out .exit)) r ⌝ }
+    ensures said { λ r. ⌜ PartPut (now (root .entry)) (now (s .entry)) (now (index .entry)) tag field (now (name .entry))
+        (job .part) (now (out .exit)) r ⌝ }
 {
+    let part = job.part;
     let t = header(name, part, Text::at(0), out);
     let n = t.fill();
     if out.len() < n {
         return Fit::Short;
     }
-    match under_header(root, s, index, field, tag, part, &mut out[n..]) {
+    match under_header(root, s, index, field, tag, job, &mut out[n..]) {
         Fit::Whole(m) => Fit::Whole(n + m),
         Fit::Short => Fit::Short,
     }
@@ -220,26 +249,56 @@ fn write_parts(
     name: &[u8],
     field: Field,
     tag: u64,
-    first: Part,
+    first: Job,
     out: &mut [u8],
 ) -> Fit
     ensures within { λ r. ⌜ Within r (now (out .exit)) ⌝ }
-    ensures fits { λ r. ⌜ TakesAtMost (length (partsFrom first) * partMost (now (name .entry))) (now (out .entry)) r ⌝ }
-    ensures said { λ r. ⌜ PartsPut (now (root .entry)) (now (s .entry)) (now (index .entry)) tag field (now (name .entry)) first
-        (now (out .exit)) r ⌝ }
+    ensures fits { λ r. ⌜ TakesAtMost (length (partsFrom (first .part)) * partMost (now (name .entry))) (now (out .entry)) r ⌝ }
+    ensures said { λ r. ⌜ PartsPut (now (root .entry)) (now (s .entry)) (now (index .entry)) tag field (now (name .entry))
+        (first .part) (now (out .exit)) r ⌝ }
 {
-    let mut part = first;
+    let measured = first.measured;
+    let mut job = first;
     let mut n: usize = 0;
     loop {
-        let fit = write_part(root, s, index, name, field, tag, part, &mut out[n..]);
+        let fit = write_part(root, s, index, name, field, tag, job, &mut out[n..]);
         let Fit::Whole(m) = fit else {
             return Fit::Short;
         };
         n += m;
+        let part = job.part;
         let Next::Is(next) = next_part(part) else {
             return Fit::Whole(n);
         };
-        part = next;
+        job = Job {
+            part: next,
+            measured,
+        };
+    }
+}
+
+// Whether a getter of the field is refused, where its type may have scopes. The texts of such a field are measured before they are
+// written, each as far as the Rust comes; those of any other are written at once.
+fn is_refused(root: &[u8], s: &[u8], index: &[u64], field: Field, tag: u64) -> bool {
+    if !requests::may_have_scopes(field) {
+        return false;
+    }
+    let accessor = asked(Part::GetterReader);
+    let mut empty = [0u8; 0];
+    let getter = requests::field_accessor(
+        root,
+        s,
+        index,
+        field,
+        tag,
+        accessor,
+        Text::at(0),
+        &mut empty,
+    );
+    let refusal = getter.refusal;
+    match refusal {
+        Refusal::None => false,
+        Refusal::Number(_) => true,
     }
 }
 
@@ -250,16 +309,12 @@ fn write_slot(root: &[u8], s: &[u8], index: &[u64], slot: Slot, tag: u64, out: &
         (now (out .entry)) (now (out .exit)) r ⌝ }
 {
     let name = slot.name(s);
-    write_parts(
-        root,
-        s,
-        index,
-        name,
-        Field::Slot(slot),
-        tag,
-        Part::GetterReader,
-        out,
-    )
+    let field = Field::Slot(slot);
+    let first = Job {
+        part: Part::GetterReader,
+        measured: is_refused(root, s, index, field, tag),
+    };
+    write_parts(root, s, index, name, field, tag, first, out)
 }
 
 // All that is printed of a group.
@@ -269,14 +324,10 @@ fn write_group(root: &[u8], s: &[u8], index: &[u64], group: Group, tag: u64, out
         (now (out .entry)) (now (out .exit)) r ⌝ }
 {
     let name = group.name(s);
-    write_parts(
-        root,
-        s,
-        index,
-        name,
-        Field::Group(group),
-        tag,
-        Part::Zero,
-        out,
-    )
+    let field = Field::Group(group);
+    let only = Job {
+        part: Part::Zero,
+        measured: false,
+    };
+    write_parts(root, s, index, name, field, tag, only, out)
 }

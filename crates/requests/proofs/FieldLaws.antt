@@ -3,7 +3,11 @@
 use mathlib.Core.Path.{_≡_, refl, sym}
 use mathlib.Core.List.{List, [], _∷_}
 use mathlib.Core.Option.{Option, none, some}
-use Prim.Native.Nat.{ℕ}
+use mathlib.Core.Bool.{true, false, not}
+use Prim.Native.Nat.{ℕ, _-_, _<_}
+use native.Mathlib.Omega.{arith}
+use borrow.Author.Tests.{ne-eqb}
+use lib.Dec.{eqb}
 use lib.ListN.{drop}
 use package.types.Run.{OneOf, miss}
 use denote.Enum.Declared.{tagOf}
@@ -35,6 +39,7 @@ use Rattle.field.specs.declared.Group.{Group}
 use Rattle.field.specs.declared.Field.{Field}
 use Rattle.field.specs.declared.Field.the-variants as field
 use Rattle.field.proofs.Field.{the-type}
+use Rattle.requests.specs.Parts.{mayHaveScopes}
 use Rattle.codegen.specs.Zeroing.{Zeroing, zeroFieldsOfGroup, zeroingRequest}
 use Rattle.zeroing.specs.Told.{Zeroes}
 use Rattle.zeroing.specs.declared.Zeroed.{Zeroed}
@@ -78,6 +83,22 @@ pub not-nothing : (f : Field) → OneOf (0 ∷ 1 ∷ []) (tagOf the-type f) → 
 not-nothing (field.Slot r) o e = never cc
 not-nothing (field.Group g) o e = never cc
 not-nothing field.Nothing o e = miss (0 ∷ 1 ∷ []) 2 tt o
+
+-- whether it may have scopes: nothing but a slot, by the bytes between its type and its words
+pub scopes-none : (f : Field) → OneOf (1 ∷ 2 ∷ []) (tagOf the-type f) → false ≡ mayHaveScopes f
+scopes-none (field.Slot r) o = absurd (miss (1 ∷ 2 ∷ []) 0 tt o)
+scopes-none (field.Group g) o = refl
+scopes-none field.Nothing o = refl
+
+module _ (f : Field) (r : code.Slot) (is : f ≡ field.Slot r) where
+  pub scopes-back : r .words < r .typ → true ≡ mayHaveScopes f
+  scopes-back h = let z : r .words - r .typ ≡ 0 = omega arith in rw (is, z) refl
+
+  pub scopes-one : r .words - r .typ ≡ 130 → false ≡ mayHaveScopes f
+  scopes-one e = rw (is, e) refl
+
+  pub scopes-more : (r .words - r .typ ≡ 130 → ⊥) → not (eqb (r .words - r .typ) 216) ≡ mayHaveScopes f
+  scopes-more e = rw (is, ne-eqb (r .words - r .typ) 130 e) refl
 
 -- ---- what its requests come to
 

@@ -2,8 +2,9 @@
 use mathlib.Core.Path.{_≡_}
 use mathlib.Core.List.{List}
 use mathlib.Core.Option.{Option, none, some}
-use Prim.Native.Nat.{ℕ}
-use lib.Dec.{ltb}
+use mathlib.Core.Bool.{Bool, false, not}
+use Prim.Native.Nat.{ℕ, _-_}
+use lib.Dec.{eqb, ltb}
 use Rattle.text.specs.Bytes.{Str, cond}
 use Rattle.text.specs.declared.Text.{Text}
 use Rattle.row.specs.Rows.{rows}
@@ -32,6 +33,14 @@ leafSaid number.Nothing = none
 -- a number that is asked for, if a leaf has it: there are ten
 abbrev pub leafAsked : ℕ → Option ℕ
 leafAsked n = cond (ltb n 10) (some n) none
+
+-- whether a field's type may have a brand with scopes: not where from the type to the words there is just room for one row of T,
+-- or for two, and a V row
+abbrev pub mayHaveScopes : Field → Bool
+mayHaveScopes (field.Slot slot) =
+    cond (eqb (slot .words - slot .typ) 130) false (not (eqb (slot .words - slot .typ) 216))
+mayHaveScopes (field.Group group) = false
+mayHaveScopes field.Nothing = false
 
 -- a field that was found and the offset of its node's tag; nothing where there is none, which is 15
 abbrev pub Locates : Str → Located → Out (Node × tree.Field) → Type 0

@@ -10,7 +10,6 @@ use field::Field;
 use field::Group;
 use field::Slot;
 use nodes::Found;
-use terms::kinds;
 use terms::leaves;
 use terms::limits;
 use terms::refusals;
@@ -25,13 +24,18 @@ ghost use Rattle.tree.specs.Read.{admitted};
 ghost use Rattle.nodes.specs.Index.{indexSize};
 ghost use Rattle.field.specs.declared.Field.the-variants as field-is;
 ghost use Rattle.requests.specs.Requests.{outcomeOf};
-ghost use Rattle.requests.specs.Parts.{leafSaid, leafAsked};
+ghost use Rattle.requests.specs.Parts.{leafSaid, leafAsked, mayHaveScopes};
 ghost use Rattle.requests.specs.Told.{AccessorWritten, RequestAnswered, Answered};
 ghost use Rattle.requests.specs.Parts.{LocatedIn, FieldAnswered, PlaceAnswered};
 ghost use Rattle.requests.specs.Told.{AnswerWithin, TextPassed, PassWithin};
 ghost use Rattle.requests.specs.Parts.{FieldPassed};
 ghost use Rattle.requests.specs.declared.Accessor.the-variants.{TypeText, Haser};
 ghost use Rattle.requests.specs.declared.Answer.the-variants.{Refused};
+
+// The bytes from a type to its slot's words where the type is one row of T, and where it is two. A T row has 86, a V row 44.
+const ONE_ROW: usize = 130;
+
+const TWO_ROWS: usize = 216;
 
 // How many numbers are room enough for the index of a sheet of at most 3,072 bytes.
 const SHORT_INDEX: usize = 289;
@@ -207,8 +211,8 @@ fn group_accessor(
     }
 }
 
-// An accessor of a field, whose node's tag is at this offset: its text, or its refusal.
-fn field_accessor(
+// An accessor of a field that was read, whose node's tag is at this offset: its text, or its refusal.
+pub fn field_accessor(
     root: &[u8],
     s: &[u8],
     index: &[u64],
@@ -229,23 +233,27 @@ fn field_accessor(
     }
 }
 
-// Whether a field's type may have a brand.
-fn may_have_brand(field: Field) -> bool {
-    match field {
-        Field::Slot(slot) => {
-            let kind = slot.kind;
-            match kind {
-                kinds::LIST | kinds::STRUCT | kinds::INTERFACE => true,
-                _ => false,
-            }
-        }
-        _ => false,
+// Whether a field's type may have a brand with scopes. A type of one row of T has none, nor has one of two, a list and its element:
+// the V row stands behind them, and the words behind that.
+pub fn may_have_scopes(field: Field) -> bool
+    ensures { λ r. ⌜ r ≡ mayHaveScopes field ⌝ }
+{
+    let Field::Slot(slot) = field else {
+        return false;
+    };
+    if slot.words < slot.typ {
+        return true;
     }
+    let size = slot.words - slot.typ;
+    if size == ONE_ROW {
+        return false;
+    }
+    size != TWO_ROWS
 }
 
-// An accessor of a field that was read, whose node's tag is at this offset: its text, or its refusal. A brand is written outermost
-// node first, while the Rust meets the innermost one's refusal first: where there may be one, the text is measured before it is
-// written, so that what the Rust never comes to is not written either.
+// An accessor of a field that was read, as `field_accessor` writes it. A brand is written outermost node first, while the Rust meets
+// the innermost one's refusal first: where its scopes may be refused, the text is measured before it is written, so that what the
+// Rust never comes to is not written either.
 pub fn write_accessor(
     root: &[u8],
     s: &[u8],
@@ -260,7 +268,7 @@ pub fn write_accessor(
         (now (buf .entry)) t (now (buf .exit)) r ⌝ }
     ensures some { λ r. ⌜ WroteSome (now (buf .entry)) t (now (buf .exit)) (r .text) ⌝ }
 {
-    if may_have_brand(field) {
+    if may_have_scopes(field) {
         let mut empty = [0u8; 0];
         let measured = field_accessor(root, s, index, field, tag, accessor, t, &mut empty);
         let refusal = measured.refusal;

@@ -1,4 +1,5 @@
 -- `parts::under_header` meets its contract: by what the accessor's text comes to, one law of PartLaws. Assumes nothing.
+use mathlib.Core.Path.{refl}
 use Prim.Native.Nat.{_^_, _<_}
 use native.Mathlib.Omega.{arith}
 use borrow.Author.Needs.{needs}
@@ -18,22 +19,20 @@ returns : tie.Need-returns
 returns c =
     let at-refused = c .before .before in
     let at-refusal = at-refused .before .before .before in
-    let at-write-accessor = at-refusal .before .before .before .before in
-    let at-at = at-write-accessor .before .before in
-    let at-asked = at-at .before in
-    let start = at-asked .before .before .before .before .before in
+    let at-write-text = at-refusal .before .before .before .before in
+    let start = at-write-text .before .before .before .before .before .before in
     let a = start .args in
-    let after = at-write-accessor .write-accessor .last .1 .1 .1 .1 .1 .1 .1 .0 in
-    let same = at-write-accessor .write-accessor .kept .1 .1 .1 .1 .1 .1 .1 .0 in
+    let after = at-write-text .write-text .last .1 .1 .1 .1 .1 .1 .0 in
+    let same = at-write-text .write-text .kept .1 .1 .1 .1 .1 .1 .0 in
     let done = at-refused .refused .ensures in
-    let z = at-at .at .ensures in (
+    (
       done .0,
       (
         fits-same 65536 (a .buf .now) after (at-refused .refused .result) same (done .1 .0),
         λ ns x at tag-is is.
-            let o = accessorText (sheetOf (a .root .now) ns) at (accessorOf (a .part)) in
-            let w = rw (at-asked .asked .ensures) at (at-write-accessor .write-accessor .ensures .0 ns x at tag-is is) in
-            rw (← refused-part z o _ w (at-refusal .refusal .given .1)) (done .1 .1),
+            let o = accessorText (sheetOf (a .root .now) ns) at (accessorOf (a .job .part)) in
+            let w = at-write-text .write-text .ensures ns x at tag-is is in
+            rw (← refused-part refl o _ w (at-refusal .refusal .given .1)) (done .1 .1),
       ),
     )
 
@@ -43,23 +42,21 @@ returns-2 c =
     let at-if1 = at-refused2 .before .before in
     let at-fill = at-if1 .before in
     let at-enum-told = at-fill .before .before in
-    let at-write-accessor = at-enum-told .before .before .before .before in
-    let at-at = at-write-accessor .before .before in
-    let at-asked = at-at .before in
-    let start = at-asked .before .before .before .before .before in
+    let at-write-text = at-enum-told .before .before .before .before in
+    let start = at-write-text .before .before .before .before .before .before in
     let a = start .args in
-    let after = at-write-accessor .write-accessor .last .1 .1 .1 .1 .1 .1 .1 .0 in
-    let same = at-write-accessor .write-accessor .kept .1 .1 .1 .1 .1 .1 .1 .0 in
+    let after = at-write-text .write-text .last .1 .1 .1 .1 .1 .1 .0 in
+    let same = at-write-text .write-text .kept .1 .1 .1 .1 .1 .1 .0 in
     let done = at-refused2 .refused2 .ensures in
-    let z = at-at .at .ensures in (
+    (
       done .0,
       (
         fits-same 65536 (a .buf .now) after (at-refused2 .refused2 .result) same (done .1 .0),
         λ ns x at tag-is is.
-            let o = accessorText (sheetOf (a .root .now) ns) at (accessorOf (a .part)) in
-            let w = rw (at-asked .asked .ensures) at (at-write-accessor .write-accessor .ensures .0 ns x at tag-is is) in
+            let o = accessorText (sheetOf (a .root .now) ns) at (accessorOf (a .job .part)) in
+            let w = at-write-text .write-text .ensures ns x at tag-is is in
             let none = at-enum-told .enum-told .given .1 in
-            rw (← long-part z o w none (omega (arith, at-fill .fill .ensures, at-if1 .if1 .taken))) (done .1 .1),
+            rw (← long-part refl o w none (omega (arith, at-fill .fill .ensures, at-if1 .if1 .taken))) (done .1 .1),
       ),
     )
 
@@ -68,23 +65,21 @@ returns-3 c =
     let at-if1 = c .before .before in
     let at-fill = at-if1 .before in
     let at-enum-told = at-fill .before .before in
-    let at-write-accessor = at-enum-told .before .before .before .before in
-    let at-at = at-write-accessor .before .before in
-    let at-asked = at-at .before in
-    let start = at-asked .before .before .before .before .before in
+    let at-write-text = at-enum-told .before .before .before .before in
+    let start = at-write-text .before .before .before .before .before .before in
     let a = start .args in
-    let after = at-write-accessor .write-accessor .last .1 .1 .1 .1 .1 .1 .1 .0 in
-    let same = at-write-accessor .write-accessor .kept .1 .1 .1 .1 .1 .1 .1 .0 in
+    let after = at-write-text .write-text .last .1 .1 .1 .1 .1 .1 .0 in
+    let same = at-write-text .write-text .kept .1 .1 .1 .1 .1 .1 .0 in
     let i = c .taken .ensures in
-    let z = at-at .at .ensures in (
+    (
       taken-within _ _ _ i,
       (
         fits-same 65536 (a .buf .now) after (c .taken .result) same
             (taken-most _ after _ 65536 (omega (arith, at-fill .fill .ensures, at-if1 .if1 .left)) i),
         λ ns x at tag-is is.
-            let o = accessorText (sheetOf (a .root .now) ns) at (accessorOf (a .part)) in
-            let w = rw (at-asked .asked .ensures) at (at-write-accessor .write-accessor .ensures .0 ns x at tag-is is) in
-            whole-part z o _ w (at-enum-told .enum-told .given .1) (room start)
+            let o = accessorText (sheetOf (a .root .now) ns) at (accessorOf (a .job .part)) in
+            let w = at-write-text .write-text .ensures ns x at tag-is is in
+            whole-part refl o _ w (at-enum-told .enum-told .given .1) (room start)
             (omega (arith, at-fill .fill .ensures, at-if1 .if1 .left)) i,
       ),
     )
@@ -93,8 +88,6 @@ pub under-header-spec : {M : Type 1} → statement M
 under-header-spec =
     tie.close
     (tie.spec
-    (λ c κs. search needs)
-    (λ c κs. search needs)
     (λ c κs. search needs)
     (λ c. search needs)
     (λ c κs. search needs)

@@ -23,7 +23,7 @@ returns c =
     let written = at-header .header .ensures in
     let z = at-at .at .ensures in
     let long = c .before .fill .ensures ∙ text-end z written in
-    let few = header-few (a .part) (a .name .now) in (
+    let few = header-few (a .job .part) (a .name .now) in (
       tt,
       (
         omega (arith, c .if1 .taken, long, few, kept written),
@@ -31,8 +31,8 @@ returns c =
       ),
     )
 
-add-t22 : tie.Need-add-t22
-add-t22 c =
+add-t23 : tie.Need-add-t23
+add-t23 c =
     let at-under-header = c .before .before .before .before .before in
     let at-if1 = at-under-header .before .before in
     let at-fill = at-if1 .before in
@@ -56,7 +56,7 @@ returns-2 c =
     let written = at-header .header .ensures in
     let z = at-at .at .ensures in
     let long = at-fill .fill .ensures ∙ text-end z written in
-    let few = header-few (a .part) (a .name .now) in
+    let few = header-few (a .job .part) (a .name .now) in
     let l = at-header .header .last .1 .1 .1 .0 in
     let l′ = at-under-header .under-header .last .1 .1 .1 .1 .1 .1 .0 in
     let n = at-fill .fill .result in
@@ -68,7 +68,7 @@ returns-2 c =
       (
         omega (arith, under .1 .0, long, few),
         λ ns x at named.
-            part-whole (sheetOf (a .root .now) ns) at (a .part) (a .name .now) l l′ n _ (named .name-is) within (under .0)
+            part-whole (sheetOf (a .root .now) ns) at (a .job .part) (a .name .now) l l′ n _ (named .name-is) within (under .0)
             there (under .1 .1 ns x at (named .tag-is) (named .field-is)),
       ),
     )
@@ -85,7 +85,7 @@ returns-3 c =
     let written = at-header .header .ensures in
     let z = at-at .at .ensures in
     let long = at-fill .fill .ensures ∙ text-end z written in
-    let few = header-few (a .part) (a .name .now) in
+    let few = header-few (a .job .part) (a .name .now) in
     let l = at-header .header .last .1 .1 .1 .0 in
     let n = at-fill .fill .result in
     let under : length (lent l n) < 65536 = rw (c .enum-told .given .1) at (at-under-header .under-header .ensures .1 .0) in (
@@ -110,7 +110,7 @@ write-part-spec =
     (λ c. search needs)
     (λ c κs. search needs)
     (λ c. search needs)
-    add-t22
+    add-t23
     (λ c. search needs)
     (λ c. search needs)
     returns-2

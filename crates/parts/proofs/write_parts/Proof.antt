@@ -12,11 +12,11 @@ use Rattle.parts.proofs.write_parts.Statement.{statement}
 use Rattle.parts.proofs.write_parts.Tie as tie
 
 abbrev Inv-loop : tie.InvT-loop
-Inv-loop root s index name field tag out₀ part₀ n₀ out part n =
-    PartsLeft root s index tag field name part₀ out₀ out n (partsFrom part)
+Inv-loop root s index name field tag out₀ measured job₀ n₀ out job n =
+    PartsLeft root s index tag field name (job₀ .part) out₀ out n (partsFrom (job .part))
 
 abbrev μ-loop : tie.MeasureT-loop
-μ-loop root s index name field tag out₀ part₀ n₀ out part n = length (partsFrom part)
+μ-loop root s index name field tag out₀ measured job₀ n₀ out job n = length (partsFrom (job .part))
 
 room : (c : tie.Start Inv-loop μ-loop) → length (c .args .out .now) < 2 ^ 63
 room c = search needs
@@ -25,7 +25,7 @@ loop-holds : tie.Need-loop-holds Inv-loop μ-loop
 loop-holds c =
     let start = c .before .before .before .before .before in
     let a = start .args in
-    parts-none (a .root .now) (a .s .now) (a .index .now) (a .tag) (a .field) (a .name .now) (a .first) (a .out .now)
+    parts-none (a .root .now) (a .s .now) (a .index .now) (a .tag) (a .field) (a .name .now) (a .first .part) (a .out .now)
 
 returns : tie.Need-returns Inv-loop μ-loop
 returns c =
@@ -33,7 +33,7 @@ returns c =
     let at-loop = at-write-part .before .before in
     let short = rw (c .enum-told .given .1) at (at-write-part .write-part .ensures .1 .0) in
     let l = at-loop .loop in
-    (tt, (parts-short _ _ _ _ _ _ _ _ (l .out) (l .n) (l .part) (l .inv) short, λ ns x at named. tt))
+    (tt, (parts-short _ _ _ _ _ _ _ _ (l .out) (l .n) (l .job .part) (l .inv) short, λ ns x at named. tt))
 
 add-n : tie.Need-add-n Inv-loop μ-loop
 add-n c =
@@ -58,7 +58,7 @@ returns-2 c =
     let put = rw (at-fit .fit .given .1) at (at-write-part .write-part .ensures) in
     let after = rw (c .enum-told2 .given .1) at (c .before .before .next-part .ensures) in
     let same = at-write-part .write-part .kept .1 .1 .1 .1 .1 .1 .1 .0 in
-    let done = parts-more _ _ _ _ _ _ _ _ l n (at-loop .loop .part) (at-loop .loop .inv) l′ _ _ after same (put .0) (put .1 .0)
+    let done = parts-more _ _ _ _ _ _ _ _ l n (at-loop .loop .job .part) (at-loop .loop .inv) l′ _ _ after same (put .0) (put .1 .0)
     (put .1 .1) in
     (done .within, (omega (arith, done .fits), parts-last _ _ _ _ _ _ _ _ _ _ done))
 
@@ -80,7 +80,7 @@ loop-again c =
     let put = rw (at-fit .fit .given .1) at (at-write-part .write-part .ensures) in
     let after = rw (c .before .next .given .1) at (at-next-part .next-part .ensures) in
     let same = at-write-part .write-part .kept .1 .1 .1 .1 .1 .1 .1 .0 in
-    parts-more _ _ _ _ _ _ _ _ l n (at-loop .loop .part) (at-loop .loop .inv) l′ _ _ after same (put .0) (put .1 .0) (put .1 .1)
+    parts-more _ _ _ _ _ _ _ _ l n (at-loop .loop .job .part) (at-loop .loop .inv) l′ _ _ after same (put .0) (put .1 .0) (put .1 .1)
 
 pub write-parts-spec : {M : Type 1} → statement M
 write-parts-spec =

@@ -7,7 +7,7 @@ use Rattle.parts.proofs.write_slot.Tie as tie
 returns : tie.Need-returns
 returns c =
     let at-write-parts = c .before .before in
-    let at-name = at-write-parts .before .before in
+    let at-name = at-write-parts .before .before .before in
     let start = at-name .before .before .before .before .before in
     let a = start .args in
     let written = at-write-parts .write-parts in
@@ -18,4 +18,4 @@ returns c =
     )
 
 pub write-slot-spec : {M : Type 1} → statement M
-write-slot-spec = tie.close (tie.spec (λ c κs. search needs) (λ c κs. search needs) (λ c. search needs) returns)
+write-slot-spec = tie.close (tie.spec (λ c κs. search needs) (λ c κs. search needs) (λ c κs. search needs) (λ c. search needs) returns)
