@@ -115,9 +115,21 @@ pub fn find_newline(s: &[u8], from: usize) -> Newline
     }
 }
 
-// The position after the first byte 10 at or after `from`, or the end where there is none. Where a row's letter fixes its end,
-// that byte stands at `from` and nothing is searched.
+// The position after the first byte 10 at or after `from`, or the end where there is none.
 pub fn row_end(s: &[u8], from: usize) -> usize
+    ensures { λ r. ⌜ r ≡ from + rowLen (drop from (now (s .entry))) ⌝ }
+{
+    if s.len() <= from {
+        return from;
+    }
+    match find_newline(s, from) {
+        Newline::At(i) => i + 1,
+        Newline::Nothing => s.len(),
+    }
+}
+
+// The same where a line may end at `from`: that byte is tested first. Where a line's letter fixes its end, nothing is searched.
+pub fn line_end(s: &[u8], from: usize) -> usize
     ensures { λ r. ⌜ r ≡ from + rowLen (drop from (now (s .entry))) ⌝ }
 {
     if s.len() <= from {
@@ -126,8 +138,5 @@ pub fn row_end(s: &[u8], from: usize) -> usize
     if s[from] == b'\n' {
         return from + 1;
     }
-    match find_newline(s, from) {
-        Newline::At(i) => i + 1,
-        Newline::Nothing => s.len(),
-    }
+    row_end(s, from)
 }

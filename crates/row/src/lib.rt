@@ -5,6 +5,7 @@ mod parts;
 use column::Number;
 pub use ends::Newline;
 pub use ends::find_newline;
+use ends::line_end;
 pub use ends::row_end;
 pub use parts::part;
 use terms::kinds;
@@ -440,7 +441,7 @@ pub fn next(s: &[u8], at: usize) -> Got
             next: row_end(s, at),
         };
     }
-    let e = row_end(s, at + k);
+    let e = line_end(s, at + k);
     let line = line_to(s, at, e);
     match line {
         Line::Bad => Got {

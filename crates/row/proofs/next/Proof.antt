@@ -31,7 +31,7 @@ returns-2 c =
 line-to-requires : tie.Need-line-to-requires
 line-to-requires c κs =
     let a = c .before .before .before .before .before .before .args in
-    let b = row-bounds (a .s .now) _ _ (omega arith) (c .row-end2 .ensures) in
+    let b = row-bounds (a .s .now) _ _ (omega arith) (c .line-end .ensures) in
     (omega (arith, b), b .1)
 
 returns-3 : tie.Need-returns-3
@@ -42,8 +42,8 @@ returns-3 c =
     let letter = read .before .before .before in
     let inside = letter .before .before .if1 .left in
     let a = letter .before .before .before .before .args in
-    let is = c .row-end3 .ensures in (
-      bad ∙ bad-row (a .s .now) (a .at) _ _ inside is (letter .least-length .ensures) _ (read .before .row-end2 .ensures)
+    let is = c .row-end2 .ensures in (
+      bad ∙ bad-row (a .s .now) (a .at) _ _ inside is (letter .least-length .ensures) _ (read .before .line-end .ensures)
           (sym bad ∙ read .line-to .ensures),
       after (a .s .now) (a .at) _ inside is,
     )
@@ -52,7 +52,7 @@ returns-4 : tie.Need-returns-4
 returns-4 c =
     let read = c .before in
     let a = read .before .before .before .before .before .before .before .args in
-    let b = row-bounds (a .s .now) _ _ (omega arith) (read .before .row-end2 .ensures) in
+    let b = row-bounds (a .s .now) _ _ (omega arith) (read .before .line-end .ensures) in
     good-row (a .s .now) (a .at) _ (omega (arith, b)) (lineSaid (read .line-to .result)) (read .line-to .ensures)
     (good-line (read .line-to .result) (c .match .keys2))
 

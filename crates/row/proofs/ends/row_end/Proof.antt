@@ -4,7 +4,7 @@ use mathlib.Core.Option.{some}
 use native.Mathlib.Omega.{arith}
 use borrow.Author.Needs.{needs}
 use Rattle.row.specs.Newline.{newlineSaid, newlineFrom}
-use Rattle.row.proofs.Laws.{rowLen-here, rowLen-end, row-bounds}
+use Rattle.row.proofs.Laws.{rowLen-end, row-bounds}
 use Rattle.row.proofs.NewlineLaws.{ends-found, ends-none}
 use Rattle.row.proofs.ends.row_end.Statement.{statement}
 use Rattle.row.proofs.ends.row_end.Tie as tie
@@ -14,35 +14,29 @@ returns c =
     let a = c .before .before .args in
     omega (arith, rowLen-end (a .s .now) (a .from) (c .if1 .taken))
 
-returns-2 : tie.Need-returns-2
-returns-2 c =
-    let a = c .before .before .before .before .args in
-    omega (arith, rowLen-here (a .s .now) (a .from) (c .before .before .if1 .left) (c .if2 .taken))
-
 -- what was found
 said :
     (c : tie.After-i)
     → some (c .i .given .0 .0)
-    ≡ newlineFrom (c .before .before .before .before .before .before .before .args .s .now)
-    (c .before .before .before .before .before .before .before .args .from)
+    ≡ newlineFrom (c .before .before .before .before .before .args .s .now) (c .before .before .before .before .before .args .from)
 said c = ap newlineSaid (sym (c .i .given .1)) ∙ c .before .before .find-newline .ensures .0
 
-add-result-2 : tie.Need-add-result-2
-add-result-2 c =
-    let outside = c .before .before .before .before .before .before in
+add-result : tie.Need-add-result
+add-result c =
+    let outside = c .before .before .before .before in
     let a = outside .before .before .args in
     let ends = ends-found (a .s .now) (a .from) _ (said (c .before)) in
     record { fits = omega (arith, row-bounds (a .s .now) (a .from) _ (outside .if1 .left) ends .1) }
 
-returns-3 : tie.Need-returns-3
-returns-3 c =
-    let a = c .before .before .before .before .before .before .before .before .args in
+returns-2 : tie.Need-returns-2
+returns-2 c =
+    let a = c .before .before .before .before .before .before .args in
     ends-found (a .s .now) (a .from) _ (said (c .before))
 
-returns-4 : tie.Need-returns-4
-returns-4 c =
+returns-3 : tie.Need-returns-3
+returns-3 c =
     let found = c .before .before in
-    let outside = found .before .before .before in
+    let outside = found .before in
     let a = outside .before .before .args in
     ends-none (a .s .now) (a .from) (outside .if1 .left)
     (ap newlineSaid (sym (c .enum-told .given .1)) ∙ found .find-newline .ensures .0)
@@ -52,12 +46,9 @@ row-end-spec =
     tie.close
     (tie.spec
     returns
-    (λ c. search needs)
-    (λ c. search needs)
-    returns-2
     (λ c κs. search needs)
     (λ c. search needs)
-    add-result-2
+    add-result
     (λ c. search needs)
-    returns-3
-    returns-4)
+    returns-2
+    returns-3)
