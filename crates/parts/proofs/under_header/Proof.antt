@@ -24,8 +24,7 @@ returns c =
     let a = start .args in
     let after = at-write-text .write-text .last .1 .1 .1 .1 .1 .1 .0 in
     let same = at-write-text .write-text .kept .1 .1 .1 .1 .1 .1 .0 in
-    let done = at-refused .refused .ensures in
-    (
+    let done = at-refused .refused .ensures in (
       done .0,
       (
         fits-same 65536 (a .buf .now) after (at-refused .refused .result) same (done .1 .0),
@@ -47,8 +46,7 @@ returns-2 c =
     let a = start .args in
     let after = at-write-text .write-text .last .1 .1 .1 .1 .1 .1 .0 in
     let same = at-write-text .write-text .kept .1 .1 .1 .1 .1 .1 .0 in
-    let done = at-refused2 .refused2 .ensures in
-    (
+    let done = at-refused2 .refused2 .ensures in (
       done .0,
       (
         fits-same 65536 (a .buf .now) after (at-refused2 .refused2 .result) same (done .1 .0),
@@ -70,8 +68,7 @@ returns-3 c =
     let a = start .args in
     let after = at-write-text .write-text .last .1 .1 .1 .1 .1 .1 .0 in
     let same = at-write-text .write-text .kept .1 .1 .1 .1 .1 .1 .0 in
-    let i = c .taken .ensures in
-    (
+    let i = c .taken .ensures in (
       taken-within _ _ _ i,
       (
         fits-same 65536 (a .buf .now) after (c .taken .result) same
