@@ -1,6 +1,5 @@
 //! Cuts capnpc's functions out of its sources, unchanged, into the files that src/codegen.rs, src/codegen_types.rs
-//! and src/pointer_constants.rs include; and links the static library of Kitlubas and
-//! that of the bench.
+//! and src/pointer_constants.rs include; and links the static library of Kitlubas and that of the bench.
 //!
 //! CAPNPC_SRC names the folder that holds capnpc/src; by default it is docs/src of the folder `shared` beside the
 //! project. KITLUBAS_LIB names the archive; by default the one that `rt staticlib exports` writes. The bench's is the one that

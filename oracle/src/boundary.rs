@@ -1,5 +1,6 @@
-//! The functions of Kitlubas' static library, by the declarations that the crate in rust/ has too, and of the bench's. Every `unsafe` of this
-//! package is here. A slice passes as its pointer and its length; `at` is a fill count, and the answer is the new one.
+//! The functions of Kitlubas' static library, by the declarations that the crate in rust/ has too, and those of the
+//! bench's. Every `unsafe` of this package is here. A slice passes as its pointer and its length; `at` is a fill count,
+//! and the answer is the new one.
 
 // The crate in rust/ calls the others.
 #[path = "../../rust/src/boundary/declarations.rs"]

@@ -1,5 +1,6 @@
 // What the program `accessors` prints: document 01's headers and texts, in their order, in pieces as large as the output buffer
-// holds. All that is printed of a field is a unit: its parts, one behind the other, each written once, straight into the buffer.
+// holds. All that is printed of a field is a unit: its parts, one behind the other, each written straight into the buffer, and
+// measured before only where a getter of the field is refused.
 use codegen_types::Refusal;
 use codegen_types::Written;
 use field::Field;
@@ -277,8 +278,8 @@ fn write_parts(
     }
 }
 
-// Whether a getter of the field is refused, where its type may have scopes. The texts of such a field are measured before they are
-// written, each as far as the Rust comes; those of any other are written at once.
+// Whether a getter of the field is refused, where its type may have scopes. The texts of such a field are measured before they
+// are written, each as far as the Rust comes; those of any other are written at once.
 fn is_refused(root: &[u8], s: &[u8], index: &[u64], field: Field, tag: u64) -> bool {
     if !requests::may_have_scopes(field) {
         return false;

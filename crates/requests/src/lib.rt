@@ -1,7 +1,7 @@
 // The public entry: a request of a node of a sheet, over any bytes, any text state and any buffer. The answer is the whole
 // text, or one refusal of document 01 that changes nothing. A request is measured over an empty buffer, which finds its refusal
 // or its length, before the first byte is written. Whoever holds a sheet's index asks over it, and has the text of a field that
-// was read in one pass.
+// was read from the start of a buffer on.
 use codegen_types::Leaf;
 use codegen_types::Lifetime;
 use codegen_types::Refusal;
@@ -233,8 +233,8 @@ pub fn field_accessor(
     }
 }
 
-// Whether a field's type may have a brand with scopes. A type of one row of T has none, nor has one of two, a list and its element:
-// the V row stands behind them, and the words behind that.
+// Whether a field's type may have a brand with scopes. A type of one row of T has none, nor has one of two, a list and its
+// element: the V row stands behind them, and the words behind that.
 pub fn may_have_scopes(field: Field) -> bool
     ensures { λ r. ⌜ r ≡ mayHaveScopes field ⌝ }
 {
@@ -251,9 +251,9 @@ pub fn may_have_scopes(field: Field) -> bool
     size != TWO_ROWS
 }
 
-// An accessor of a field that was read, as `field_accessor` writes it. A brand is written outermost node first, while the Rust meets
-// the innermost one's refusal first: where its scopes may be refused, the text is measured before it is written, so that what the
-// Rust never comes to is not written either.
+// An accessor of a field that was read, as `field_accessor` writes it. A brand is written outermost node first, while the Rust
+// meets the innermost one's refusal first: where its scopes may be refused, the text is measured before it is written, so that
+// what the Rust never comes to is not written either.
 pub fn write_accessor(
     root: &[u8],
     s: &[u8],
@@ -426,7 +426,7 @@ pub fn answer_request(s: &[u8], id: u64, request: Request, t: Text, buf: &mut [u
     answer_long(s, id, request, t, buf)
 }
 
-// The text of a field that was read, whose node's tag is at this offset, in one pass from the start of the buffer on.
+// The text of a field that was read, whose node's tag is at this offset, from the start of the buffer on.
 fn pass_field(
     s: &[u8],
     index: &[u64],
@@ -453,7 +453,7 @@ fn pass_field(
     Pass::Whole(n)
 }
 
-// The text of a field that was read, in the node with a number, from 0, in one pass from the start of the buffer on: 15 where
+// The text of a field that was read, in the node with a number, from 0, from the start of the buffer on: 15 where
 // there is no such node or no field. There are at most 64 nodes.
 pub fn text(
     s: &[u8],

@@ -20,10 +20,6 @@ pub rowLen-here : (s : Str) (i : ℕ) → i < length s → getD s i 0 ≡ 10 →
 unfolding rowLen
 rowLen-here s i h e = rw (drop-cons s i 0, rowLen, eq-eqb (getD s i 0) 10 e)
 
-pub rowLen-more : (s : Str) (i : ℕ) → i < length s → (getD s i 0 ≡ 10 → ⊥) → rowLen (drop i s) ≡ suc (rowLen (drop (i + 1) s))
-unfolding rowLen
-rowLen-more s i h e = rw (add-one, drop-cons s i 0, rowLen, ne-eqb (getD s i 0) 10 e)
-
 pub rowLen-end : (s : Str) (i : ℕ) → length s ≤ i → rowLen (drop i s) ≡ 0
 unfolding rowLen
 rowLen-end s i h = rw (drop-of-length-le s h)

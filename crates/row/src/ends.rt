@@ -42,8 +42,8 @@ fn eight_bytes(s: &[u8], i: usize) -> u64
         + 0x100_0000_0000_0000 * wide(s[i + 7])
 }
 
-// The highest bit of each byte 10 of a word. Seven low bits other than those of 10, plus 127, reach the highest bit and go no
-// further; a byte whose own highest bit is set is another too.
+// The highest bit of each byte 10 of a word. The seven low bits of a byte, exclusive or those of 10, plus 127, reach the highest
+// bit where they are not 0, and go no further; a byte whose own highest bit is set is another too.
 fn newline_bits(w: u64) -> u64
     ensures { λ r. ⌜ r ≡ newlineBits 8 w ⌝ }
 {

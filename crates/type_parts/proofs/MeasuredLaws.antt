@@ -2,11 +2,11 @@
 -- length alone, so that the order of arguments does not show. Assumes nothing.
 use mathlib.Core.Path.{_≡_, refl, sym, _∙_}
 use mathlib.Core.List.{List, [], _∷_, _++_}
-use Prim.Native.Nat.{ℕ, suc, _+_}
+use Prim.Native.Nat.{ℕ, _+_}
 use native.Mathlib.Omega.{arith}
 use lib.ListN.{length, length-append}
 use Rattle.text.specs.Bytes.{Str, unit}
-use Rattle.text.specs.Text.{next, put, adv, Wrote, WroteSome}
+use Rattle.text.specs.Text.{next, put, adv, WroteSome}
 use Rattle.text.specs.declared.Text.{Text}
 use Rattle.type_parts.specs.Parts.{listed, sepAfter, Listed}
 use Rattle.type_parts.specs.declared.Arguments.{Arguments}

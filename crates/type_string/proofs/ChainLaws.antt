@@ -8,14 +8,13 @@ use mathlib.Core.List.{List, [], _∷_}
 use mathlib.Core.Option.{Option, none, some}
 use Prim.Native.Nat.{ℕ, _+_, _-_, _<_, _≤_}
 use native.Mathlib.Omega.{arith}
-use lib.Dec.{eqb}
 use lib.ListN.{length, drop, take, getD}
 use Rattle.text.specs.Bytes.{Str, cond, both}
 use Rattle.text.specs.Text.{WroteSome}
 use Rattle.row.specs.Rows.{rows}
 use Rattle.tree.specs.Tree.{Scopes, end, Node}
 use Rattle.tree.proofs.OtherLines.{never}
-use Rattle.tree.specs.Reader.{Reading, times, On}
+use Rattle.tree.specs.Reader.{times, On}
 use Rattle.tree.specs.Read as read
 use Rattle.tree.specs.Read.{readType}
 use Rattle.nodes.specs.Index.{namesOf, sheetOf, Indexed}
@@ -28,7 +27,7 @@ use Rattle.types.specs.Find.{ScopeAt, before, endOf, ChainOf, LastScopes}
 use Rattle.types.specs.declared.Links.{Links}
 use Rattle.types.proofs.ChainLaws.{before-step, before-out}
 use Rattle.types.proofs.ScopeLaws.{placed}
-use Rattle.types.proofs.Laws.{on-one, on-two, on-all}
+use Rattle.types.proofs.Laws.{on-two, on-all}
 use Rattle.type_parts.specs.Parts.{Lists}
 use Rattle.type_parts.specs.declared.Arguments.{Arguments}
 use Rattle.type_parts.specs.declared.Argued.{Argued}
@@ -168,7 +167,8 @@ module _ (root s index : List ℕ) (left : ℕ) (l : List ℕ) (p : Arguments) (
 -- ---- either way
 
 -- what is known after so many nodes
-abbrev Known : Bool → (root s index : List ℕ) → ℕ → List ℕ → Arguments → Links → List ℕ → List ℕ → Arguments → Refusal → ℕ → Type 0
+abbrev Known : Bool → (root s index : List ℕ) → ℕ → List ℕ → Arguments → Links → List ℕ → List ℕ → Arguments → Refusal → ℕ
+    → Type 0
 Known true root s index left l p c places l′ p′ f done = Counting root s index left l p c places l′ p′ f done
 Known false root s index left l p c places l′ p′ f done = Writing root s index left l p c places l′ p′ f (c .count - done)
 

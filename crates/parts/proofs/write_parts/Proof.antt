@@ -58,8 +58,8 @@ returns-2 c =
     let put = rw (at-fit .fit .given .1) at (at-write-part .write-part .ensures) in
     let after = rw (c .enum-told2 .given .1) at (c .before .before .next-part .ensures) in
     let same = at-write-part .write-part .kept .1 .1 .1 .1 .1 .1 .1 .0 in
-    let done = parts-more _ _ _ _ _ _ _ _ l n (at-loop .loop .job .part) (at-loop .loop .inv) l′ _ _ after same (put .0) (put .1 .0)
-    (put .1 .1) in
+    let done = parts-more _ _ _ _ _ _ _ _ l n (at-loop .loop .job .part) (at-loop .loop .inv) l′ _ _ after same (put .0)
+    (put .1 .0) (put .1 .1) in
     (done .within, (omega (arith, done .fits), parts-last _ _ _ _ _ _ _ _ _ _ done))
 
 loop-less : tie.Need-loop-less Inv-loop μ-loop
@@ -80,7 +80,8 @@ loop-again c =
     let put = rw (at-fit .fit .given .1) at (at-write-part .write-part .ensures) in
     let after = rw (c .before .next .given .1) at (at-next-part .next-part .ensures) in
     let same = at-write-part .write-part .kept .1 .1 .1 .1 .1 .1 .1 .0 in
-    parts-more _ _ _ _ _ _ _ _ l n (at-loop .loop .job .part) (at-loop .loop .inv) l′ _ _ after same (put .0) (put .1 .0) (put .1 .1)
+    parts-more _ _ _ _ _ _ _ _ l n (at-loop .loop .job .part) (at-loop .loop .inv) l′ _ _ after same (put .0) (put .1 .0)
+    (put .1 .1)
 
 pub write-parts-spec : {M : Type 1} → statement M
 write-parts-spec =

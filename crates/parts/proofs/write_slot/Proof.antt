@@ -18,4 +18,6 @@ returns c =
     )
 
 pub write-slot-spec : {M : Type 1} → statement M
-write-slot-spec = tie.close (tie.spec (λ c κs. search needs) (λ c κs. search needs) (λ c κs. search needs) (λ c. search needs) returns)
+write-slot-spec =
+    tie.close
+    (tie.spec (λ c κs. search needs) (λ c κs. search needs) (λ c κs. search needs) (λ c. search needs) returns)

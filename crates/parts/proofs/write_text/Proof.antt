@@ -7,15 +7,15 @@ returns : tie.Need-returns
 returns c =
     let at-write-accessor = c .before .before in
     let at-at = at-write-accessor .before .before .before in
-    λ ns x at tag-is is. rw (at-at .before .asked .ensures, at-at .at .ensures) at (at-write-accessor .write-accessor .ensures .0 ns
-    x at tag-is is)
+    λ ns x at tag-is is. rw (at-at .before .asked .ensures, at-at .at .ensures) at
+    (at-write-accessor .write-accessor .ensures .0 ns x at tag-is is)
 
 returns-2 : tie.Need-returns-2
 returns-2 c =
     let at-field-accessor = c .before .before in
     let at-at = at-field-accessor .before .before .before in
-    λ ns x at tag-is is. rw (at-at .before .asked .ensures, at-at .at .ensures) at (at-field-accessor .field-accessor .ensures .0 ns
-    x at tag-is is)
+    λ ns x at tag-is is. rw (at-at .before .asked .ensures, at-at .at .ensures) at
+    (at-field-accessor .field-accessor .ensures .0 ns x at tag-is is)
 
 pub write-text-spec : {M : Type 1} → statement M
 write-text-spec =

@@ -15,7 +15,8 @@ returns c =
     let a = at-field-accessor .before .before .before .before .before .before .before .before .args in (
       λ nodes x at e h.
           refused-so (accessorText (sheetOf (a .root .now) nodes) at (a .accessor))
-          (at-field-accessor .field-accessor .ensures .0 nodes x at e h) _ (at-refusal .refusal .given .1) (c .refused .ensures .1),
+          (at-field-accessor .field-accessor .ensures .0 nodes x at e h) _ (at-refusal .refusal .given .1)
+          (c .refused .ensures .1),
       rw (c .refused .ensures .0) no-text,
     )
 

@@ -294,8 +294,8 @@ write-list-returns-4 t c =
     let at-if2 = at-list-head .before .before in let at-match = at-if2 .before in let at-type-row = at-match .before in
     let at-if1 = at-type-row .before in let at-args = at-if1 .before .before .before .before .before in (
       λ ns x. read-law.type-row (at-args .args .s .now) _ _ _ _ (at-type-row .type-row .ensures) (at-if1 .if1 .left)
-          (law.list-inner (sheetOf (at-args .args .root .now) ns) (at-args .args .leaf) _ _ _ _ _ _ _ (at-match .match .rest .0 .1)
-          (at-match .match .rest .1) (at-if2 .if2 .taken) (at-element-leaf .element-leaf .ensures)
+          (law.list-inner (sheetOf (at-args .args .root .now) ns) (at-args .args .leaf) _ _ _ _ _ _ _
+          (at-match .match .rest .0 .1) (at-match .match .rest .1) (at-if2 .if2 .taken) (at-element-leaf .element-leaf .ensures)
           (at-list-head .list-head .ensures) ((at-write-type .write-type .ensures .0) ns x) (at-byte .byte .ensures) refl refl),
       some-text (at-list-head .list-head .ensures) ⨟ (at-write-type .write-type .ensures .1) ⨟ some-text (at-byte .byte .ensures),
     )

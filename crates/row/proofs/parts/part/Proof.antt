@@ -1,4 +1,4 @@
--- `parts::part` meets its contract: each letter is one law, and one where its row does not fit. Assumes nothing.
+-- `row::part` meets its contract: each letter is one law, and one where its row does not fit. Assumes nothing.
 use borrow.Author.Needs.{needs}
 use Rattle.row.proofs.PartLaws.{part-none, part-type, type-out, part-scope, scope-out, part-unbound, unbound-out}
 use Rattle.row.proofs.parts.part.Statement.{statement}

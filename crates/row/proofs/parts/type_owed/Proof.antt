@@ -1,4 +1,4 @@
--- `parts::type_owed` meets its contract: the row's columns have the line's kind and its scopes. Assumes nothing.
+-- `row::type_owed` meets its contract: the row's columns have the line's kind and its scopes. Assumes nothing.
 use mathlib.Core.Path.{sym, _∙_}
 use Prim.Native.Nat.{_<_}
 use native.Mathlib.Omega.{arith}
