@@ -2,6 +2,7 @@ pub mod LineLaws
 pub mod SlotLaws
 pub mod FieldLaws
 pub mod TableLaws
+pub mod BlockLaws
 pub mod RepeatLaws
 pub mod LevelLaws
 pub mod GroupLaws

@@ -1,12 +1,12 @@
 -- Laws of the table of a group's lines. A place that is found has the line or is free; one more line at its free place leaves
 -- every other line where it was, so that a place which is free now was free before. By induction on the places below. Assumes
 -- nothing.
-use mathlib.Core.Path.{_≡_, refl, sym, _∙_}
+use mathlib.Core.Path.{_≡_, refl, sym, ap, _∙_}
 use mathlib.Core.Bool.{Bool, true, false}
 use mathlib.Core.Logic.{_⊎_, inl, inr, ⊎-elim}
 use mathlib.Core.List.{List, []}
 use Prim.Native.Nat.{ℕ, zero, suc, _+_, _-_, _^_, _≤_, _<_}
-use native.Mathlib.Numerals.{sub-one}
+use native.Mathlib.Numerals.{add-one}
 use native.Mathlib.Omega.{arith}
 use native.Mathlib.Decide.{ℕ-discrete}
 use borrow.Author.Tests.{eqb-true, eq-eqb, lt-ltb, le-ltb}
@@ -23,6 +23,11 @@ use Rattle.zeroing.proofs.SlotLaws.{either-true}
 -- ---- a place
 
 module _ (xs ys : List ℕ) (c o : ℕ) where
+  -- a search that comes to a place
+  place-at : (r i : ℕ) → placeBelow xs ys c o r (i + 1) ≡ cond (stops xs ys c o i) i (placeBelow xs ys c o r i)
+  unfolding placeBelow
+  place-at r i = rw add-one refl
+
   -- one turn of the search: q is the place that is found
   module _ (i q : ℕ) (found : placeBelow xs ys c o tableSize i ≡ q) where
     pub place-none : i ≤ 0 → tableSize ≡ q
@@ -31,14 +36,9 @@ module _ (xs ys : List ℕ) (c o : ℕ) where
 
     module _ (more : 0 < i) (b : Bool) (is : b ≡ stops xs ys c o (i - 1)) where
       turn : placeBelow xs ys c o tableSize i ≡ cond b (i - 1) (placeBelow xs ys c o tableSize (i - 1))
-      unfolding placeBelow
-      turn = rw is (go i more)
-        where
-          go : (i : ℕ) → 0 < i
-              → placeBelow xs ys c o tableSize i
-              ≡ cond (stops xs ys c o (i - 1)) (i - 1) (placeBelow xs ys c o tableSize (i - 1))
-          go zero h = let z : ⊥ = omega arith in absurd z
-          go (suc i) h = rw (sub-one (suc i)) refl
+      turn =
+          let e : i ≡ i - 1 + 1 = omega arith in
+          rw is (ap (placeBelow xs ys c o tableSize) e ∙ place-at tableSize (i - 1))
 
       pub place-here : b ≡ true → i - 1 ≡ q
       place-here e = rw (turn, e) at found
@@ -62,16 +62,39 @@ module _ (xs ys : List ℕ) (c o : ℕ) where
       go true e = rw (lt-ltb i tableSize (omega arith)) refl
       go false e = e
 
-  abbrev fromLast : ℕ
+  abbrev pub fromLast : ℕ
   fromLast = placeBelow xs ys c o tableSize tableSize
 
-  -- the two searches of the code: the own place p, and what the first one finds
-  module _ (p q : ℕ) (own : p ≡ ownPlace c o) (less : p < tableSize) (is : q ≡ placeBelow xs ys c o tableSize (p + 1)) where
-    pub own-found : q < tableSize → q ≡ tablePlace xs ys c o
-    own-found h = rw (← own, place-or fromLast (p + 1) (omega arith), ← is, lt-ltb q tableSize h) refl
+  -- the own place p and what its test says
+  module _ (p : ℕ) (own : p ≡ ownPlace c o) (b : Bool) (is : b ≡ stops xs ys c o p) where
+    pub own-here : b ≡ true → p ≡ tablePlace xs ys c o
+    own-here e = rw (← own, place-at fromLast p, ← is, e) refl
 
-    pub own-passed : (r : ℕ) → r ≡ fromLast → tableSize ≤ q → r ≡ tablePlace xs ys c o
-    own-passed r last h = rw (last, ← own, place-or fromLast (p + 1) (omega arith), ← is, le-ltb q tableSize h) refl
+    pub own-passed : b ≡ false → placeBelow xs ys c o fromLast p ≡ tablePlace xs ys c o
+    own-passed e = rw (← own, place-at fromLast p, ← is, e) refl
+
+  -- a search from the last place down that goes on with itself
+  last-again : placeBelow xs ys c o fromLast tableSize ≡ fromLast
+  last-again = place-or fromLast tableSize (omega arith) ∙ go (ltb fromLast tableSize)
+    where
+      go : (t : Bool) → cond t fromLast fromLast ≡ fromLast
+      go true = refl
+      go false = refl
+
+  -- what is found below an end, where the search from there on, and then from the last place down, gives the place
+  module _ (end : ℕ) (most : end ≤ tableSize) (left : placeBelow xs ys c o fromLast end ≡ tablePlace xs ys c o) (q : ℕ)
+      (is : q ≡ placeBelow xs ys c o tableSize end) where
+    pub below-found : q < tableSize → q ≡ tablePlace xs ys c o
+    below-found h = rw (place-or fromLast end most, ← is, lt-ltb q tableSize h) at left
+
+    below-none : tableSize ≤ q → fromLast ≡ tablePlace xs ys c o
+    below-none h = rw (place-or fromLast end most, ← is, le-ltb q tableSize h) at left
+
+    pub below-on : tableSize ≤ q → (n : ℕ) → n ≡ tableSize → placeBelow xs ys c o fromLast n ≡ tablePlace xs ys c o
+    below-on h n e = rw e (last-again ∙ below-none h)
+
+    pub below-last : tableSize ≤ q → end ≡ tableSize → q ≡ tablePlace xs ys c o
+    below-last h e = is ∙ ap (placeBelow xs ys c o tableSize) e ∙ below-none h
 
   -- a place that is found has the line or is free
   place-stops : (r i : ℕ) → (r < tableSize → stops xs ys c o r ≡ true) → placeBelow xs ys c o r i < tableSize

@@ -5,9 +5,10 @@ use mathlib.Core.Bool.{Bool, true, false}
 use mathlib.Core.List.{List}
 use Prim.Native.Nat.{ℕ, zero, suc, _+_, _*_, _%_, _^_, _<_}
 use lib.Dec.{eqb}
-use lib.ListN.{getD}
+use lib.ListN.{getD, take, drop}
 use Rattle.text.specs.Bytes.{cond, both, either}
 use Rattle.tree.specs.Tree.{Field}
+use Rattle.tree.specs.Read.{among}
 use Rattle.zeroing.specs.Lines.{repeats}
 
 -- how many places the table has
@@ -27,6 +28,20 @@ unfoldable pub placeBelow : List ℕ → List ℕ → ℕ → ℕ → ℕ → �
 placeBelow offsets types type offset none zero = none
 placeBelow offsets types type offset none (suc i) =
     cond (stops offsets types type offset i) i (placeBelow offsets types type offset none i)
+
+-- how many places are a block, which a long search looks at in one turn
+abbrev pub blockSize : ℕ
+blockSize = 8
+
+-- whether some places may stop a search for a line at an offset, by their offsets alone: a free place has offset 0
+abbrev pub mayStop : List ℕ → ℕ → Bool
+mayStop offsets offset = either (among offset offsets) (among 0 offsets)
+
+-- how many of the first n blocks are left to a search down them: up to the last that may stop it
+unfoldable pub blocksLeft : List ℕ → ℕ → ℕ → ℕ
+blocksLeft offsets offset zero = zero
+blocksLeft offsets offset (suc n) =
+    cond (mayStop (take blockSize (drop (n * blockSize) offsets)) offset) (suc n) (blocksLeft offsets offset n)
 
 -- a line's own place: the lines of one type at offsets in a row stand 13 apart, and those of the twelve types beside each other
 abbrev pub ownPlace : ℕ → ℕ → ℕ

@@ -10,25 +10,30 @@ ghost use mathlib.Core.Path.{_≡_};
 ghost use mathlib.Core.Bool.{false};
 ghost use mathlib.Core.List.{List};
 ghost use mathlib.Core.Option.{some};
-ghost use Prim.Native.Nat.{_<_, _≤_};
+ghost use Prim.Native.Nat.{_*_, _<_, _≤_};
 ghost use lib.Dec.{eqb};
 ghost use lib.ListN.{length, drop, take};
 ghost use Rattle.text.specs.Bytes.{Str, both, either};
 ghost use Rattle.text.specs.Text.{Wrote, WroteSome};
 ghost use Rattle.row.specs.Rows.{rows};
 ghost use Rattle.tree.specs.Tree as tree;
+ghost use Rattle.tree.specs.Read.{among};
 ghost use Rattle.tree.specs.Fields.{FieldsHere};
 ghost use Rattle.nodes.specs.Index.{ForAll};
 ghost use Rattle.codegen_types.specs.Written.{refusalNumber};
 ghost use Rattle.codegen.specs.Zeroing.{zeroFieldsOfGroup};
 ghost use Rattle.zeroing.specs.Lines.{lineType, zeroText, repeats, slotLines, tagLines};
 ghost use Rattle.zeroing.specs.Table.{tableSize, hasBoth, stops, placeBelow, tablePlace, Knows, Kept, withLine};
+ghost use Rattle.zeroing.specs.Table.{blockSize, mayStop, blocksLeft};
 ghost use Rattle.zeroing.specs.Added.{Added, AddedSlot, Adds};
 ghost use Rattle.zeroing.specs.Path.{Leads, innerLevels};
 ghost use Rattle.zeroing.specs.Told.{Zeroes};
 
 // How many lines of one group the table has room for. A sheet of 65,536 bytes has 300 slots at most.
 const SIZE: usize = 307;
+
+// How many places of the table a long search looks at in one turn.
+const BLOCK: usize = 8;
 
 // The types of lines: none of a Void slot; a Bool's; a number's, up to the last, with an enum's being a Uint16's; a pointer's.
 const NO_LINE: u8 = 0;
@@ -129,34 +134,89 @@ fn is_stop(offsets: &[u32], types: &[u8], i: usize, typ: u8, offset: u32) -> boo
     has_both(offsets, types, i, 0, 0)
 }
 
+// Whether a number is one of these. All are compared, without a branch, so that the compiler compares several at once.
+fn among(numbers: &[u32], number: u32) -> bool
+    ensures { λ r. ⌜ r ≡ among number (now (numbers .entry)) ⌝ }
+{
+    let mut found = false;
+    let mut i = 0;
+    while i < numbers.len() {
+        found = found | (numbers[i] == number);
+        i += 1;
+    }
+    found
+}
+
+// Whether a line at an offset can stand among some places, or one of them be free, by their offsets alone.
+fn may_stop(offsets: &[u32], offset: u32) -> bool
+    ensures { λ r. ⌜ r ≡ mayStop (now (offsets .entry)) offset ⌝ }
+{
+    among(offsets, offset) | among(offsets, 0)
+}
+
+// How many of the first `count` blocks of the table are left to a search down them, up to the last that may stop it.
+fn blocks_left(offsets: &[u32], count: usize, offset: u32) -> usize
+    requires { ⌜ count * blockSize ≤ length (now offsets) ⌝ }
+    ensures { λ r. ⌜ r ≡ blocksLeft (now (offsets .entry)) offset count ⌝ }
+{
+    let mut n = count;
+    while 0 < n {
+        let from = (n - 1) * BLOCK;
+        if may_stop(&offsets[from..from + BLOCK], offset) {
+            return n;
+        }
+        n -= 1;
+    }
+    0
+}
+
 // The last place of the table, below one, that is free or has the line of a type at an offset. The table's size where there is
-// none.
+// none. Below the block that it begins in, it passes over the blocks that cannot stop it.
 fn place_below(offsets: &[u32], types: &[u8], end: usize, typ: u8, offset: u32) -> usize
     requires { ⌜ (length (now offsets) ≡ tableSize) × (length (now types) ≡ tableSize) × (end ≤ tableSize) ⌝ }
     ensures { λ r. ⌜ r ≡ placeBelow (now (offsets .entry)) (now (types .entry)) typ offset tableSize end ⌝ }
 {
+    if end == 0 {
+        return SIZE;
+    }
     let mut i = end;
-    while 0 < i {
+    loop {
         i -= 1;
         if is_stop(offsets, types, i, typ, offset) {
             return i;
         }
+        if i % BLOCK != 0 {
+            continue;
+        }
+        i = blocks_left(offsets, i / BLOCK, offset) * BLOCK;
+        if i == 0 {
+            return SIZE;
+        }
     }
-    SIZE
 }
 
-// The place of the line of a type at an offset in the table: the first one, from the line's own down, that has the line or is
-// free; where there is none, the last of all. The table's size where there is none at all.
+// The place of the line of a type at an offset in the table: its own, or the first one from there down that has the line or is
+// free; where there is none, the last of all. The table's size where there is none at all. The search is called at one place of
+// the code, with no constant for its end, so that it is compiled in place and a line at its own place pays for no call.
 fn place(offsets: &[u32], types: &[u8], typ: u8, offset: u32) -> usize
     requires { ⌜ (length (now offsets) ≡ tableSize) × (length (now types) ≡ tableSize) ⌝ }
     ensures { λ r. ⌜ r ≡ tablePlace (now (offsets .entry)) (now (types .entry)) typ offset ⌝ }
 {
     let own = ((offset % 65536) as usize * 13 + typ as usize) % SIZE;
-    let i = place_below(offsets, types, own + 1, typ, offset);
-    if i < SIZE {
-        return i;
+    if is_stop(offsets, types, own, typ, offset) {
+        return own;
     }
-    place_below(offsets, types, SIZE, typ, offset)
+    let mut end = own;
+    loop {
+        let i = place_below(offsets, types, end, typ, offset);
+        if i < SIZE {
+            return i;
+        }
+        if end == offsets.len() {
+            return i;
+        }
+        end = offsets.len();
+    }
 }
 
 // Whether a group has the line of a type at an offset already, after `count` fields, the first of them at `first`. If not, the

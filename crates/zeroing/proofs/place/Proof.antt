@@ -1,30 +1,66 @@
--- `zeroing::place` meets its contract: the place that is found from the line's own down, or the last of all. Assumes nothing.
-use mathlib.Core.Path.{refl}
-use native.Mathlib.Nat.{mod-lt, zero-lt-suc}
+-- `zeroing::place` meets its contract: the line's own place, or what a search from there down, and then from the last place
+-- down, finds. The loop's invariant: what is left of that search gives the line's place. Assumes nothing.
+use mathlib.Core.Path.{_≡_, refl}
+use Prim.Native.Nat.{_-_, _≤_}
+use native.Mathlib.Omega.{arith}
 use borrow.Author.Needs.{needs}
-use Rattle.zeroing.proofs.TableLaws.{own-found, own-passed}
+use Rattle.zeroing.specs.Table.{tableSize, placeBelow, tablePlace}
+use Rattle.zeroing.proofs.TableLaws.{fromLast, own-here, own-passed, below-found, below-on, below-last}
 use Rattle.zeroing.proofs.place.Statement.{statement}
 use Rattle.zeroing.proofs.place.Tie as tie
 
-returns : tie.Need-returns
-returns c =
-    own-found _ _ _ _ _ _ refl (mod-lt _ (zero-lt-suc 306)) (c .before .place-below .ensures) (c .if1 .taken)
+abbrev Inv-loop : tie.InvT-loop
+Inv-loop offsets types typ offset own end₀ end =
+    (end ≤ tableSize)
+    × (placeBelow offsets types typ offset (fromLast offsets types typ offset) end ≡ tablePlace offsets types typ offset)
 
-returns-2 : tie.Need-returns-2
+abbrev μ-loop : tie.MeasureT-loop
+μ-loop offsets types typ offset own end₀ end = tableSize - end
+
+returns : tie.Need-returns Inv-loop μ-loop
+returns c =
+    own-here _ _ _ _ _ refl _ (c .before .is-stop .ensures) (c .if1 .taken)
+
+loop-holds : tie.Need-loop-holds Inv-loop μ-loop
+loop-holds c =
+    (omega arith, own-passed _ _ _ _ _ refl _ (c .before .is-stop .ensures) (c .if1 .left))
+
+returns-2 : tie.Need-returns-2 Inv-loop μ-loop
 returns-2 c =
-    let at-if1 = c .before in
-    own-passed _ _ _ _ _ _ refl (mod-lt _ (zero-lt-suc 306)) (at-if1 .before .place-below .ensures) _
-    (c .place-below2 .ensures) (at-if1 .if1 .left)
+    let at-place-below = c .before in
+    let l = at-place-below .before .loop in
+    below-found _ _ _ _ (l .end) (l .inv .0) (l .inv .1) _ (at-place-below .place-below .ensures) (c .if2 .taken)
+
+returns-3 : tie.Need-returns-3 Inv-loop μ-loop
+returns-3 c =
+    let at-if2 = c .before in
+    let at-place-below = at-if2 .before in
+    let l = at-place-below .before .loop in
+    below-last _ _ _ _ (l .end) (l .inv .0) (l .inv .1) _ (at-place-below .place-below .ensures) (at-if2 .if2 .left)
+    (omega arith)
+
+loop-again : tie.Need-loop-again Inv-loop μ-loop
+loop-again c =
+    let at-if2 = c .before in
+    let at-place-below = at-if2 .before in
+    let l = at-place-below .before .loop in
+    let found = at-place-below .place-below .ensures in
+    (omega arith, below-on _ _ _ _ (l .end) (l .inv .0) (l .inv .1) _ found (at-if2 .if2 .left) _ (omega arith))
 
 pub place-spec : {M : Type 1} → statement M
 place-spec =
     tie.close
     (tie.spec
-    (λ c. search needs)
+    Inv-loop
+    μ-loop
     (λ c. search needs)
     (λ c. search needs)
     (λ c. search needs)
     (λ c κs. search needs)
     returns
+    loop-holds
     (λ c κs. search needs)
-    returns-2)
+    returns-2
+    returns-3
+    (λ c. search needs)
+    loop-again)
