@@ -1,15 +1,21 @@
--- Laws of arguments over an empty buffer, where they are counted and not written: the state after a text depends on the text's
--- length alone, so that the order of arguments does not show. Assumes nothing.
+-- Laws of arguments past the end of the buffer, where they are counted and not written: the state after a text depends on the
+-- text's length alone, so that over an empty buffer the order of arguments does not show, and so that arguments of known lengths
+-- are counted at once. Assumes nothing.
 use mathlib.Core.Path.{_≡_, refl, sym, _∙_}
 use mathlib.Core.List.{List, [], _∷_, _++_}
-use Prim.Native.Nat.{ℕ, _+_}
+use Prim.Native.Nat.{ℕ, zero, suc, _+_, _-_, _*_, _/_, _^_, _<_, _≤_, min}
+use native.Mathlib.Nat.{suc-mul, zero-mul, div-lt-iff-lt-mul, le-div-iff-mul-le}
 use native.Mathlib.Omega.{arith}
-use lib.ListN.{length, length-append}
-use Rattle.text.specs.Bytes.{Str, unit}
-use Rattle.text.specs.Text.{next, put, adv, WroteSome}
+use lib.ListN.{length, replicate, length-append, length-replicate}
+use Rattle.text.specs.Bytes.{Str, ascii, unit}
+use Rattle.text.specs.Text.{next, put, adv, stateAt, WroteSome}
 use Rattle.text.specs.declared.Text.{Text}
+use Rattle.text.proofs.Places.{counted}
+use Rattle.codegen_types.specs.TypeString.{anyOwned}
 use Rattle.type_parts.specs.Parts.{listed, sepAfter, Listed}
 use Rattle.type_parts.specs.declared.Arguments.{Arguments}
+
+-- ---- the order of arguments over an empty buffer
 
 put-none : (t : Text) (a : List ℕ) → put [] t a ≡ []
 unfolding put
@@ -59,3 +65,42 @@ listed-swap {p} {p′} x y h = record {
   };
   sep = h .sep ∙ sep-swap (p .sep) x y;
 }
+
+-- ---- arguments counted at once
+
+-- whether a product takes the count past the largest usize, where it stops
+module _ (at n size : ℕ) (some : 0 < size) (b : at ≤ 2 ^ 64 - 1) where
+  pub count-stops : (2 ^ 64 - 1 - at) / size < n → 2 ^ 64 - 1 ≡ min (at + n * size) (2 ^ 64 - 1)
+  count-stops h = omega (arith, div-lt-iff-lt-mul some .0 h)
+
+  pub count-fits : n ≤ (2 ^ 64 - 1 - at) / size → at + n * size ≤ 2 ^ 64 - 1
+  count-fits h = omega (arith, le-div-iff-mul-le some .0 h)
+
+sep-some : (b : ℕ) (ws : List Str) → 0 < length ws → 44 ≡ sepAfter b ws
+unfolding sepAfter
+sep-some b [] h = let z : ⊥ = omega arith in absurd z
+sep-some b (w ∷ ws) h = refl
+
+-- arguments that begin past the end of l, after which the count is n further on
+module _ (l : List ℕ) (p : Arguments) (h : length l ≤ p .text .at) (b : p .text .at ≤ 2 ^ 64 - 1) (n : ℕ) (t : Text) where
+  at-once : (ws : List Str) → 0 < length ws → n ≡ taken ws → t ≡ stateAt (min (p .text .at + n) (2 ^ 64 - 1))
+      → Listed l p ws l (record { text = t; sep = 44 })
+  at-once ws m e f = record {
+    text = rw (f, e, ← listed-length (p .sep) ws) (counted l (p .text) (listed (p .sep) ws) h b);
+    sep = sep-some (p .sep) ws m;
+  }
+
+taken-same : (n : ℕ) (w : Str) → taken (replicate n w) ≡ n * (1 + length w)
+unfolding taken
+taken-same zero w = sym (zero-mul (1 + length w))
+taken-same (suc n) w = omega (arith, taken-same n w, suc-mul n (1 + length w))
+
+-- parameters that are not bound
+pub unbound-counted : (root l : List ℕ) (p : Arguments) (n : ℕ) (t : Text) → length l ≤ p .text .at → p .text .at ≤ 2 ^ 64 - 1
+    → 0 < n → t ≡ stateAt (min (p .text .at + n * (1 + length root + 20)) (2 ^ 64 - 1))
+    → Listed l p (replicate n (anyOwned root)) l (record { text = t; sep = 44 })
+unbound-counted root l p n t h b m e =
+    let z : 1 + length root + 20 ≡ 1 + length (anyOwned root) = omega
+    (arith, length-append root (ascii "::any_pointer::Owned")) in
+    at-once l p h b (n * (1 + length root + 20)) t (replicate n (anyOwned root)) (rw (length-replicate n (anyOwned root)) m)
+    (rw z (sym (taken-same n (anyOwned root)))) e

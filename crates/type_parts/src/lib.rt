@@ -10,9 +10,10 @@ use terms::refusals;
 use text::Text;
 ghost use mathlib.Core.Path.{_≡_};
 ghost use mathlib.Core.List.{_++_};
+ghost use Prim.Native.Nat.{_+_, _-_, _*_, _^_, _<_, min};
 ghost use lib.ListN.{drop, replicate};
 ghost use Rattle.text.specs.Bytes.{Str, ascii};
-ghost use Rattle.text.specs.Text.{Wrote, WroteSome};
+ghost use Rattle.text.specs.Text.{Wrote, WroteSome, stateAt};
 ghost use Rattle.row.specs.Rows.{rows};
 ghost use Rattle.tree.specs.Tree.{parameter};
 ghost use Rattle.nodes.specs.Index.{ForAll};
@@ -35,6 +36,9 @@ pub struct Argued {
     pub arguments: Arguments,
     pub refusal: Refusal,
 }
+
+// How many bytes stand behind the root in the text of a parameter that is not bound.
+const ANY_OWNED_BYTES: usize = 20;
 
 // The root, a path below it, and the leaf's display.
 pub fn displayed(root: &[u8], path: &[u8], leaf: Leaf, t: Text, buf: &mut [u8]) -> Text
@@ -178,7 +182,19 @@ pub fn inherited(s: &[u8], from: usize, count: u64, first: Arguments, buf: &mut 
     p
 }
 
-// So many parameters that are not bound.
+// The state after so many texts of so many bytes each, all of them past the end of the buffer: they are counted at once.
+fn counted(count: u64, size: usize, t: Text) -> Text
+    requires { ⌜ 0 < size ⌝ }
+    ensures { λ r. ⌜ r ≡ stateAt (min (t .at + count * size) (2 ^ 64 - 1)) ⌝ }
+{
+    let at = t.fill();
+    if (usize::MAX - at) / size < count as usize {
+        return Text::at(usize::MAX);
+    }
+    Text::at(at + count as usize * size)
+}
+
+// So many parameters that are not bound. Past the end of the buffer all that are left have one size and are not looked at.
 pub fn unbound(root: &[u8], count: u64, first: Arguments, buf: &mut [u8]) -> Arguments
     ensures { λ r. ⌜ Listed (now (buf .entry)) first (replicate count (anyOwned (now (root .entry)))) (now (buf .exit)) r ⌝ }
 {
@@ -186,6 +202,10 @@ pub fn unbound(root: &[u8], count: u64, first: Arguments, buf: &mut [u8]) -> Arg
     let mut p = first;
     while 0 < n {
         let t = p.text;
+        if buf.len() <= t.fill() {
+            let t = counted(n, 1 + root.len() + ANY_OWNED_BYTES, t);
+            return Arguments { text: t, sep: b',' };
+        }
         let t = t.byte(buf, p.sep);
         let t = any_owned(root, t, buf);
         p = Arguments { text: t, sep: b',' };
