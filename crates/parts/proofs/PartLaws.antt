@@ -16,17 +16,22 @@ use Rattle.tree.proofs.OtherLines.{never}
 use Rattle.codegen_types.specs.Out.{Out, ok, refused}
 use Rattle.codegen_types.specs.Written.{Writes}
 use Rattle.codegen_types.specs.declared.Written.{Written}
+use Rattle.codegen_types.specs.declared.Refusal.{Refusal}
 use Rattle.codegen_types.specs.declared.Refusal.the-variants.{None, Number}
 use Rattle.nodes.specs.Index.{ForAll, sheetOf}
 use Rattle.field.specs.declared.Field.{Field}
 use Rattle.requests.specs.Requests.{accessorText}
 use Rattle.parts.specs.Program.{partsFrom, accessorOf, headerText, refusedText, partText, printedPart, eachText}
-use Rattle.parts.specs.Fit.{partMost, fitOf, Puts, Named, PartPut, PartsPut}
+use Rattle.parts.specs.Fit.{partMost, fitOf, Puts, SaidUnder, Named, PartPut, PartsPut}
 use Rattle.parts.specs.declared.Part.{Part}
 use Rattle.parts.specs.declared.Part.the-variants.{GetterReader, GetterBuilder, Setter, HaserReader, HaserBuilder, Zero}
 use Rattle.parts.specs.declared.Fit.{Fit}
 use Rattle.parts.specs.declared.Fit.the-variants.{Whole}
 use Rattle.parts.proofs.FitLaws.{text-end, taken-puts, lent, back, lent-length, back-length, on-within, taken-on}
+
+-- a refusal that is known early, by its number
+pub said-number : (r : Refusal) (text : Str) (k : ℕ) → r ≡ Number k → SaidUnder r text → refusedText k ≡ text
+said-number r text k e h = rw e at h
 
 -- ---- what stands under a header, over the outcome of the accessor's text, which left l′ and r
 

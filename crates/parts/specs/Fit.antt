@@ -11,7 +11,9 @@ use Rattle.nodes.specs.Index.{ForAll}
 use Rattle.field.specs.Field.{FieldIs}
 use Rattle.field.specs.declared.Field.{Field}
 use Rattle.requests.specs.Told.{OfField}
-use Rattle.parts.specs.Program.{partsFrom, printedPart, eachText, fieldText}
+use Rattle.codegen_types.specs.declared.Refusal.{Refusal}
+use Rattle.codegen_types.specs.declared.Refusal.the-variants.{None, Number}
+use Rattle.parts.specs.Program.{partsFrom, refusedText, printedPart, eachText, fieldText}
 use Rattle.parts.specs.declared.Part.{Part}
 use Rattle.parts.specs.declared.Next.{Next}
 use Rattle.parts.specs.declared.Next.the-variants.{Is, Nothing}
@@ -44,6 +46,11 @@ TakesAtMost most l Short = length l < most
 abbrev pub Puts : Str → Str → Fit → Type 0
 Puts text l (Whole n) = take n l ≡ text
 Puts text l Short = Unit {0}
+
+-- a refusal that is known early is what stands under the header
+abbrev pub SaidUnder : Refusal → Str → Type 0
+SaidUnder (Number k) text = refusedText k ≡ text
+SaidUnder None text = Unit {0}
 
 -- the parts of a field after one
 abbrev pub partsAfter : Next → List Part

@@ -1,6 +1,6 @@
 // What the program `accessors` prints: document 01's headers and texts, in their order, in pieces as large as the output buffer
 // holds. All that is printed of a field is a unit: its parts, one behind the other, each written straight into the buffer, and
-// measured before only where a getter of the field is refused.
+// measured before only where a getter of the field is refused or too long.
 use codegen_types::Refusal;
 use codegen_types::Written;
 use field::Field;
@@ -25,6 +25,7 @@ ghost use Rattle.requests.specs.Told.{OfField, AccessorWritten};
 ghost use Rattle.parts.specs.Program.{partsFrom, accessorOf, headerText, refusedText, partText};
 ghost use Rattle.parts.specs.Program.{opening as Program·opening};
 ghost use Rattle.parts.specs.Fit.{partMost, fitOf, Within, TakesAtMost, Puts, partsAfter, PartPut, PartsPut, FieldPut};
+ghost use Rattle.parts.specs.Fit.{SaidUnder};
 
 // The bytes that a text has at most; a longer one is refused with 22.
 const TEXT_SIZE: usize = 65536;
@@ -171,19 +172,52 @@ fn write_text(
     index: &[u64],
     field: Field,
     tag: u64,
-    job: Job,
+    part: Part,
     buf: &mut [u8],
 ) -> Written
     ensures { λ r. ⌜ AccessorWritten (now (s .entry)) (now (index .entry)) (now (root .entry)) tag field
-        (accessorOf (job .part)) (now (buf .entry)) (stateAt 0) (now (buf .exit)) r ⌝ }
+        (accessorOf part) (now (buf .entry)) (stateAt 0) (now (buf .exit)) r ⌝ }
 {
-    let part = job.part;
     let accessor = asked(part);
     let t = Text::at(0);
-    if job.measured {
-        return requests::write_accessor(root, s, index, field, tag, accessor, t, buf);
-    }
     requests::field_accessor(root, s, index, field, tag, accessor, t, buf)
+}
+
+// The refusal that a part's text is found to have when it is measured: its own, or 22 where it is too long.
+fn measured_refusal(
+    root: &[u8],
+    s: &[u8],
+    index: &[u64],
+    field: Field,
+    tag: u64,
+    part: Part,
+) -> Refusal
+    ensures { λ r. ⌜ OfField (now (root .entry)) (now (s .entry)) (now (index .entry)) tag field
+        (λ sheet at. SaidUnder r (partText (accessorText sheet at (accessorOf part)))) ⌝ }
+{
+    let mut empty = [0u8; 0];
+    let measured = write_text(root, s, index, field, tag, part, &mut empty);
+    let refusal = measured.refusal;
+    if let Refusal::Number(number) = refusal {
+        return Refusal::Number(number);
+    }
+    let t = measured.text;
+    if TEXT_SIZE < t.fill() {
+        return Refusal::Number(refusals::NO_ROOM);
+    }
+    Refusal::None
+}
+
+// The refusal of a part that is to be measured before it is written; of any other none is known yet.
+fn early_refusal(root: &[u8], s: &[u8], index: &[u64], field: Field, tag: u64, job: Job) -> Refusal
+    ensures { λ r. ⌜ OfField (now (root .entry)) (now (s .entry)) (now (index .entry)) tag field
+        (λ sheet at. SaidUnder r (partText (accessorText sheet at (accessorOf (job .part))))) ⌝ }
+{
+    if job.measured {
+        let part = job.part;
+        return measured_refusal(root, s, index, field, tag, part);
+    }
+    Refusal::None
 }
 
 // What stands under the header of a part of a field that was read. Where its text is refused or too long, the refusal is written
@@ -202,7 +236,12 @@ fn under_header(
     ensures said { λ r. ⌜ OfField (now (root .entry)) (now (s .entry)) (now (index .entry)) tag field
         (λ sheet at. Puts (partText (accessorText sheet at (accessorOf (job .part)))) (now (buf .exit)) r) ⌝ }
 {
-    let written = write_text(root, s, index, field, tag, job, buf);
+    let early = early_refusal(root, s, index, field, tag, job);
+    if let Refusal::Number(number) = early {
+        return refused(number, buf);
+    }
+    let part = job.part;
+    let written = write_text(root, s, index, field, tag, part, buf);
     let refusal = written.refusal;
     if let Refusal::Number(number) = refusal {
         return refused(number, buf);
@@ -278,26 +317,13 @@ fn write_parts(
     }
 }
 
-// Whether a getter of the field is refused, where its type may have scopes. The texts of such a field are measured before they
-// are written, each as far as the Rust comes; those of any other are written at once.
+// Whether a getter of the field is refused or too long, where its type may have scopes. The texts of such a field are measured
+// before they are written, each as far as the Rust comes; those of any other are written at once.
 fn is_refused(root: &[u8], s: &[u8], index: &[u64], field: Field, tag: u64) -> bool {
     if !requests::may_have_scopes(field) {
         return false;
     }
-    let accessor = asked(Part::GetterReader);
-    let mut empty = [0u8; 0];
-    let getter = requests::field_accessor(
-        root,
-        s,
-        index,
-        field,
-        tag,
-        accessor,
-        Text::at(0),
-        &mut empty,
-    );
-    let refusal = getter.refusal;
-    match refusal {
+    match measured_refusal(root, s, index, field, tag, Part::GetterReader) {
         Refusal::None => false,
         Refusal::Number(_) => true,
     }

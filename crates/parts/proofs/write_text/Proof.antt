@@ -1,19 +1,12 @@
--- `parts::write_text` meets its contract: either way it is the accessor's text from the start of the buffer on. Assumes nothing.
+-- `parts::write_text` meets its contract: the accessor's text from the start of the buffer on. Assumes nothing.
 use borrow.Author.Needs.{needs}
 use Rattle.parts.proofs.write_text.Statement.{statement}
 use Rattle.parts.proofs.write_text.Tie as tie
 
 returns : tie.Need-returns
 returns c =
-    let at-write-accessor = c .before .before in
-    let at-at = at-write-accessor .before .before .before in
-    λ ns x at tag-is is. rw (at-at .before .asked .ensures, at-at .at .ensures) at
-    (at-write-accessor .write-accessor .ensures .0 ns x at tag-is is)
-
-returns-2 : tie.Need-returns-2
-returns-2 c =
     let at-field-accessor = c .before .before in
-    let at-at = at-field-accessor .before .before .before in
+    let at-at = at-field-accessor .before .before in
     λ ns x at tag-is is. rw (at-at .before .asked .ensures, at-at .at .ensures) at
     (at-field-accessor .field-accessor .ensures .0 ns x at tag-is is)
 
@@ -25,7 +18,4 @@ write-text-spec =
     (λ c κs. search needs)
     (λ c κs. search needs)
     (λ c. search needs)
-    returns
-    (λ c κs. search needs)
-    (λ c. search needs)
-    returns-2)
+    returns)
