@@ -153,7 +153,8 @@ size_t kitlubas_blank_line(size_t at, uint8_t *buf, size_t buf_len);
 /* What capnpc makes of no lines. */
 size_t kitlubas_no_lines(size_t at, uint8_t *buf, size_t buf_len);
 
-/* The name in snake case: bedId is bed_id. A name is taken that has at most 64 bytes, all of them ASCII. */
+/* The name in snake case: bedId is bed_id. A name is taken that has at most 64 bytes, of ASCII and of letters from U+00C0 to
+   U+00FF without U+00D7 and U+00F7, in UTF-8. */
 size_t kitlubas_snake(size_t at, uint8_t *buf, size_t buf_len, const uint8_t *name, size_t name_len);
 
 /* The name of the constant that holds the default of a field with this name: DEFAULT_BED_ID. Names as above. */

@@ -31,22 +31,22 @@ impl<'n> Table<'n> {
         Table { node, structs, slots: String::new(), pointers: String::new(), groups: String::new() }
     }
 
-    pub fn slot(&mut self, place: usize, slot: &Slot, texts: &Texts) {
+    pub fn slot(&mut self, styled_name: &str, slot: &Slot, texts: &Texts) {
         let tag = match slot.discriminant {
             65535 => "None".to_string(),
             value => format!("Some(({}, {value}))", self.node.tag.expect("a member's node has a union")),
         };
         let head = format!("name: {:?}, kind: {}, offset: {}, tag: {tag}", slot.name, slot.kind, slot.offset);
         if slot.is_pointer() {
-            self.pointers += &self.pointer_row(head, place, slot, texts);
+            self.pointers += &self.pointer_row(head, styled_name, slot, texts);
         } else {
-            self.slots += &self.data_row(head, place, slot, texts);
+            self.slots += &self.data_row(head, styled_name, slot, texts);
         }
     }
 
-    pub fn group(&mut self, place: usize, group: &Field, text: &str) {
+    pub fn group(&mut self, styled_name: &str, group: &Field, text: &str) {
         let Field::Group { id, name } = group else { return };
-        let zero = format!("|b| {}::from(b).zero_{place}()", self.structs[1]);
+        let zero = format!("|b| {}::from(b).zero_{styled_name}()", self.structs[1]);
         self.groups += &format!("crate::slots::Group {{ name: {name:?}, id: {id}, text: {text:?}, zero: {zero} }}, ");
     }
 
@@ -60,15 +60,15 @@ impl<'n> Table<'n> {
     }
 
     /// The two getters of a side, whose answers `shown` turns into what can be compared.
-    fn getters(&self, side: usize, place: usize, texts: &Texts, shown: &str) -> String {
+    fn getters(&self, side: usize, styled_name: &str, texts: &Texts, shown: &str) -> String {
         let row = |form: usize, method: &str| {
-            let run = format!("|s| {shown}({}::from(s).{method}_{place}())", self.structs[side]);
+            let run = format!("|s| {shown}({}::from(s).{method}_{styled_name}())", self.structs[side]);
             accessor(&texts.getters[side][form], &run)
         };
         format!("[{}, {}]", row(0, "get"), row(1, "plain"))
     }
 
-    fn data_row(&self, head: String, place: usize, slot: &Slot, texts: &Texts) -> String {
+    fn data_row(&self, head: String, styled_name: &str, slot: &Slot, texts: &Texts) -> String {
         let set = format!(
             "|s, bits| {{ let value = crate::values::Value::of_bits(bits); {}::from(s).{}(value); \
              crate::values::Bits::bits(value) }}",
@@ -80,13 +80,13 @@ impl<'n> Table<'n> {
             "crate::slots::Slot {{ {head}, default: {}, explicit: {}, readers: {}, builders: {}, setter: {} }}, ",
             slot.bits,
             slot.explicit,
-            self.getters(0, place, texts, "crate::values::Bits::bits"),
-            self.getters(1, place, texts, "crate::values::Bits::bits"),
+            self.getters(0, styled_name, texts, "crate::values::Bits::bits"),
+            self.getters(1, styled_name, texts, "crate::values::Bits::bits"),
             accessor(&texts.setter, &set)
         )
     }
 
-    fn pointer_row(&self, head: String, place: usize, slot: &Slot, texts: &Texts) -> String {
+    fn pointer_row(&self, head: String, styled_name: &str, slot: &Slot, texts: &Texts) -> String {
         let has = |side: usize| {
             let name = function(&texts.hasers[side], "has_").expect("a pointer slot has hasers");
             accessor(&texts.hasers[side], &format!("|s| {}::from(s).{name}()", self.structs[side]))
@@ -94,8 +94,8 @@ impl<'n> Table<'n> {
         format!(
             "crate::slots::PointerSlot {{ {head}, readers: {}, builders: {}, setter: {:?}, set: {}, init: {}, \
              has_reader: {}, has_builder: {}, default: {} }}, ",
-            self.getters(0, place, texts, "crate::samples::Show::show"),
-            self.getters(1, place, texts, "crate::samples::Show::show"),
+            self.getters(0, styled_name, texts, "crate::samples::Show::show"),
+            self.getters(1, styled_name, texts, "crate::samples::Show::show"),
             texts.setter,
             self.set(slot, texts),
             self.init(slot, texts),

@@ -50,6 +50,12 @@ impl Sheet<'_> {
         text.unwrap_or_else(|refusal| panic!("{}, node {}, field {place}, {request:?}: {refusal}", self.name, node.id))
     }
 
+    /// The name of a field as it stands in the names of its accessors.
+    fn styled_name(&self, node: &Node, place: usize) -> String {
+        let field = self.admitted.node(NodeId(node.id)).and_then(|node| node.field(Place(place as u64)));
+        field.expect("the sheet has this field").styled_name()
+    }
+
     fn texts(&self, node: &Node, place: usize, slot: &Slot) -> Texts {
         let getter = |side| FORMS.map(|form| self.ask(node, place, Request::Getter { side, form }));
         let typ = |leaf| self.ask(node, place, Request::TypeText(leaf));
@@ -109,19 +115,20 @@ impl Sheet<'_> {
         let (mut reader, mut builder, mut private) = (String::new(), String::new(), String::new());
         let mut table = rows::Table::new(node);
         for (place, field) in node.fields.iter().enumerate() {
+            let styled_name = self.styled_name(node, place);
             let Field::Slot(slot) = field else {
                 let lines = self.ask(node, place, Request::Zeroing);
-                builder += &format!("pub fn zero_{place}(&mut self) {{\n{lines}}}\n");
-                table.group(place, field, &lines);
+                builder += &format!("pub fn zero_{styled_name}(&mut self) {{\n{lines}}}\n");
+                table.group(&styled_name, field, &lines);
                 continue;
             };
             let texts = self.texts(node, place, slot);
-            reader += &members(place, &texts.getters[0], &texts.hasers[0]);
-            builder += &members(place, &texts.getters[1], &texts.hasers[1]);
+            reader += &members(&styled_name, &texts.getters[0], &texts.hasers[0]);
+            builder += &members(&styled_name, &texts.getters[1], &texts.hasers[1]);
             builder += &texts.setter;
-            builder += &format!("pub fn types_{place}({}) {{}}\n", arguments(&texts));
+            builder += &format!("pub fn types_{styled_name}({}) {{}}\n", arguments(&texts));
             private += declaration(&texts);
-            table.slot(place, slot, &texts);
+            table.slot(&styled_name, slot, &texts);
         }
         let (parameters, impl_start) = generics(node);
         format!(
@@ -155,12 +162,12 @@ fn parts(getter: &str) -> (&str, &str, &str) {
 }
 
 /// The getters and the haser as methods: as capnpc writes a function, and the other form inside one.
-fn members(place: usize, getters: &[String; 2], haser: &str) -> String {
+fn members(styled_name: &str, getters: &[String; 2], haser: &str) -> String {
     let (typ, code, _) = parts(&getters[0]);
     let (plain_type, plain_code, _) = parts(&getters[1]);
     format!(
-        "#[inline]\npub fn get_{place}(self) {typ} {{\n{code}}}\n\
-         #[inline]\npub fn plain_{place}(self) -> {plain_type} {{\n{plain_code}}}\n{haser}"
+        "#[inline]\npub fn get_{styled_name}(self) {typ} {{\n{code}}}\n\
+         #[inline]\npub fn plain_{styled_name}(self) -> {plain_type} {{\n{plain_code}}}\n{haser}"
     )
 }
 

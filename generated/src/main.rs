@@ -33,8 +33,9 @@ mod structs;
 mod tally;
 mod values;
 
-/// What Kitlubas wrote, as build.rs puts it together. Not every form of every accessor of the inner structs is called.
-#[allow(dead_code, clippy::all)]
+/// What Kitlubas wrote, as build.rs puts it together. Not every form of every accessor of the inner structs is called, and
+/// letters with accents are neither lowered nor raised in names.
+#[allow(dead_code, non_snake_case, non_upper_case_globals, clippy::all)]
 mod accessors {
     include!(concat!(env!("OUT_DIR"), "/accessors.rs"));
 }

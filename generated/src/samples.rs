@@ -282,13 +282,13 @@ macro_rules! structs_of {
 
         impl Show for $sheet::point::Reader<'_> {
             fn show(self) -> String {
-                format!("(rank = {}, label = {})", self.get_0(), self.get_1().show())
+                format!("(rank = {}, label = {})", self.get_rank(), self.get_label().show())
             }
         }
 
         impl Show for $sheet::boxed::Reader<'_, text::Owned> {
             fn show(self) -> String {
-                format!("(content = {})", self.get_0().show())
+                format!("(content = {})", self.get_content().show())
             }
         }
 

@@ -23,7 +23,7 @@ fn sheet(nodes: Vec<Node>) -> Vec<u8> {
 fn asked(bytes: &[u8], place: u64, request: Request) -> Result<String, Refusal> {
     let mut buffer = vec![0; 65_536];
     let fill = answer(bytes, 1, place, request, 0, &mut buffer)?;
-    Ok(String::from_utf8(buffer[..fill].to_vec()).expect("texts are ASCII"))
+    Ok(String::from_utf8(buffer[..fill].to_vec()).expect("texts are UTF-8"))
 }
 
 /// The lines of the text that a node with one slot gives.
@@ -104,6 +104,23 @@ fn corners_of_texts() {
     assert_eq!(words[3], "    ::capnp::word(0, 1, 2, 3, 4, 5, 6, 7),");
 }
 
+/// The name of a slot in all its texts, and in headers as the sheet has it.
+#[test]
+fn names_with_accents() {
+    let state = slot("étatÄ", Type::Plain(12)).default(12, 0, true);
+    let setter = lines(state.clone(), Request::Setter);
+    assert!(setter[1].starts_with("pub fn set_état_Ä(&mut self, value: "));
+    assert!(setter[5].starts_with("pub fn init_état_Ä(self, size: u32) -> "));
+    assert_eq!(lines(state.clone(), HASER)[1], "pub fn has_état_Ä(&self) -> bool {");
+    let getter = lines(state, READER);
+    assert!(getter[1].contains("::DEFAULT_éTAT_Ä[..]"));
+    assert_eq!(getter[2], "pub(crate) static DEFAULT_éTAT_Ä: [::capnp::Word; 2] = [");
+    let bed = node(1, 0, "bed", &[]).slots([slot("straßeNr", Type::Plain(1))]).group(group("Übergabe", 2));
+    let printed = String::from_utf8(accessors(&sheet(vec![bed]))).expect("texts are UTF-8");
+    assert!(printed.contains("# setter straßeNr\n#[inline]\npub fn set_straße_nr(&mut self, value: bool)  {\n"));
+    assert!(printed.ends_with("# zero Übergabe\nrefused 5\n"));
+}
+
 #[test]
 fn get_type_keeps_its_colons() {
     let bed = node(1, 0, "bed", &[]).slots([slot("next", Type::Struct(1, vec![]))]);
@@ -129,7 +146,7 @@ fn corner(name: &str, request: Request) -> Result<String, u64> {
     };
     let mut buffer = vec![0; 65_536];
     let fill = answer(&print(&corner.sheet), node, place, request, 0, &mut buffer).map_err(|refusal| refusal.number)?;
-    Ok(String::from_utf8(buffer[..fill].to_vec()).expect("texts are ASCII"))
+    Ok(String::from_utf8(buffer[..fill].to_vec()).expect("texts are UTF-8"))
 }
 
 #[test]

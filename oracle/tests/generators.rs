@@ -3,6 +3,7 @@
 use oracle::answer::{text_of_field, Request};
 use oracle::context::context;
 use oracle::generate;
+use oracle::names::accented_letters;
 use oracle::random::Random;
 use oracle::sheet::{Binding, Field, Scope, Sheet, Type};
 use std::collections::{BTreeMap, BTreeSet};
@@ -63,6 +64,7 @@ struct Seen {
     words: usize,
     nodes: usize,
     name: usize,
+    accents: BTreeSet<char>,
     module: usize,
     root: usize,
 }
@@ -75,6 +77,7 @@ impl Seen {
             self.module = self.module.max(node.module.len());
             for field in &node.fields {
                 self.name = self.name.max(field.name().len());
+                self.accents.extend(field.name().chars().filter(|c| !c.is_ascii()));
                 if let Field::Slot(slot) = field {
                     self.value_kinds.insert(slot.value.kind);
                     self.words = self.words.max(slot.words.len());
@@ -120,4 +123,5 @@ fn valid_sheets_are_rich_in_everything() {
     assert!(seen.unbound && seen.inherits && seen.doubled);
     assert_eq!((seen.level, seen.words, seen.nodes), (16, 255, 64));
     assert_eq!((seen.name, seen.module, seen.root), (64, 128, 64));
+    assert!(seen.accents.into_iter().eq(accented_letters()));
 }

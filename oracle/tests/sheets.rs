@@ -1,4 +1,5 @@
-//! The sheet reader against document 01: every bound with the answer written down for it, and what is printed read back.
+//! The sheet reader against document 01 and request N2: every bound with the answer written down for it, and what is printed
+//! read back.
 
 use oracle::generate::{self, bounds, damage};
 use oracle::random::Random;
@@ -39,4 +40,19 @@ fn what_is_admitted_is_printed_back() {
         }
     }
     assert!(admitted > 100, "{admitted} damaged sheets are still admitted");
+}
+
+#[test]
+fn what_is_no_utf_8_is_refused() {
+    let random = &mut Random::new(16);
+    let mut torn = 0;
+    for turn in 0..4000 {
+        let (_, whole) = generate::sheet(random, turn);
+        let bytes = damage::damaged(random, &whole);
+        if str::from_utf8(&bytes).is_err() {
+            torn += 1;
+            assert!(read(&bytes).is_err(), "turn {turn}");
+        }
+    }
+    assert!(torn > 100, "{torn} damaged sheets are no UTF-8");
 }

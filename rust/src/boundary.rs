@@ -235,5 +235,5 @@ pub fn snake(name: &str) -> String {
     let mut buf = [0; SNAKE_SIZE];
     // Sound: addresses and lengths are those of the name and of a local variable.
     let fill = unsafe { declarations::kitlubas_snake(0, buf.as_mut_ptr(), SNAKE_SIZE, name.as_ptr(), name.len()) };
-    String::from_utf8_lossy(&buf[..fill]).into_owned()
+    String::from_utf8(buf[..fill].to_vec()).expect("a snake name is UTF-8")
 }

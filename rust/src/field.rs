@@ -22,19 +22,20 @@ pub struct Field<'a, 's> {
 }
 
 impl<'s> Field<'_, 's> {
-    /// Its name, as the sheet has it.
+    /// Its name, as the sheet has it: ASCII letters, digits and underscores, and letters with accents from U+00C0 to U+00FF.
     pub fn name(&self) -> &'s str {
         self.name
     }
 
-    /// Its name in snake case, which stands in the names of its accessors.
+    /// Its name in snake case, which stands in the names of its accessors. As in capnpc, every capital that does not
+    /// come first has an underscore in front, and only ASCII letters are lowered.
     ///
     /// ```
     /// # use kitlubas::{padded, Sheet};
-    /// let bytes = padded("R ::capnp\nN 7 0 0 1 0 0 0 bed\nF 3 65535 1 0 isFree\nT 1 0 0 0\nV 1 1\n");
+    /// let bytes = padded("R ::capnp\nN 7 0 0 1 0 0 0 bed\nF 3 65535 1 0 isFree\nT 1 0 0 0\nV 1 1\nG 8 65535 étatÄ\n");
     /// let sheet = Sheet::admit(&bytes)?;
     /// let names: Vec<String> = sheet.nodes().flat_map(|node| node.fields()).map(|field| field.styled_name()).collect();
-    /// assert_eq!(names, ["is_free"]);
+    /// assert_eq!(names, ["is_free", "état_Ä"]);
     /// # Ok::<(), kitlubas::Refusal>(())
     /// ```
     pub fn styled_name(&self) -> String {
@@ -66,7 +67,7 @@ impl<'s> Field<'_, 's> {
         let mut text = Vec::with_capacity(FIRST_ROOM);
         self.write_text(request, &mut text)?;
         text.shrink_to_fit();
-        Ok(String::from_utf8(text).expect("every text is ASCII"))
+        Ok(String::from_utf8(text).expect("every text is UTF-8"))
     }
 
     /// Puts the text of a request behind what `out` holds, for a caller who collects many. A refusal leaves `out` as it
@@ -83,7 +84,7 @@ impl<'s> Field<'_, 's> {
     /// for field in sheet.nodes().flat_map(|node| node.fields()) {
     ///     field.write_text(Request::Setter, &mut setters)?;
     /// }
-    /// let setters = String::from_utf8(setters).expect("texts are ASCII");
+    /// let setters = String::from_utf8(setters).expect("texts are UTF-8");
     /// assert_eq!(setters.matches("pub fn set_").count(), 2);
     /// # Ok::<(), kitlubas::Refusal>(())
     /// ```

@@ -101,9 +101,9 @@ impl<'s> Sheet<'s> {
         (self.bytes, &self.index)
     }
 
-    /// A name or a module that the library found in the sheet. It is ASCII, since the sheet was admitted.
+    /// A name or a module that the library found in the sheet. It is UTF-8, since the sheet was admitted.
     pub(crate) fn word(&self, at: Range<usize>) -> &'s str {
-        std::str::from_utf8(&self.bytes[at]).expect("the words of an admitted sheet are ASCII")
+        std::str::from_utf8(&self.bytes[at]).expect("the words of an admitted sheet are UTF-8")
     }
 }
 

@@ -8,11 +8,12 @@ use native.Mathlib.Omega.{arith}
 use borrow.Author.Tests.{eqb-false, ne-eqb}
 use lib.Dec.{eqb}
 use Rattle.text.specs.Bytes.{Str, ascii, unit, cond, both}
-use Rattle.column.specs.Texts.{isDigit, isWord, isGraphic, all, sized, isName, isGraphicText}
-use Rattle.names.specs.Names.{isUppercase, snakeChar, snakeFrom, taken, camelToSnakeCase}
+use Rattle.column.specs.Texts.{between, isWord, isGraphic, all, sized, isFieldName, isGraphicText}
+use Rattle.column.proofs.Laws.{field-name-chars}
+use Rattle.column.proofs.CharLaws.{orHigh, chars-all}
+use Rattle.names.specs.Names.{isUppercase, snakeByte, snakeFrom, taken, camelToSnakeCase}
 use Rattle.meaning.specs.Meaning.{whole}
 use Rattle.meaning.proofs.LineLaws.{whole-append}
-use lib.ListN.{getD}
 
 -- a text within one line; a nominal record, so that its parts are found
 pub record Whole (s : Str) : Type 0 where
@@ -49,32 +50,32 @@ pub whole-graphic : (most : ℕ) (t : Str) → isGraphicText most t ≡ true →
 unfolding isGraphicText isGraphic
 whole-graphic most t e = record { is = whole-all isGraphic refl t (cond-true (sized most t) (all isGraphic t) e .1) }
 
-pub whole-name : (t : Str) → isName t ≡ true → Whole t
-unfolding isName isWord
+pub whole-name : (t : Str) → isFieldName t ≡ true → Whole t
+unfolding isWord
 whole-name t e =
-    let named = cond-true (sized 64 t) (cond (isDigit (getD t 0 0)) false (all isWord t)) e .1 in
-    record { is = whole-all isWord refl t (words (isDigit (getD t 0 0)) named) }
-  where
-    words : (b : Bool) → cond b false (all isWord t) ≡ true → all isWord t ≡ true
-    words true e = let z : _≡_ {A = ℕ} 0 1 = cc in let y : ⊥ = omega arith in absurd y
-    words false e = e
+    record { is = whole-all (orHigh isWord) refl t (chars-all isWord false t (field-name-chars t e)) }
 
 -- ---- snake names
 
-whole-char : (first : Bool) (c : ℕ) → (c ≡ 10 → ⊥) → whole (snakeChar first c) ≡ true
-whole-char first c h = go (isUppercase c) first
+whole-byte : (first : Bool) (b : ℕ) (t : Str) → (b ≡ 10 → ⊥) → whole (snakeByte first b t) ≡ true
+whole-byte first b t h = go (isUppercase b t) first (between 65 90 b)
   where
-    go : (capital first : Bool) → whole (cond (both capital (not first)) (unit 95) [] ++ unit (cond capital (c + 32) c)) ≡ true
-    go true true = whole-cons (c + 32) [] (λ e. omega arith) refl
-    go true false = whole-cons (c + 32) [] (λ e. omega arith) refl
-    go false first = whole-cons c [] h refl
+    go :
+        (capital first lowered : Bool)
+        → whole (cond (both capital (not first)) (unit 95) [] ++ unit (cond lowered (b + 32) b)) ≡ true
+    go true true true = whole-cons (b + 32) [] (λ e. omega arith) refl
+    go true true false = whole-cons b [] h refl
+    go true false true = whole-cons (b + 32) [] (λ e. omega arith) refl
+    go true false false = whole-cons b [] h refl
+    go false first true = whole-cons (b + 32) [] (λ e. omega arith) refl
+    go false first false = whole-cons b [] h refl
 
 whole-snake : (first : Bool) (t : Str) → whole t ≡ true → whole (snakeFrom first t) ≡ true
 unfolding snakeFrom
 whole-snake first [] w = refl
 whole-snake first (c ∷ t) w =
     let (h, rest) = parts (eqb c 10) refl w in
-    rw (whole-append, whole-char first c h) (whole-snake false t rest)
+    rw (whole-append, whole-byte first c t h) (whole-snake false t rest)
   where
     parts : (b : Bool) → eqb c 10 ≡ b → cond b false (whole t) ≡ true → (c ≡ 10 → ⊥) × (whole t ≡ true)
     parts true e w = let z : _≡_ {A = ℕ} 0 1 = cc in let y : ⊥ = omega arith in absurd y

@@ -16,13 +16,13 @@ use Rattle.text.specs.Decimal.{decimal, signed}
 use Rattle.text.specs.Lines.{toLines, flatMap, join, stringify}
 use Rattle.text.specs.Text.{stateAt}
 use Rattle.column.specs.Number.{trimmed, digits, unpadded, columnOf, padded}
-use Rattle.column.specs.Texts.{isWord, isGraphic, all, isName, isGraphicText, endsIn}
+use Rattle.column.specs.Texts.{isWord, isGraphic, all, areChars, isName, isFieldName, isGraphicText, endsIn}
 use Rattle.row.specs.Rows.{rows, joined, onto, restOf}
 use Rattle.row.specs.Line.{rootLine, nodeLine, parameterLine, fieldLine, groupLine}
 use Rattle.row.specs.Line.{typeLine, scopeLine, unboundLine, valueLine, wordLine}
 use Rattle.row.specs.Line.{mostA, mostB, mostC, mostCount, mostBits, reader, lineOf, lineAt, textStart, textOf, textAt}
 use Rattle.row.specs.Print.{columns, rowText}
-use Rattle.names.specs.Names.{isAscii, taken, snakeFrom, camelToSnakeCase}
+use Rattle.names.specs.Names.{taken, snakeFrom, camelToSnakeCase}
 use Rattle.tree.specs.Tree.{plain, enum, end, Slot, slot, Field, Node, Sheet}
 use Rattle.tree.specs.Reader.{times}
 use Rattle.tree.specs.Read as read
@@ -141,11 +141,10 @@ bytes = printed tree
 is-admitted : admitted bytes ≡ sheet tree
 unfolding joined printed sheetRows nodeRows paramRows fieldRows wordRows typeRows scopeCount rowText columns padded decimal
     admitted readSheet readNodes readNode readMembers readParams groupIds readFields fieldsUpTo read.readField overlap among
-    readSlot readWords
-    readWordsUpTo valueOf readType typeFrom readScope readBinding times restOf onto rows textAt textOf textStart lineAt lineOf
-    reader
-    rootLine nodeLine parameterLine fieldLine groupLine typeLine scopeLine unboundLine valueLine wordLine
-    mostA mostB mostC mostCount mostBits columnOf unpadded digits trimmed isGraphicText isName all isGraphic isWord endsIn
+    readSlot readWords readWordsUpTo valueOf readType typeFrom readScope readBinding times restOf onto rows textAt textOf
+    textStart lineAt lineOf reader rootLine nodeLine parameterLine fieldLine groupLine typeLine scopeLine unboundLine
+    valueLine wordLine mostA mostB mostC mostCount mostBits columnOf unpadded digits trimmed isGraphicText isName isFieldName
+    areChars all isGraphic isWord endsIn
 is-admitted = refl
 
 -- a slot of the bed by its place
@@ -299,7 +298,7 @@ module _ (x : Example) (e : fieldAt (tree .nodes) 7 (x .place) ≡ ok (bed, x .f
 
 -- all of them
 pub all-worked : All (free 1 ∷ free 0 ∷ noFlag ∷ withFlag ∷ negativeZero ∷ member ∷ [])
-unfolding fieldAt byId nth accessorText same isAscii taken snakeFrom camelToSnakeCase typeString types.nodeOf getBoolField
+unfolding fieldAt byId nth accessorText same areChars taken snakeFrom camelToSnakeCase typeString types.nodeOf getBoolField
     getDataField setBoolField setDataField primDefault getterMask getterText getterRequest generateSetter setterRequest
     toLines flatMap join stringify decimal signed kindOf found stored getBits putBits typeName truth getMaskOf setMaskOf
     dataArg boolArg writes gets getsIn runOp runLine runLines runSetter runGetter text.answerOf text.bufferOf text.placed
@@ -372,7 +371,7 @@ abbrev uint8 : Kind
 uint8 = num (uint One)
 
 pub nights-case : SetCase nightsAt uint8 (member .setter)
-unfolding nightsAt fieldAt byId nth accessorText isAscii taken snakeFrom camelToSnakeCase typeString setDataField primDefault
+unfolding nightsAt fieldAt byId nth accessorText areChars taken snakeFrom camelToSnakeCase typeString setDataField primDefault
     generateSetter setterRequest toLines flatMap join stringify decimal kindOf text.answerOf text.bufferOf text.placed
 nights-case = record {
   has-bits = refl;
@@ -409,9 +408,9 @@ oddSetter = setterWith "odd(&mut self, value: bool" "    self.builder.set_bool_f
 pub odd-worked :
     (outcomeOf (admitted bytes) 7 (ofField 7 (Getter true false)) ≡ refuses 10 0) × Ran bytes 7 7 Setter oddSetter
     × (runSetter oddSetter 1 some16 ≡ none)
-unfolding fieldAt byId nth accessorText isAscii taken snakeFrom camelToSnakeCase typeString getterText getterRequest setBoolField
-    primDefault generateSetter setterRequest toLines flatMap join stringify decimal signed typeName truth setMaskOf dataArg
-    boolArg writes runOp runLine runLines runSetter text.answerOf text.bufferOf text.placed
+unfolding fieldAt byId nth accessorText areChars taken snakeFrom camelToSnakeCase typeString getterText getterRequest
+    setBoolField primDefault generateSetter setterRequest toLines flatMap join stringify decimal signed typeName truth
+    setMaskOf dataArg boolArg writes runOp runLine runLines runSetter text.answerOf text.bufferOf text.placed
 odd-worked = (ap (λ x. outcomeOf x 7 (ofField 7 (Getter true false))) is-admitted, ran-bytes 7 Setter oddSetter refl refl, refl)
 
 -- ---- the Void setter and hasers
@@ -434,7 +433,7 @@ pub vacant-worked :
     × TagHolds (tagAt vacantAt) some16 × (runSetter vacantSetter 0 some16 ≡ some tagTwo)
     × (voidLeaves (tagAt vacantAt) some16 ≡ some tagTwo)
     × (TagHolds (tagAt vacantAt) oneByte → ⊥) × (runSetter vacantSetter 0 oneByte ≡ none)
-unfolding vacantAt fieldAt byId nth accessorText isAscii taken snakeFrom camelToSnakeCase setDataField generateSetter
+unfolding vacantAt fieldAt byId nth accessorText areChars taken snakeFrom camelToSnakeCase setDataField generateSetter
     setterRequest toLines flatMap join stringify decimal stored putBits typeName truth dataArg boolArg writes runOp runLine
     runLines runSetter text.answerOf text.bufferOf text.placed
 vacant-worked = (refl, ran-bytes 6 Setter vacantSetter refl refl, omega arith, refl, refl, (λ h. omega arith), refl)
@@ -461,9 +460,9 @@ pub guest-worked :
     × (runHaser guestHaser some16 ≡ some true)
     × (HoldsPointer (record { 0 = guestAt .slot .offset }) noPointers → ⊥) × (runHaser guestHaser noPointers ≡ some false)
     × (TagHolds (tagAt guestAt) noBytes → ⊥) × (runHaser guestHaser noBytes ≡ some false)
-unfolding guestAt fieldAt byId nth accessorText isAscii taken snakeFrom camelToSnakeCase notNull tagTest generateHaser haserRequest
-    toLines flatMap join stringify decimal found getBits nullFlag typeName tests testsOf runTests runHaser text.answerOf
-    text.bufferOf text.placed
+unfolding guestAt fieldAt byId nth accessorText areChars taken snakeFrom camelToSnakeCase notNull tagTest generateHaser
+    haserRequest toLines flatMap join stringify decimal found getBits nullFlag typeName tests testsOf runTests runHaser
+    text.answerOf text.bufferOf text.placed
 guest-worked =
     (refl, ran-bytes 5 (Haser true) guestHaser refl refl, refl, (λ h. omega arith), refl, (λ h. omega arith), refl)
 
@@ -482,15 +481,15 @@ pub visitor-worked :
     × (runHaser visitorHaser some16 ≡ some false)
     × (TagHolds (tagAt visitorAt) noBytes → ⊥) × (runHaser visitorHaser noBytes ≡ some true)
     × (runHaser visitorHaser threeBytes ≡ some false)
-unfolding visitorAt fieldAt byId nth accessorText isAscii taken snakeFrom camelToSnakeCase notNull tagTest generateHaser haserRequest
-    toLines flatMap join stringify decimal found getBits nullFlag typeName tests testsOf runTests runHaser text.answerOf
-    text.bufferOf text.placed
+unfolding visitorAt fieldAt byId nth accessorText areChars taken snakeFrom camelToSnakeCase notNull tagTest generateHaser
+    haserRequest toLines flatMap join stringify decimal found getBits nullFlag typeName tests testsOf runTests runHaser
+    text.answerOf text.bufferOf text.placed
 visitor-worked = (refl, ran-bytes 8 (Haser true) visitorHaser refl refl, refl, (λ h. omega arith), refl, refl)
 
 -- the haser of a Bool is one newline
 pub no-haser-worked : (isPointer (freeAt .slot .ty) ≡ false) × Ran bytes 7 0 (Haser true) (unit 10)
-unfolding freeAt fieldAt byId nth accessorText generateHaser haserRequest toLines flatMap join stringify text.answerOf text.bufferOf
-    text.placed
+unfolding freeAt fieldAt byId nth accessorText generateHaser haserRequest toLines flatMap join stringify text.answerOf
+    text.bufferOf text.placed
 no-haser-worked = (refl, ran-bytes 0 (Haser true) (unit 10) refl refl)
 
 -- ---- answered bytes

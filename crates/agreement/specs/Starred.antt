@@ -13,9 +13,9 @@ use Rattle.text.specs.Lines as lines
 use Rattle.text.specs.Lines.{Indent, Branch, Line, BlankLine, toLines, flatMap, join, stringify, ended}
 use Rattle.names.specs.Keywords as keywords
 use Rattle.names.specs.Keywords.{isKeyword}
-use Rattle.names.specs.Names.{isAscii, taken, snakeFrom, camelToSnakeCase, defaultName, moduleName}
+use Rattle.names.specs.Names.{taken, snakeFrom, camelToSnakeCase, defaultName, moduleName}
 use Rattle.column.specs.Number.{trimmed, digits, unpadded, columnOf, padded}
-use Rattle.column.specs.Texts.{isWord, isGraphic, all, isName, isGraphicText, endsIn}
+use Rattle.column.specs.Texts.{isWord, isGraphic, all, areChars, isName, isFieldName, isGraphicText, endsIn}
 use Rattle.row.specs.Rows.{rows, joined, onto, restOf}
 use Rattle.row.specs.Line.{rootLine, nodeLine, parameterLine, fieldLine, groupLine}
 use Rattle.row.specs.Line.{typeLine, scopeLine, unboundLine, valueLine, wordLine}
@@ -197,15 +197,15 @@ table =
 
 -- every row's text is what it must be
 pub starred : map (λ (r : StarredCase). r .computed) table ≡ map (λ (r : StarredCase). r .expected) table
-unfolding table same keywords.isOneOf isKeyword isAscii taken snakeFrom camelToSnakeCase defaultName moduleName joined printed
-    sheetRows nodeRows paramRows fieldRows wordRows typeRows scopeCount rowText columns padded decimal admitted readSheet
-    readNodes read.readNode readMembers readParams groupIds readFields fieldsUpTo read.readField overlap among readSlot readWords
-    readWordsUpTo valueOf readType typeFrom readScope readBinding times restOf onto rows textAt textOf textStart lineAt lineOf
-    reader rootLine nodeLine parameterLine fieldLine groupLine typeLine scopeLine unboundLine valueLine wordLine mostA
-    mostB mostC mostCount mostBits columnOf unpadded digits trimmed isGraphicText isName all isGraphic isWord endsIn
-    leafOf fieldAt byId nth typeText accessorText typeString scopesOf nodeOf types.scopeOf argumentsOf accumulate
-    outermostFirst angled doBranding toLines flatMap join stringify ended signed getDataField setDataField
-    primDefault getterMask getterText getterRequest generateHaser haserRequest generateSetter setterRequest zeroLine
-    contains zeroFields zeroFieldsOfGroup zeroingRequest found stored getBits putBits typeName truth getMaskOf setMaskOf
-    dataArg writes gets getsIn runOp runLine runLines runSetter runGetter
+unfolding table same keywords.isOneOf isKeyword areChars taken snakeFrom camelToSnakeCase defaultName moduleName joined
+    printed sheetRows nodeRows paramRows fieldRows wordRows typeRows scopeCount rowText columns padded decimal admitted
+    readSheet readNodes read.readNode readMembers readParams groupIds readFields fieldsUpTo read.readField overlap among
+    readSlot readWords readWordsUpTo valueOf readType typeFrom readScope readBinding times restOf onto rows textAt textOf
+    textStart lineAt lineOf reader rootLine nodeLine parameterLine fieldLine groupLine typeLine scopeLine unboundLine
+    valueLine wordLine mostA mostB mostC mostCount mostBits columnOf unpadded digits trimmed isGraphicText isName isFieldName
+    all isGraphic isWord endsIn leafOf fieldAt byId nth typeText accessorText typeString scopesOf nodeOf types.scopeOf
+    argumentsOf accumulate outermostFirst angled doBranding toLines flatMap join stringify ended signed getDataField
+    setDataField primDefault getterMask getterText getterRequest generateHaser haserRequest generateSetter setterRequest
+    zeroLine contains zeroFields zeroFieldsOfGroup zeroingRequest found stored getBits putBits typeName truth getMaskOf
+    setMaskOf dataArg writes gets getsIn runOp runLine runLines runSetter runGetter
 starred = refl

@@ -11,10 +11,10 @@ use Rattle.text.specs.Bytes.{Str, ascii, same}
 use Rattle.text.specs.Answer as text
 use Rattle.text.specs.Decimal.{decimal}
 use Rattle.text.specs.Lines.{toLines, flatMap, join, stringify}
-use Rattle.names.specs.Names.{isAscii, taken, snakeFrom, camelToSnakeCase}
+use Rattle.names.specs.Names.{taken, snakeFrom, camelToSnakeCase}
 use Rattle.tree.specs.Tree.{plain, enum, end, slot, group, Field, Node, Sheet}
 use Rattle.column.specs.Number.{trimmed, digits, unpadded, columnOf, padded}
-use Rattle.column.specs.Texts.{isWord, isGraphic, all, isName, isGraphicText, endsIn}
+use Rattle.column.specs.Texts.{isWord, isGraphic, all, areChars, isName, isFieldName, isGraphicText, endsIn}
 use Rattle.row.specs.Rows.{rows, joined, onto, restOf}
 use Rattle.row.specs.Line.{rootLine, nodeLine, parameterLine, fieldLine, groupLine}
 use Rattle.row.specs.Line.{typeLine, scopeLine, unboundLine, valueLine, wordLine}
@@ -84,12 +84,11 @@ wardBytes = printed ward
 
 ward-read : admitted wardBytes ≡ sheet ward
 unfolding wardBytes joined printed sheetRows nodeRows paramRows fieldRows wordRows typeRows scopeCount rowText columns padded
-    decimal admitted readSheet readNodes readNode readMembers readParams groupIds readFields fieldsUpTo readField overlap among
-    read.readSlot
-    readWords readWordsUpTo valueOf readType typeFrom readScope readBinding times restOf onto rows textAt textOf textStart
-    lineAt lineOf
-    reader rootLine nodeLine parameterLine fieldLine groupLine typeLine scopeLine unboundLine valueLine wordLine
-    mostA mostB mostC mostCount mostBits columnOf unpadded digits trimmed isGraphicText isName all isGraphic isWord endsIn
+    decimal admitted readSheet readNodes readNode readMembers readParams groupIds readFields fieldsUpTo readField overlap
+    among read.readSlot readWords readWordsUpTo valueOf readType typeFrom readScope readBinding times restOf onto rows textAt
+    textOf textStart lineAt lineOf reader rootLine nodeLine parameterLine fieldLine groupLine typeLine scopeLine unboundLine
+    valueLine wordLine mostA mostB mostC mostCount mostBits columnOf unpadded digits trimmed isGraphicText isName isFieldName
+    areChars all isGraphic isWord endsIn
 ward-read = refl
 
 -- ---- the conditions are met
@@ -188,7 +187,7 @@ noteText =
     ++ ascii "    !self.reader.get_pointer_field(0).is_null()\n}\n"
 
 note-ran : (isPointer (noteSlot .slot .ty) ≡ true) × Ran wardBytes 2 1 (Haser true) noteText
-unfolding noteSlot requests.fieldAt byId nth accessorText haserRequest generateHaser camelToSnakeCase taken isAscii snakeFrom
+unfolding noteSlot requests.fieldAt byId nth accessorText haserRequest generateHaser camelToSnakeCase taken areChars snakeFrom
     notNull tagTest decimal stringify join toLines flatMap text.answerOf text.bufferOf text.placed
 note-ran = (refl, ran-of wardBytes 2 1 (Haser true) noteText (rw ward-read refl) refl)
 
@@ -228,6 +227,6 @@ defaults-read = (refl, refl, refl, refl, refl, refl, refl)
 -- note and memo are there before, and absent after
 pointers-absent :
     (has before 2 1 ≡ some true) × (has before 3 2 ≡ some true) × (has after 2 1 ≡ some false) × (has after 3 2 ≡ some false)
-unfolding requests.fieldAt byId nth accessorText haserRequest generateHaser camelToSnakeCase taken isAscii snakeFrom notNull
+unfolding requests.fieldAt byId nth accessorText haserRequest generateHaser camelToSnakeCase taken areChars snakeFrom notNull
     tagTest decimal stringify join toLines flatMap found getBits nullFlag typeName tests testsOf runTests runHaser
 pointers-absent = (refl, refl, refl, refl)

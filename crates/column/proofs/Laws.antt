@@ -1,6 +1,6 @@
 -- Laws for the loops over columns and texts: what a definition gives from one byte on, by that byte. Assumes nothing.
 use mathlib.Core.Path.{_≡_, refl, sym, ap, _∙_}
-use mathlib.Core.Bool.{Bool, true, false}
+use mathlib.Core.Bool.{Bool, true, false, not}
 use mathlib.Core.List.{[], _∷_}
 use mathlib.Core.Option.{Option, none, some}
 use Prim.Native.Nat.{ℕ, _+_, _-_, _*_, _/_, _^_, _≤_, _<_}
@@ -14,7 +14,8 @@ use borrow.Author.Tests.{eq-eqb, ne-eqb, lt-ltb, le-ltb, ltb-false, le-leb, lt-l
 use Rattle.text.specs.Bytes.{Str, cond, both, either}
 use Rattle.column.specs.Number.{trimmed, digits, unpadded, within, columnOf}
 use Rattle.column.specs.Fours.{four, fourBytes}
-use Rattle.column.specs.Texts.{between, isDigit, isWord, isGraphic, all, sized, isName, isGraphicText, endsIn}
+use Rattle.column.specs.Texts.{between, isDigit, isWord, isGraphic, all, sized, isGraphicText, endsIn}
+use Rattle.column.specs.Texts.{areChars, mayBeName, isName, isFieldName}
 
 -- a byte inside bounds, below them and above them
 pub between-in : (lo hi b : ℕ) → lo ≤ b → b ≤ hi → between lo hi b ≡ true
@@ -228,42 +229,64 @@ module _ (t : Str) (a : ℕ) where
       go true false k e = let z : _≡_ {A = ℕ} 0 1 = cc in omega arith
       go false q k e = let z : _≡_ {A = ℕ} 0 1 = cc in omega arith
 
-  -- a test of the length, and then another
+  -- one test of a text, and then another
   ends-both :
-      (most : ℕ) (more : Bool)
-      → cond (eqb (getD t a 0) 32) (cond (sized most (drop (a + 1) t)) more false) false
-      ≡ cond (endsIn (sized most) t a) more false
+      (first : Str → Bool) (more : Bool)
+      → cond (eqb (getD t a 0) 32) (cond (first (drop (a + 1) t)) more false) false ≡ cond (endsIn first t a) more false
   unfolding endsIn
-  ends-both most more = go (eqb (getD t a 0) 32) (sized most (drop (a + 1) t))
+  ends-both first more = go (eqb (getD t a 0) 32) (first (drop (a + 1) t))
     where
       go : (p q : Bool) → cond p (cond q more false) false ≡ cond (cond p q false) more false
       go true q = refl
       go false q = refl
 
-  -- a name, and a graphic text, by the test of the length
-  name-by :
-      endsIn isName t a
-      ≡ cond (endsIn (sized 64) t a) (cond (isDigit (getD t (a + 1) 0)) false (all isWord (drop (a + 1) t))) false
-  unfolding endsIn isName
-  name-by =
-      ends-both 64 (cond (isDigit (getD (drop (a + 1) t) 0 0)) false (all isWord (drop (a + 1) t)))
-      ∙ rw (getD-drop (a + 1) t 0 0, add-zero (a + 1))
+  -- what may be a name, by the test of the length
+  may-by : endsIn mayBeName t a ≡ cond (endsIn (sized 64) t a) (not (isDigit (getD t (a + 1) 0))) false
+  unfolding endsIn
+  may-by =
+      ends-both (sized 64) (not (isDigit (getD (drop (a + 1) t) 0 0))) ∙ rw (getD-drop (a + 1) t 0 0, add-zero (a + 1))
 
-  pub name-not : endsIn (sized 64) t a ≡ false → endsIn isName t a ≡ false
+  pub may-not : endsIn (sized 64) t a ≡ false → endsIn mayBeName t a ≡ false
+  may-not e = may-by ∙ rw e
+
+  pub may-is : endsIn (sized 64) t a ≡ true → endsIn mayBeName t a ≡ not (isDigit (getD t (a + 1) 0))
+  may-is e = may-by ∙ rw e
+
+  pub may-inside : endsIn mayBeName t a ≡ true → a + 1 < length t
+  may-inside e = go (endsIn (sized 64) t a) refl (sym may-by ∙ e)
+    where
+      go :
+          (p : Bool) → endsIn (sized 64) t a ≡ p → cond p (not (isDigit (getD t (a + 1) 0))) false ≡ true → a + 1 < length t
+      go true k e = sized-inside 64 k
+      go false k e = let z : _≡_ {A = ℕ} 0 1 = cc in omega arith
+
+  -- a name, a field's name and a graphic text, by the tests before
+  name-by : endsIn isName t a ≡ cond (endsIn mayBeName t a) (all isWord (drop (a + 1) t)) false
+  unfolding endsIn isName
+  name-by = ends-both mayBeName (all isWord (drop (a + 1) t))
+
+  pub name-not : endsIn mayBeName t a ≡ false → endsIn isName t a ≡ false
   name-not e = name-by ∙ rw e
 
-  pub name-digit : endsIn (sized 64) t a ≡ true → isDigit (getD t (a + 1) 0) ≡ true → endsIn isName t a ≡ false
-  name-digit e d = name-by ∙ rw (e, d)
+  pub name-is : endsIn mayBeName t a ≡ true → endsIn isName t a ≡ all isWord (take (length t - (a + 1)) (drop (a + 1) t))
+  name-is e = name-by ∙ rw (e, rest-is t (a + 1))
 
-  pub name-is :
-      endsIn (sized 64) t a ≡ true → isDigit (getD t (a + 1) 0) ≡ false
-      → endsIn isName t a ≡ all isWord (take (length t - (a + 1)) (drop (a + 1) t))
-  name-is e d = name-by ∙ rw (e, d, rest-is t (a + 1))
+  field-name-by : endsIn isFieldName t a ≡ cond (endsIn mayBeName t a) (areChars isWord false (drop (a + 1) t)) false
+  unfolding endsIn isFieldName
+  field-name-by = ends-both mayBeName (areChars isWord false (drop (a + 1) t))
+
+  pub field-name-not : endsIn mayBeName t a ≡ false → endsIn isFieldName t a ≡ false
+  field-name-not e = field-name-by ∙ rw e
+
+  pub field-name-is :
+      endsIn mayBeName t a ≡ true
+      → endsIn isFieldName t a ≡ areChars isWord false (take (length t - (a + 1)) (drop (a + 1) t))
+  field-name-is e = field-name-by ∙ rw (e, rest-is t (a + 1))
 
   graphic-by :
       (most : ℕ) → endsIn (isGraphicText most) t a ≡ cond (endsIn (sized most) t a) (all isGraphic (drop (a + 1) t)) false
   unfolding endsIn isGraphicText
-  graphic-by most = ends-both most (all isGraphic (drop (a + 1) t))
+  graphic-by most = ends-both (sized most) (all isGraphic (drop (a + 1) t))
 
   pub graphic-not : (most : ℕ) → endsIn (sized most) t a ≡ false → endsIn (isGraphicText most) t a ≡ false
   graphic-not most e = graphic-by most ∙ rw e
@@ -273,20 +296,44 @@ module _ (t : Str) (a : ℕ) where
       → endsIn (isGraphicText most) t a ≡ all isGraphic (take (length t - (a + 1)) (drop (a + 1) t))
   graphic-is most e = graphic-by most ∙ rw (e, rest-is t (a + 1))
 
--- each byte of a name, and of a graphic text
+-- what may be a name has 1 to 64 bytes
+pub may-length : (t : Str) → mayBeName t ≡ true → (1 ≤ length t) × (length t ≤ 64)
+may-length t e = go (leb 1 (length t)) (leb (length t) 64) refl refl e
+  where
+    go :
+        (p q : Bool) → leb 1 (length t) ≡ p → leb (length t) 64 ≡ q
+        → cond (both p q) (not (isDigit (getD t 0 0))) false ≡ true → (1 ≤ length t) × (length t ≤ 64)
+    go true true l h e = (leb-true _ _ l, leb-true _ _ h)
+    go true false l h e = let z : _≡_ {A = ℕ} 0 1 = cc in let n : ⊥ = omega arith in absurd n
+    go false q l h e = let z : _≡_ {A = ℕ} 0 1 = cc in let n : ⊥ = omega arith in absurd n
+
+-- a test that was passed, and the one after it
+first-passed : (p q : Bool) → cond p q false ≡ true → p ≡ true
+first-passed true q e = refl
+first-passed false q e = cc
+
+next-passed : (p q : Bool) → cond p q false ≡ true → q ≡ true
+next-passed true q e = e
+next-passed false q e = cc
+
+-- the length and the first byte of a name, and of a field's name
+pub name-may : (t : Str) → isName t ≡ true → mayBeName t ≡ true
+unfolding isName
+name-may t e = first-passed (mayBeName t) (all isWord t) e
+
+pub field-name-may : (t : Str) → isFieldName t ≡ true → mayBeName t ≡ true
+unfolding isFieldName
+field-name-may t e = first-passed (mayBeName t) (areChars isWord false t) e
+
+-- the bytes of a name, of a field's name and of a graphic text
 pub name-all : (t : Str) → isName t ≡ true → all isWord t ≡ true
 unfolding isName
-name-all t e = go (sized 64 t) (isDigit (getD t 0 0)) e
-  where
-    go : (p q : Bool) → cond p (cond q false (all isWord t)) false ≡ true → all isWord t ≡ true
-    go true false e = e
-    go true true e = cc
-    go false q e = cc
+name-all t e = next-passed (mayBeName t) (all isWord t) e
+
+pub field-name-chars : (t : Str) → isFieldName t ≡ true → areChars isWord false t ≡ true
+unfolding isFieldName
+field-name-chars t e = next-passed (mayBeName t) (areChars isWord false t) e
 
 pub graphic-all : (most : ℕ) (t : Str) → isGraphicText most t ≡ true → all isGraphic t ≡ true
 unfolding isGraphicText
-graphic-all most t e = go (sized most t) e
-  where
-    go : (p : Bool) → cond p (all isGraphic t) false ≡ true → all isGraphic t ≡ true
-    go true e = e
-    go false e = cc
+graphic-all most t e = next-passed (sized most t) (all isGraphic t) e

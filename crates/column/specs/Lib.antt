@@ -1,3 +1,4 @@
 pub mod Number
 pub mod Texts
 pub mod Fours
+pub mod Examples

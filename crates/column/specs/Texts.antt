@@ -1,5 +1,6 @@
--- The texts of a line, each after one space: a name, or graphic bytes. Assumes nothing.
-use mathlib.Core.Bool.{Bool, true, false}
+-- The texts of a line, each after one space: a name of ASCII, a field's name, which may have letters with accents (N2), or
+-- graphic bytes. Assumes nothing.
+use mathlib.Core.Bool.{Bool, true, false, not}
 use mathlib.Core.List.{[], _∷_}
 use Prim.Native.Nat.{ℕ, _+_}
 use lib.Dec.{eqb, leb}
@@ -31,9 +32,36 @@ all ok (b ∷ t) = cond (ok b) (all ok t) false
 abbrev pub sized : ℕ → Str → Bool
 sized most t = between 1 most (length t)
 
--- a name: 1 to 64 ASCII letters, digits or underscores, not digit first
+-- what every name is: 1 to 64 bytes, not digit first
+abbrev pub mayBeName : Str → Bool
+mayBeName t = cond (sized 64 t) (not (isDigit (getD t 0 0))) false
+
+-- a name: ASCII letters, digits or underscores
 unfoldable pub isName : Str → Bool
-isName t = cond (sized 64 t) (cond (isDigit (getD t 0 0)) false (all isWord t)) false
+isName t = cond (mayBeName t) (all isWord t) false
+
+-- the first byte, in UTF-8, of a letter from U+00C0 to U+00FF
+abbrev pub isLead : ℕ → Bool
+isLead b = eqb b 0xC3
+
+-- the byte after it: 80 to BF, but for 97 and B7, of which U+00D7 and U+00F7 are made, the signs of multiplication and division
+abbrev pub isAccented : ℕ → Bool
+isAccented b = both (between 0x80 0xBF b) (not (either (eqb b 0x97) (eqb b 0xB7)))
+
+-- whether a byte may come next: after the first byte of a letter its second; else a byte that passes a test, or a first one
+abbrev pub mayCome : (ℕ → Bool) → Bool → ℕ → Bool
+mayCome ok true b = isAccented b
+mayCome ok false b = either (ok b) (isLead b)
+
+-- whether a text is made of bytes that pass a test and of such letters, each whole; `begun` says that the first byte of a letter
+-- stands before the text
+unfoldable pub areChars : (ℕ → Bool) → Bool → Str → Bool
+areChars ok begun [] = not begun
+areChars ok begun (b ∷ t) = cond (mayCome ok begun b) (areChars ok (isLead b) t) false
+
+-- a field's name (N2): ASCII letters, digits, underscores, or letters from U+00C0 to U+00FF
+unfoldable pub isFieldName : Str → Bool
+isFieldName t = cond (mayBeName t) (areChars isWord false t) false
 
 -- 1 to so many graphic bytes: with 64 a root, with 128 a module
 unfoldable pub isGraphicText : ℕ → Str → Bool

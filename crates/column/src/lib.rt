@@ -1,13 +1,27 @@
 // The columns of a sheet's line: a number, right-justified in 21 columns, and a text after one space.
 use terms::limits;
 ghost use mathlib.Core.Path.{_≡_};
-ghost use Prim.Native.Nat.{_≤_, _<_};
-ghost use lib.ListN.{length, drop};
+ghost use Prim.Native.Nat.{_+_, _≤_, _<_};
+ghost use lib.ListN.{length, drop, getD};
 ghost use mathlib.Core.Option.{some};
 ghost use Prim.Native.Nat.{ℕ};
+ghost use mathlib.Core.Bool.{false};
+ghost use Rattle.text.specs.Bytes.{both};
 ghost use Rattle.column.specs.Number.{numberSaid, trimmed, digits, unpadded, columnOf, most};
 ghost use Rattle.column.specs.Fours.{fourBytes};
-ghost use Rattle.column.specs.Texts.{isDigit, isWord, isGraphic, all, sized, isName, isGraphicText, endsIn};
+ghost use Rattle.column.specs.Texts.{isDigit, isWord, isGraphic, all, sized, isGraphicText, endsIn};
+ghost use Rattle.column.specs.Texts.{isLead, isAccented, areChars, mayBeName, isName, isFieldName};
+
+// A letter from U+00C0 to U+00FF in UTF-8: its first byte, the least and the greatest second one, and two that make signs.
+const LEAD: u8 = 0xc3;
+
+const FIRST_ACCENTED: u8 = 0x80;
+
+const LAST_ACCENTED: u8 = 0xbf;
+
+const MULTIPLICATION_SIGN: u8 = 0x97;
+
+const DIVISION_SIGN: u8 = 0xb7;
 
 // What stands in a number's columns: the number, where it is one and lies in its bounds.
 pub enum Number {
@@ -212,6 +226,52 @@ fn all_word(t: &[u8]) -> bool
     true
 }
 
+// The second byte of a letter from U+00C0 to U+00FF.
+fn is_accented(b: u8) -> bool
+    ensures { λ r. ⌜ r ≡ isAccented b ⌝ }
+{
+    match b {
+        MULTIPLICATION_SIGN => false,
+        DIVISION_SIGN => false,
+        FIRST_ACCENTED..=LAST_ACCENTED => true,
+        _ => false,
+    }
+}
+
+// Whether a letter from U+00C0 to U+00FF stands at `i`, whole.
+pub fn letter_at(t: &[u8], i: usize) -> bool
+    ensures { λ r. ⌜ r ≡ both (isLead (getD (now (t .entry)) i 0)) (isAccented (getD (now (t .entry)) (i + 1) 0)) ⌝ }
+{
+    if t.len() <= i {
+        return false;
+    }
+    if t[i] != LEAD {
+        return false;
+    }
+    if t.len() - i == 1 {
+        return false;
+    }
+    is_accented(t[i + 1])
+}
+
+// Whether a text is made of letters, underscores and digits, letters from U+00C0 to U+00FF among them.
+fn all_chars(t: &[u8]) -> bool
+    ensures { λ r. ⌜ r ≡ areChars isWord false (now (t .entry)) ⌝ }
+{
+    let mut i = 0;
+    while i < t.len() {
+        if is_word(t[i]) {
+            i += 1;
+            continue;
+        }
+        if !letter_at(t, i) {
+            return false;
+        }
+        i += 2;
+    }
+    true
+}
+
 // A byte from 33 to 126.
 fn is_graphic(b: u8) -> bool
     ensures { λ r. ⌜ r ≡ isGraphic b ⌝ }
@@ -253,18 +313,34 @@ fn ends_in_text(t: &[u8], a: usize, most: usize) -> bool
     size <= most
 }
 
-// Whether the line ends in a space at `a` and a name.
-pub fn ends_in_name(t: &[u8], a: usize) -> bool
-    ensures { λ r. ⌜ r ≡ endsIn isName (now (t .entry)) a ⌝ }
+// Whether the line ends in a space at `a` and what may be a name: 1 to 64 bytes, not digit first.
+fn may_end_in_name(t: &[u8], a: usize) -> bool
+    ensures { λ r. ⌜ r ≡ endsIn mayBeName (now (t .entry)) a ⌝ }
 {
     if !ends_in_text(t, a, limits::NAME_BYTES) {
         return false;
     }
-    let b = a + 1;
-    if is_digit(t[b]) {
+    !is_digit(t[a + 1])
+}
+
+// Whether the line ends in a space at `a` and a name.
+pub fn ends_in_name(t: &[u8], a: usize) -> bool
+    ensures { λ r. ⌜ r ≡ endsIn isName (now (t .entry)) a ⌝ }
+{
+    if !may_end_in_name(t, a) {
         return false;
     }
-    all_word(&t[b..])
+    all_word(&t[a + 1..])
+}
+
+// Whether the line ends in a space at `a` and a field's name.
+pub fn ends_in_field_name(t: &[u8], a: usize) -> bool
+    ensures { λ r. ⌜ r ≡ endsIn isFieldName (now (t .entry)) a ⌝ }
+{
+    if !may_end_in_name(t, a) {
+        return false;
+    }
+    all_chars(&t[a + 1..])
 }
 
 // Whether the line ends in a space at `a` and 1 to `most` graphic bytes.

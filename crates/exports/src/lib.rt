@@ -91,7 +91,7 @@ pub extern "C" fn kitlubas_no_lines(at: usize, buf: &mut [u8]) -> usize
 }
 
 // The names made of a name: `camel_to_snake_case`, the name of its default's constant, `module_name`. A name is taken that has
-// at most 64 bytes, all of them ASCII.
+// at most 64 bytes, of ASCII and letters from U+00C0 to U+00FF in UTF-8.
 #[no_mangle]
 pub extern "C" fn kitlubas_snake(at: usize, buf: &mut [u8], name: &[u8]) -> usize
     ensures { λ r. ⌜ FillsName (now (buf .entry)) at camelToSnakeCase (now (name .entry)) (now (buf .exit)) r ⌝ }

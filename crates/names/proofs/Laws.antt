@@ -2,55 +2,76 @@
 use mathlib.Core.Path.{_≡_, refl, sym, ap, ap₂, _∙_}
 use mathlib.Core.Bool.{Bool, true, false}
 use mathlib.Core.List.{[], _∷_, _++_}
-use Prim.Native.Nat.{ℕ, zero, suc, _-_, _*_, _^_, _≤_, _<_, min}
-use native.Mathlib.Nat.{sub-zero, zero-sub, zero-add, suc-sub-suc}
+use Prim.Native.Nat.{ℕ, zero, suc, _+_, _-_, _*_, _^_, _≤_, _<_, min}
+use native.Mathlib.Nat.{add-zero, sub-zero, zero-sub, zero-add, suc-sub-suc}
 use native.Mathlib.Omega.{arith}
-use borrow.Author.Tests.{leb-true, ltb-true, ltb-false}
+use borrow.Author.Tests.{le-leb, lt-leb, leb-true, ltb-true, ltb-false}
 use lib.Dec.{leb, ltb}
-use lib.ListN.{length, take, drop, replicate, length-append, length-replicate}
-use lib.Seq.{take-all, take-append-seam, length-take-le}
+use lib.ListN.{length, getD, take, drop, replicate, length-append, length-replicate}
+use lib.Seq.{getD-drop, take-all, take-append-seam, length-take-le}
 use Rattle.text.specs.Answer.{placed}
 use Rattle.text.specs.Bytes.{Str, unit, cond, both}
 use Rattle.text.specs.Text.{put, stateAt, Wrote}
 use Rattle.text.specs.declared.Text.{Text}
 use Rattle.text.proofs.BytesLaws.{both-false}
 use Rattle.text.proofs.Places.{put-placed, adv-fits}
+use Rattle.column.specs.Texts.{isLead, isAccented, areChars}
+use Rattle.column.proofs.CharLaws.{low-no-lead}
 use Rattle.names.specs.Keywords.{isKeyword}
-use Rattle.names.specs.Names.{isUppercase, toAsciiLowercase, isAscii, taken, snakeChar, snakeFrom}
+use Rattle.names.specs.Names.{isUppercase, toAsciiLowercase, isAscii, taken, snakeByte, snakeFrom}
 use Rattle.names.specs.Names.{camelToSnakeCase, moduleName, held, Snaked, nameOf}
 use Rattle.names.specs.declared.Snake.{Snake}
 
--- a turn of the loop: the first char, a char that is no capital, and a capital
-pub char-first : (c : ℕ) → snakeChar true c ≡ unit (toAsciiLowercase c)
-char-first c = rw (both-false (isUppercase c))
+-- whether a capital begins with a byte: below the ASCII capitals, one of them, and above them
+pub upper-low : (b : ℕ) (t : Str) → b < 65 → isUppercase b t ≡ false
+upper-low b t h = rw (lt-leb 65 b h, low-no-lead b (omega arith))
 
-pub char-lower : (first : Bool) (c : ℕ) → isUppercase c ≡ false → snakeChar first c ≡ unit (toAsciiLowercase c)
-char-lower first c e = rw e
+pub upper-ascii : (b : ℕ) (t : Str) → 65 ≤ b → b ≤ 90 → isUppercase b t ≡ true
+upper-ascii b t l h = rw (le-leb 65 b l, le-leb b 90 h)
 
-pub char-capital : (c : ℕ) → isUppercase c ≡ true → snakeChar false c ≡ unit 95 ++ unit (toAsciiLowercase c)
-char-capital c e = rw e
+pub upper-high :
+    (s : Str) (i : ℕ) → 90 < getD s i 0
+    → isUppercase (getD s i 0) (drop (i + 1) s)
+    ≡ both (both (isLead (getD s i 0)) (isAccented (getD s (i + 1) 0))) (leb (getD s (i + 1) 0) 0x9E)
+upper-high s i h =
+    rw (
+      le-leb 65 (getD s i 0) (omega arith),
+      lt-leb (getD s i 0) 90 h,
+      getD-drop (i + 1) s 0 0,
+      add-zero (i + 1),
+    )
 
-char-length : (c : ℕ) → length (snakeChar false c) ≤ 2
-char-length c = go (isUppercase c) (toAsciiLowercase c)
+-- a turn of the loop: the first byte, a byte that begins no capital, and one that does
+pub byte-first : (b : ℕ) (t : Str) → snakeByte true b t ≡ unit (toAsciiLowercase b)
+byte-first b t = rw (both-false (isUppercase b t))
+
+pub byte-lower : (first : Bool) (b : ℕ) (t : Str) → isUppercase b t ≡ false → snakeByte first b t ≡ unit (toAsciiLowercase b)
+byte-lower first b t e = rw e
+
+pub byte-capital : (b : ℕ) (t : Str) → isUppercase b t ≡ true → snakeByte false b t ≡ unit 95 ++ unit (toAsciiLowercase b)
+byte-capital b t e = rw e
+
+byte-length : (b : ℕ) (t : Str) → length (snakeByte false b t) ≤ 2
+byte-length b t = go (isUppercase b t) (toAsciiLowercase b)
   where
-    go : (b : Bool) (x : ℕ) → length (cond (both b true) (unit 95) [] ++ unit x) ≤ 2
+    go : (u : Bool) (x : ℕ) → length (cond (both u true) (unit 95) [] ++ unit x) ≤ 2
     go true x = omega arith
     go false x = omega arith
 
 from-length : (s : Str) → length (snakeFrom false s) ≤ 2 * length s
 unfolding snakeFrom
 from-length [] = omega arith
-from-length (c ∷ s) = omega (arith, length-append (snakeChar false c) (snakeFrom false s), char-length c, from-length s)
+from-length (b ∷ s) = omega (arith, length-append (snakeByte false b s) (snakeFrom false s), byte-length b s, from-length s)
 
 first-length : (s : Str) → length s ≤ 64 → length (snakeFrom true s) ≤ 127
 unfolding snakeFrom
 first-length [] h = omega arith
-first-length (c ∷ s) h = rw (char-first c) (omega (arith, from-length s))
+first-length (b ∷ s) h = rw (byte-first b s) (omega (arith, from-length s))
 
 -- a snake name is at most 127 bytes
 pub snake-length : (name : Str) → length (camelToSnakeCase name) ≤ 127
 unfolding camelToSnakeCase taken
-snake-length name = go (leb (length name) 64) (isAscii name) refl
+snake-length name = go (leb (length name) 64) (areChars isAscii false name) refl
   where
     go : (a b : Bool) → leb (length name) 64 ≡ a → length (cond (both a b) (snakeFrom true name) []) ≤ 127
     go true true e = first-length name (leb-true _ _ e)

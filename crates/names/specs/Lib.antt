@@ -1,3 +1,4 @@
 pub mod Keywords
 pub mod Names
 pub mod Words
+pub mod Examples

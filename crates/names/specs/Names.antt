@@ -1,44 +1,49 @@
--- Names in generated code: `camel_to_snake_case` and `module_name` of codegen.rs, and the name of a default's constant. Assumes
--- nothing.
+-- Names in generated code: `camel_to_snake_case` and `module_name` of codegen.rs, and the name of a default's constant. A name
+-- is its bytes in UTF-8. Assumes nothing.
 use mathlib.Core.Path.{_≡_}
 use mathlib.Core.Bool.{Bool, true, false, not}
 use mathlib.Core.List.{[], _∷_, _++_, map}
 use Prim.Native.Nat.{ℕ, _+_, _-_, _≤_}
 use lib.Dec.{leb, ltb}
-use lib.ListN.{length, take, replicate}
-use Rattle.text.specs.Bytes.{Str, ascii, unit, cond, both}
+use lib.ListN.{length, getD, take, replicate}
+use Rattle.text.specs.Bytes.{Str, ascii, unit, cond, both, either}
+use Rattle.column.specs.Texts.{between, isLead, isAccented, areChars, isFieldName}
 use Rattle.names.specs.Keywords.{isKeyword}
 use Rattle.names.specs.declared.Snake.{Snake}
 
--- Rust's tests and changes of a char, for ASCII
-abbrev pub isUppercase : ℕ → Bool
-isUppercase c = both (leb 65 c) (leb c 90)
+-- `c.is_uppercase()` of the char that begins with the byte b before the bytes t: A to Z, or a letter from U+00C0 to U+00DE (N2).
+-- The second byte of a letter begins no char
+abbrev pub isUppercase : ℕ → Str → Bool
+isUppercase b t =
+    either (between 65 90 b) (both (both (isLead b) (isAccented (getD t 0 0))) (leb (getD t 0 0) 0x9E))
 
-abbrev pub isLowercase : ℕ → Bool
-isLowercase c = both (leb 97 c) (leb c 122)
-
+-- `to_ascii_lowercase` and `to_ascii_uppercase` of a char: they change no byte but ASCII letters
 abbrev pub toAsciiLowercase : ℕ → ℕ
-toAsciiLowercase c = cond (isUppercase c) (c + 32) c
+toAsciiLowercase b = cond (between 65 90 b) (b + 32) b
 
 abbrev pub toAsciiUppercase : ℕ → ℕ
-toAsciiUppercase c = cond (isLowercase c) (c - 32) c
+toAsciiUppercase b = cond (between 97 122 b) (b - 32) b
 
--- the names that are taken: at most 64 bytes, all of them ASCII
-unfoldable pub isAscii : Str → Bool
-isAscii [] = true
-isAscii (c ∷ cs) = both (ltb c 128) (isAscii cs)
+-- a byte of ASCII
+abbrev pub isAscii : ℕ → Bool
+isAscii b = ltb b 128
 
+-- the names that are taken: at most 64 bytes, of ASCII and letters from U+00C0 to U+00FF
 unfoldable pub taken : Str → Bool
-taken name = both (leb (length name) 64) (isAscii name)
+taken name = both (leb (length name) 64) (areChars isAscii false name)
 
--- a turn of the loop of `camel_to_snake_case`: an underscore before a capital that is not the first char, and the char in lower
--- case
-abbrev pub snakeChar : Bool → ℕ → Str
-snakeChar first c = cond (both (isUppercase c) (not first)) (unit 95) [] ++ unit (toAsciiLowercase c)
+-- what an F or G line admits, the name helpers take: no text has an empty name
+abbrev pub FieldNamesTaken : Type 0
+FieldNamesTaken = (t : Str) → isFieldName t ≡ true → taken t ≡ true
+
+-- a turn of the loop of `camel_to_snake_case`, byte by byte: an underscore before a capital that is not the first char, and the
+-- byte in lower case
+abbrev pub snakeByte : Bool → ℕ → Str → Str
+snakeByte first b t = cond (both (isUppercase b t) (not first)) (unit 95) [] ++ unit (toAsciiLowercase b)
 
 unfoldable pub snakeFrom : Bool → Str → Str
 snakeFrom first [] = []
-snakeFrom first (c ∷ cs) = snakeChar first c ++ snakeFrom false cs
+snakeFrom first (b ∷ t) = snakeByte first b t ++ snakeFrom false t
 
 -- `camel_to_snake_case`; a name that is not taken gives the empty one
 unfoldable pub camelToSnakeCase : Str → Str

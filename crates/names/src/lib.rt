@@ -7,11 +7,16 @@ use text::Text;
 ghost use mathlib.Core.Path.{_≡_};
 ghost use mathlib.Core.Bool.{true};
 ghost use mathlib.Core.List.{map};
-ghost use Prim.Native.Nat.{min};
+ghost use Prim.Native.Nat.{_+_, _<_, min};
+ghost use lib.Dec.{eqb};
+ghost use lib.ListN.{length, drop, getD};
 ghost use Rattle.text.specs.Text.{Wrote};
 ghost use Rattle.names.specs.Keywords.{isKeyword};
-ghost use Rattle.names.specs.Names.{isUppercase, toAsciiLowercase, toAsciiUppercase, taken, snakeChar, snakeFrom};
-ghost use Rattle.names.specs.Names.{camelToSnakeCase, defaultName, moduleName, Snaked, nameOf};
+ghost use Rattle.names.specs.Names.{isUppercase, toAsciiLowercase, toAsciiUppercase, taken, snakeByte, snakeFrom};
+ghost use Rattle.names.specs.Names.{camelToSnakeCase, defaultName, moduleName, FieldNamesTaken, Snaked, nameOf};
+
+// The second byte of the last capital with an accent, U+00DE.
+const LAST_CAPITAL: u8 = 0x9e;
 
 // A snake name, held whole: its bytes, then zeros.
 pub struct Snake {
@@ -19,16 +24,25 @@ pub struct Snake {
     len: usize,
 }
 
-// Rust's tests and changes of a char, for ASCII.
-fn is_uppercase(c: u8) -> bool
-    ensures { λ r. ⌜ r ≡ isUppercase c ⌝ }
+// Whether a capital begins at `i`: A to Z, or a letter from U+00C0 to U+00DE.
+fn is_uppercase(name: &[u8], i: usize) -> bool
+    requires { ⌜ i < length (now name) ⌝ }
+    ensures { λ r. ⌜ r ≡ isUppercase (getD (now (name .entry)) i 0) (drop (i + 1) (now (name .entry))) ⌝ }
 {
-    if c < b'A' {
+    let b = name[i];
+    if b < b'A' {
         return false;
     }
-    c <= b'Z'
+    if b <= b'Z' {
+        return true;
+    }
+    if !column::letter_at(name, i) {
+        return false;
+    }
+    name[i + 1] <= LAST_CAPITAL
 }
 
+// An ASCII letter in lower case, and in upper case; any other byte as it is.
 fn to_ascii_lowercase(c: u8) -> u8
     ensures { λ r. ⌜ r ≡ toAsciiLowercase c ⌝ }
 {
@@ -47,7 +61,7 @@ fn to_ascii_uppercase(c: u8) -> u8
     if c <= b'z' { c - 32 } else { c }
 }
 
-// Whether a name is taken: at most 64 bytes, all of them ASCII.
+// Whether a name is taken: at most 64 bytes, of ASCII and letters from U+00C0 to U+00FF.
 pub fn takes(name: &[u8]) -> bool
     ensures { λ r. ⌜ r ≡ taken (now (name .entry)) ⌝ }
 {
@@ -56,36 +70,43 @@ pub fn takes(name: &[u8]) -> bool
     }
     let mut i = 0;
     while i < name.len() {
-        if name[i] >= 128 {
+        if name[i] < 128 {
+            i += 1;
+            continue;
+        }
+        if !column::letter_at(name, i) {
             return false;
         }
-        i += 1;
+        i += 2;
     }
     true
 }
 
-// One char of a name, in lower case, after an underscore where it is a capital that is not the first.
-fn snake_char(first: bool, c: u8, t: Text, buf: &mut [u8]) -> Text
-    ensures { λ r. ⌜ Wrote (now (buf .entry)) t (snakeChar first c) (now (buf .exit)) r ⌝ }
+// One byte of a name, in lower case, after an underscore where a capital begins that is not the first char.
+fn snake_byte(name: &[u8], i: usize, t: Text, buf: &mut [u8]) -> Text
+    requires { ⌜ i < length (now name) ⌝ }
+    ensures { λ r. ⌜ Wrote (now (buf .entry)) t
+        (snakeByte (eqb i 0) (getD (now (name .entry)) i 0) (drop (i + 1) (now (name .entry)))) (now (buf .exit)) r ⌝ }
 {
-    if first {
-        return t.byte(buf, to_ascii_lowercase(c));
+    let b = to_ascii_lowercase(name[i]);
+    if i == 0 {
+        return t.byte(buf, b);
     }
-    if !is_uppercase(c) {
-        return t.byte(buf, to_ascii_lowercase(c));
+    if !is_uppercase(name, i) {
+        return t.byte(buf, b);
     }
     let t = t.byte(buf, b'_');
-    t.byte(buf, to_ascii_lowercase(c))
+    t.byte(buf, b)
 }
 
-// All chars of a name.
-fn snake_chars(name: &[u8], t: Text, buf: &mut [u8]) -> Text
+// All bytes of a name.
+fn snake_bytes(name: &[u8], t: Text, buf: &mut [u8]) -> Text
     ensures { λ r. ⌜ Wrote (now (buf .entry)) t (snakeFrom true (now (name .entry))) (now (buf .exit)) r ⌝ }
 {
     let mut t = t;
     let mut i = 0;
     while i < name.len() {
-        t = snake_char(i == 0, name[i], t, buf);
+        t = snake_byte(name, i, t, buf);
         i += 1;
     }
     t
@@ -99,7 +120,7 @@ pub fn camel_to_snake_case(name: &[u8]) -> Snake
     if !takes(name) {
         return Snake { bytes, len: 0 };
     }
-    let t = snake_chars(name, Text::at(0), &mut bytes);
+    let t = snake_bytes(name, Text::at(0), &mut bytes);
     Snake {
         bytes,
         len: t.fill(),
@@ -184,3 +205,8 @@ pub fn module_name(name: &[u8], t: Text, buf: &mut [u8]) -> Text
     }
     t
 }
+
+// Makes it a promise of this crate that the name of a field is taken.
+pub fn claims()
+    ensures { λ r. ⌜ FieldNamesTaken ⌝ }
+{}

@@ -14,8 +14,9 @@ use Rattle.text.specs.Decimal.{decimal}
 use Rattle.text.proofs.BytesLaws.{both-true}
 use Rattle.text.proofs.DecimalLaws.{decimal-low, decimal-high, decimal-length}
 use Rattle.column.specs.Number.{padded}
-use Rattle.column.specs.Texts.{between, isDigit, isWord, isGraphic, all, isName, isGraphicText}
-use Rattle.column.proofs.Laws.{name-all, graphic-all}
+use Rattle.column.specs.Texts.{between, isDigit, isWord, isGraphic, all, isName, isFieldName, isGraphicText}
+use Rattle.column.proofs.Laws.{name-all, field-name-chars, graphic-all}
+use Rattle.column.proofs.CharLaws.{orHigh, chars-all}
 use Rattle.row.specs.Print.{columns, rowText, spaced, printLine, Fits}
 use Rattle.row.proofs.PrintLaws.{mostA-fits, mostB-fits, mostC-fits, mostCount-fits, mostBits-fits}
 use Rattle.row.specs.Line.{Content, Root, Node, Parameter, Field, Group, Typ, Scope, Unbound, Value, Word, Bad}
@@ -67,8 +68,18 @@ word-low b e = go (between 97 122 b) refl (between 65 90 b) refl (eqb b 95) refl
     go false _ false _ true l e = omega (arith, eqb-true b 95 l)
     go false _ false _ false _ e = omega (arith, between-low 48 57 b e)
 
+high-low : (b : ℕ) → orHigh isWord b ≡ true → 33 ≤ b
+high-low b e = go (isWord b) refl e
+  where
+    go : (p : Bool) → isWord b ≡ p → either p (leb 128 b) ≡ true → 33 ≤ b
+    go true h e = word-low b h
+    go false h e = omega (arith, leb-true 128 b e)
+
 name-solid : (t : Str) → isName t ≡ true → Solid t
 name-solid t e = all-solid isWord word-low t (name-all t e)
+
+field-name-solid : (t : Str) → isFieldName t ≡ true → Solid t
+field-name-solid t e = all-solid (orHigh isWord) high-low t (chars-all isWord false t (field-name-chars t e))
 
 graphic-solid : (most : ℕ) (t : Str) → isGraphicText most t ≡ true → Solid t
 graphic-solid most t e = all-solid isGraphic graphic-low t (graphic-all most t e)
@@ -287,10 +298,10 @@ line-comes Parameter text f = comes 80 [] (spaced text) refl (omega arith) tt (t
 line-comes (Field o d e p) text f =
     comes 70 (o ∷ d ∷ e ∷ p ∷ []) (spaced text) refl (omega arith)
     (narrow o (omega arith), (narrow d (omega arith), (narrow e (omega arith), (narrow p (omega arith), tt))))
-    (tail-text text (name-solid text (f .4)))
+    (tail-text text (field-name-solid text (f .4)))
 line-comes (Group i d) text f =
     comes 71 (i ∷ d ∷ []) (spaced text) refl (omega arith) (narrow i (omega arith), (narrow d (omega arith), tt))
-    (tail-text text (name-solid text (f .2)))
+    (tail-text text (field-name-solid text (f .2)))
 line-comes (Typ k a b c) text f =
     let m0 = mostA-fits k in
     let m1 = mostB-fits k a in

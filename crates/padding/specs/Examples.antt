@@ -5,7 +5,7 @@ use lib.ListN.{replicate}
 use Rattle.text.specs.Bytes.{Str, ascii, unit}
 use Rattle.text.specs.Decimal.{decimal}
 use Rattle.column.specs.Number.{trimmed, digits, unpadded, columnOf, padded}
-use Rattle.column.specs.Texts.{isWord, isGraphic, all, isName, isGraphicText, endsIn}
+use Rattle.column.specs.Texts.{isWord, isGraphic, all, areChars, isName, isFieldName, isGraphicText, endsIn}
 use Rattle.row.specs.Rows.{rows, onto, restOf}
 use Rattle.row.specs.Line.{rootLine, nodeLine, parameterLine, fieldLine, groupLine}
 use Rattle.row.specs.Line.{typeLine, scopeLine, unboundLine, valueLine, wordLine}
@@ -35,11 +35,11 @@ isFree =
 
 -- it is a sheet: the bed with one slot
 is-free-admitted : admitted isFree ≡ sheet (workedSheet (node 7 "bed" 0 0 (loneSlot "isFree" (plain 1) 3 1 1 ∷ []) ∷ []))
-unfolding isFree rowText columns padded decimal admitted readSheet readNodes readNode readMembers readParams groupIds readFields
-    fieldsUpTo readField overlap among readSlot readWords readWordsUpTo valueOf readType typeFrom readScope readBinding times
-    restOf onto rows textAt textOf textStart lineAt lineOf reader rootLine nodeLine parameterLine fieldLine groupLine typeLine
-    scopeLine unboundLine valueLine wordLine mostA mostB mostC mostCount mostBits columnOf unpadded digits trimmed isGraphicText
-    isName all isGraphic isWord endsIn
+unfolding isFree rowText columns padded decimal admitted readSheet readNodes readNode readMembers readParams groupIds
+    readFields fieldsUpTo readField overlap among readSlot readWords readWordsUpTo valueOf readType typeFrom readScope
+    readBinding times restOf onto rows textAt textOf textStart lineAt lineOf reader rootLine nodeLine parameterLine fieldLine
+    groupLine typeLine scopeLine unboundLine valueLine wordLine mostA mostB mostC mostCount mostBits columnOf unpadded digits
+    trimmed isGraphicText isName isFieldName areChars all isGraphic isWord endsIn
 is-free-admitted = refl
 
 is-free-short : short isFree ≡ isFreeShort

@@ -1,17 +1,15 @@
 -- Laws of one field that was read: its name has at most 64 bytes, its parts are those of its arm, and what is written of it is
 -- its unit. Assumes nothing.
 use mathlib.Core.Path.{_≡_, refl}
-use mathlib.Core.Bool.{Bool, true, false}
+use mathlib.Core.Bool.{true}
 use mathlib.Core.List.{List, [], _∷_}
 use Prim.Native.Nat.{ℕ, _+_, _*_, _≤_}
 use native.Mathlib.Nat.{le-trans, mul-le-mul-right}
 use native.Mathlib.Omega.{arith}
-use lib.Dec.{leb}
-use lib.ListN.{length, getD}
-use borrow.Author.Tests.{leb-true}
-use Rattle.text.specs.Bytes.{Str, cond}
-use Rattle.text.proofs.BytesLaws.{both-true}
-use Rattle.column.specs.Texts.{isDigit, isWord, all, sized, isName}
+use lib.ListN.{length}
+use Rattle.text.specs.Bytes.{Str}
+use Rattle.column.specs.Texts.{isFieldName}
+use Rattle.column.proofs.Laws.{may-length, field-name-may}
 use Rattle.row.proofs.ReadLaws.{printed-line}
 use Rattle.row.specs.Rows.{restOf}
 use Rattle.row.specs.Line as line
@@ -34,13 +32,8 @@ use Rattle.parts.specs.declared.Fit.the-variants.{Whole, Short}
 
 -- ---- its name
 
-name-few : (t : Str) → isName t ≡ true → length t ≤ 64
-unfolding isName
-name-few t e = go (sized 64 t) refl e
-  where
-    go : (b : Bool) → sized 64 t ≡ b → cond b (cond (isDigit (getD t 0 0)) false (all isWord t)) false ≡ true → length t ≤ 64
-    go true s e = leb-true (length t) 64 (both-true (leb 1 (length t)) (leb (length t) 64) s .1)
-    go false s e = let z : _≡_ {A = ℕ} 0 1 = cc in omega arith
+name-few : (t : Str) → isFieldName t ≡ true → length t ≤ 64
+name-few t e = may-length t (field-name-may t e) .1
 
 read-few : (rs : Rows) → On (readField rs) (λ f. length (f .name) ≤ 64)
 unfolding readField lineAt textAt

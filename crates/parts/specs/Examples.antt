@@ -7,9 +7,9 @@ use lib.ListN.{length, take}
 use Rattle.text.specs.Bytes.{Str, ascii}
 use Rattle.text.specs.Decimal.{decimal}
 use Rattle.text.specs.Lines.{toLines, flatMap, join, stringify, ended}
-use Rattle.names.specs.Names.{isAscii, taken, snakeFrom, camelToSnakeCase}
+use Rattle.names.specs.Names.{taken, snakeFrom, camelToSnakeCase}
 use Rattle.column.specs.Number.{trimmed, digits, unpadded, columnOf, padded}
-use Rattle.column.specs.Texts.{isWord, isGraphic, all, isName, isGraphicText, endsIn}
+use Rattle.column.specs.Texts.{isWord, isGraphic, all, areChars, isName, isFieldName, isGraphicText, endsIn}
 use Rattle.row.specs.Rows.{rows, onto, restOf, newlines, size, lineNo, joined}
 use Rattle.row.specs.Line.{rootLine, nodeLine, fieldLine, typeLine, valueLine}
 use Rattle.row.specs.Line.{mostA, mostB, mostC, mostBits, reader, lineOf, lineAt, textStart, textOf, textAt}
@@ -56,18 +56,15 @@ pub example : programText (admitted isFree) ≡ ended (linesOf (
 unfolding programText nodeText fieldText eachText printedPart partText refusedText headerText accessorText setterRequest
     generateSetter haserRequest generateHaser getterRequest getterText getterMask primDefault setBoolField getBoolField
     typeString typeFrom readType valueOf readWords readSlot among overlap readField fieldsUpTo readFields groupIds readParams
-    readMembers
-    readNode readNodes readSheet admitted rowText columns textAt textOf textStart lineAt lineOf reader mostBits mostC mostB mostA
-    valueLine typeLine fieldLine nodeLine rootLine joined restOf onto rows endsIn isGraphicText isName all isGraphic isWord
-    padded columnOf unpadded digits trimmed camelToSnakeCase snakeFrom taken isAscii ended stringify join flatMap toLines
-    decimal
+    readMembers readNode readNodes readSheet admitted rowText columns textAt textOf textStart lineAt lineOf reader mostBits
+    mostC mostB mostA valueLine typeLine fieldLine nodeLine rootLine joined restOf onto rows endsIn isGraphicText isName
+    isFieldName areChars all isGraphic isWord padded columnOf unpadded digits trimmed camelToSnakeCase snakeFrom taken ended
+    stringify join flatMap toLines decimal
 example = refl
 
 pub torn : programText (admitted (take (length isFree - 1) isFree)) ≡ ascii "refused 2 line 5\n"
 unfolding programText refusedSheetText typeFrom readType valueOf readWords readSlot readField fieldsUpTo readFields readParams
-    readMembers
-    readNode readNodes readSheet among admitted rowText columns textAt textOf textStart lineAt lineOf reader mostBits mostC
-    mostB mostA
-    valueLine typeLine fieldLine nodeLine rootLine joined restOf onto rows lineNo size newlines endsIn isGraphicText isName all
-    isGraphic isWord padded columnOf unpadded digits trimmed decimal
+    readMembers readNode readNodes readSheet among admitted rowText columns textAt textOf textStart lineAt lineOf reader
+    mostBits mostC mostB mostA valueLine typeLine fieldLine nodeLine rootLine joined restOf onto rows lineNo size newlines
+    endsIn isGraphicText isName isFieldName areChars all isGraphic isWord padded columnOf unpadded digits trimmed decimal
 torn = refl

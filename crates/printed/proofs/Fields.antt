@@ -10,7 +10,7 @@ use borrow.Author.Tests.{ltb-true, lt-ltb, leb-true, le-leb, eqb-true}
 use lib.Dec.{ltb, leb}
 use lib.ListN.{length}
 use Rattle.text.specs.Bytes.{Str, both}
-use Rattle.column.specs.Texts.{isName}
+use Rattle.column.specs.Texts.{isFieldName}
 use Rattle.row.specs.Rows.{restOf}
 use Rattle.row.specs.Line.{Content, lineAt, textAt, asWord, mostBits}
 use Rattle.row.specs.Print.{printField, printValue, printWord, Fits}
@@ -97,7 +97,7 @@ slotTests s =
     ∷ wordsFit (hasWords (s .explicit) (s .default .kind)) (s .words) ∷ []
 
 abbrev pub fieldTests : Field → List Bool
-fieldTests f = isName (f .name) ∷ fits 16 (f .discriminant) ∷ armFits (f .arm) ∷ []
+fieldTests f = isFieldName (f .name) ∷ fits 16 (f .discriminant) ∷ armFits (f .arm) ∷ []
 
 -- what belongs to an F line
 abbrev slotRows : Slot → Rows → Rows
@@ -119,7 +119,7 @@ armLine d (slot s) = line.Field (s .offset) d (s .explicit) (s .option)
 armLine d (group i) = line.Group i d
 
 arm-fits :
-    (name : Str) (d : ℕ) (arm : Arm) → isName name ≡ true → fits 16 d ≡ true → armFits arm ≡ true → Fits (armLine d arm) name
+    (name : Str) (d : ℕ) (arm : Arm) → isFieldName name ≡ true → fits 16 d ≡ true → armFits arm ≡ true → Fits (armLine d arm) name
 arm-fits name d (slot s) n f e =
     let tests = holds (slotTests s) e in
     (fits-most 32 _ (tests 0), fits-most 16 d f, fits-most 1 _ (tests 1), fits-most 1 _ (tests 2), n)
@@ -144,7 +144,7 @@ room-fields (f ∷ fs) rs room =
 -- a field printed, read
 module _ (name : Str) (d : ℕ) where
   read-arm :
-      (arm : Arm) (rs : Rows) → isName name ≡ true → fits 16 d ≡ true → armFits arm ≡ true → AfterField (lineAt rs)
+      (arm : Arm) (rs : Rows) → isFieldName name ≡ true → fits 16 d ≡ true → armFits arm ≡ true → AfterField (lineAt rs)
       → Room (armRows name d arm rs) → Reads (armRows name d arm rs) (readField (armRows name d arm rs)) (field name d arm) rs
   unfolding readField restOf
   read-arm (slot s) rs n f e h room =
@@ -161,7 +161,7 @@ module _ (name : Str) (d : ℕ) where
 
   -- its first line is an F or a G
   arm-field :
-      (arm : Arm) (rs : Rows) → isName name ≡ true → fits 16 d ≡ true → armFits arm ≡ true
+      (arm : Arm) (rs : Rows) → isFieldName name ≡ true → fits 16 d ≡ true → armFits arm ≡ true
       → (isField (lineAt (armRows name d arm rs)) ≡ true) × AfterField (lineAt (armRows name d arm rs))
   arm-field (slot s) rs n f e =
       let h = line-here (armLine d (slot s)) name (slotRows s rs) (arm-fits name d (slot s) n f e) in

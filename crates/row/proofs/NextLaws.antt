@@ -13,7 +13,7 @@ use borrow.Author.Tests.{ne-eqb}
 use types.Run.{OneOf, miss}
 use denote.Enum.Declared.{tagOf}
 use Rattle.text.specs.Bytes.{Str, cond}
-use Rattle.column.specs.Texts.{endsIn, isName, isGraphicText}
+use Rattle.column.specs.Texts.{endsIn, isName, isFieldName, isGraphicText}
 use Rattle.row.specs.Rows.{rowLen, rows, restOf}
 use Rattle.row.specs.Line.{rootLine, nodeLine, parameterLine, fieldLine, groupLine}
 use Rattle.row.specs.Line.{typeLine, scopeLine, unboundLine, valueLine, wordLine}
@@ -43,6 +43,10 @@ module _ (t : Str) where
   unfolding isName
   name-short a h = ends-short isName a refl h
 
+  field-name-short : (a : ℕ) → length t < a + 2 → endsIn isFieldName t a ≡ false
+  unfolding isFieldName
+  field-name-short a h = ends-short isFieldName a refl h
+
   length-short : (n : ℕ) → length t < n → eqb (length t) n ≡ false
   length-short n h = ne-eqb (length t) n λ e. omega arith
 
@@ -60,11 +64,11 @@ module _ (t : Str) where
 
   pub field-short : length t < 87 → fieldLine t ≡ Bad
   unfolding fieldLine
-  field-short h = simp (name-short 85 h, given-bad)
+  field-short h = simp (field-name-short 85 h, given-bad)
 
   pub group-short : length t < 45 → groupLine t ≡ Bad
   unfolding groupLine
-  group-short h = simp (name-short 43 h, given-bad)
+  group-short h = simp (field-name-short 43 h, given-bad)
 
   pub type-short : length t < 85 → typeLine t ≡ Bad
   unfolding typeLine

@@ -15,8 +15,9 @@ use Rattle.text.specs.Bytes.{Str, cond, both, unit}
 use Rattle.text.specs.Decimal.{decimal}
 use Rattle.text.proofs.DecimalLaws.{decimal-low, decimal-high}
 use Rattle.column.specs.Number.{most, padded, columnOf}
-use Rattle.column.specs.Texts.{endsIn, isWord, isGraphic, all, isName, isGraphicText}
-use Rattle.column.proofs.Laws.{name-all, graphic-all}
+use Rattle.column.specs.Texts.{endsIn, isWord, isGraphic, all, isName, isFieldName, isGraphicText}
+use Rattle.column.proofs.Laws.{name-all, field-name-chars, graphic-all}
+use Rattle.column.proofs.CharLaws.{orHigh, chars-all}
 use Rattle.column.proofs.PaddedLaws.{padded-length, column-printed, ends-printed}
 use Rattle.row.specs.Rows.{newlines, rows}
 use Rattle.row.specs.Line.{rootLine, nodeLine, parameterLine, fieldLine, groupLine}
@@ -206,7 +207,7 @@ field-read o d e p text f =
       read 1 0 (2 ^ 16 - 1) (omega arith) (omega arith) (f .1),
       read 2 0 1 (omega arith) (omega arith) (f .2),
       read 3 0 1 (omega arith) (omega arith) (f .3),
-      ends-read 70 ns (spaced text) w isName text refl,
+      ends-read 70 ns (spaced text) w isFieldName text refl,
       f .4,
     )
 
@@ -220,7 +221,7 @@ group-read i d text f =
     ∙ rw (
       read 0 1 (2 ^ 64 - 1) (omega arith) (f .0 .0) (f .0 .1),
       read 1 0 (2 ^ 16 - 1) (omega arith) (omega arith) (f .1),
-      ends-read 71 ns (spaced text) w isName text refl,
+      ends-read 71 ns (spaced text) w isFieldName text refl,
       f .2,
     )
 
@@ -388,6 +389,12 @@ name-newlines : (text : Str) → isName text ≡ true → newlines (spaced text)
 unfolding isWord
 name-newlines text e = newline-no 32 text (omega arith) ∙ all-newlines isWord text refl (name-all text e)
 
+field-name-newlines : (text : Str) → isFieldName text ≡ true → newlines (spaced text) ≡ 0
+unfolding isWord
+field-name-newlines text e =
+    newline-no 32 text (omega arith)
+    ∙ all-newlines (orHigh isWord) text refl (chars-all isWord false text (field-name-chars text e))
+
 graphic-newlines : (most : ℕ) (text : Str) → isGraphicText most text ≡ true → newlines (spaced text) ≡ 0
 unfolding isGraphic
 graphic-newlines most text e = newline-no 32 text (omega arith) ∙ all-newlines isGraphic text refl (graphic-all most text e)
@@ -405,8 +412,8 @@ unfolding newlines
 rows-printed Root text rest f = first-row 82 [] _ rest (omega arith) (graphic-newlines 64 text f)
 rows-printed (Node i p s x g c o) text rest f = first-row 78 _ _ rest (omega arith) (graphic-newlines 128 text (f .7))
 rows-printed Parameter text rest f = first-row 80 [] _ rest (omega arith) (name-newlines text f)
-rows-printed (Field o d e p) text rest f = first-row 70 _ _ rest (omega arith) (name-newlines text (f .4))
-rows-printed (Group i d) text rest f = first-row 71 _ _ rest (omega arith) (name-newlines text (f .2))
+rows-printed (Field o d e p) text rest f = first-row 70 _ _ rest (omega arith) (field-name-newlines text (f .4))
+rows-printed (Group i d) text rest f = first-row 71 _ _ rest (omega arith) (field-name-newlines text (f .2))
 rows-printed (Typ k a b c) text rest f = first-row 84 _ [] rest (omega arith) refl
 rows-printed (Scope i b n) text rest f = first-row 83 _ [] rest (omega arith) refl
 rows-printed Unbound text rest f = first-row 85 [] [] rest (omega arith) refl

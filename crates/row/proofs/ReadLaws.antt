@@ -11,7 +11,7 @@ use lib.Seq.{take-length, take-suc}
 use borrow.Author.Tests.{eqb-true}
 use Rattle.text.specs.Bytes.{Str, cond, unit}
 use Rattle.column.specs.Number.{columnOf, padded}
-use Rattle.column.specs.Texts.{isName, isGraphicText}
+use Rattle.column.specs.Texts.{isName, isFieldName, isGraphicText}
 use Rattle.column.proofs.PaddedLaws.{Stands, column-stands, Ends, ends-stands}
 use Rattle.row.specs.Line.{rootLine, nodeLine, parameterLine, fieldLine, groupLine}
 use Rattle.row.specs.Line.{typeLine, scopeLine, unboundLine, valueLine, wordLine}
@@ -136,7 +136,7 @@ field-told u =
     on-column r t _ _ _ _ λ e c₂.
     on-column r t _ _ _ _ λ p c₃.
     on-test r _ _ λ z _.
-    let q = ends-stands isName t 85 z in
+    let q = ends-stands isFieldName t 85 z in
     printed-as 70 u (o ∷ d ∷ e ∷ p ∷ []) (32 ∷ drop 86 t) (drop 86 t) (Field o d e p)
     (c₀ then c₁ then c₂ then c₃ then text-end q) (text-read t)
     (c₀ .high, c₁ .high, c₂ .high, c₃ .high, q .good) refl
@@ -149,7 +149,7 @@ group-told u =
     on-column r t _ _ _ _ λ i c₀.
     on-column r t _ _ _ _ λ d c₁.
     on-test r _ _ λ z _.
-    let q = ends-stands isName t 43 z in
+    let q = ends-stands isFieldName t 43 z in
     printed-as 71 u (i ∷ d ∷ []) (32 ∷ drop 44 t) (drop 44 t) (Group i d)
     (c₀ then c₁ then text-end q) (text-read t)
     ((c₀ .low, c₀ .high), c₁ .high, q .good) refl

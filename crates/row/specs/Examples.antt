@@ -8,7 +8,8 @@ use lib.ListN.{length, replicate}
 use Rattle.text.specs.Bytes.{Str, ascii, unit}
 use Rattle.text.specs.Decimal.{decimal}
 use Rattle.column.specs.Number.{trimmed, digits, unpadded, columnOf, padded}
-use Rattle.column.specs.Texts.{isWord, isGraphic, all, isName, isGraphicText, endsIn}
+use Rattle.column.specs.Texts.{isWord, isGraphic, all, areChars, isName, isFieldName, isGraphicText, endsIn}
+use Rattle.column.specs.Examples.{utf8}
 use Rattle.row.specs.Rows.{rows, onto, newlines, size, lineNo}
 use Rattle.row.specs.Newline.{firstNewline, newlineFrom}
 use Rattle.row.specs.Line.{rootLine, nodeLine, parameterLine, fieldLine, groupLine}
@@ -24,7 +25,7 @@ justified (w ∷ ws) = replicate (21 - length (ascii w)) 32 ++ ascii w ++ justif
 
 -- a row by its letter, its numbers and what stands after them
 row : S.String → List S.String → S.String → Str
-row letter numbers end = ascii letter ++ justified numbers ++ ascii end ++ unit 10
+row letter numbers end = ascii letter ++ justified numbers ++ utf8 end ++ unit 10
 
 -- a row, and what it says
 record Case : Type 0 where
@@ -108,6 +109,14 @@ texts =
     ∷ row "P" [] " T:" says Bad
     ∷ row "R" [] " ::capnp" says Root
     ∷ row "R" [] " a b" says Bad
+    -- letters with accents (N2), in F and G lines alone; a torn one
+    ∷ row "F" ("0" ∷ "0" ∷ "0" ∷ "0" ∷ []) " étatÄ" says Field 0 0 0 0
+    ∷ row "G" ("9" ∷ "0" ∷ []) " Übergabe" says Group 9 0
+    ∷ row "F" ("0" ∷ "0" ∷ "0" ∷ "0" ∷ []) " a×" says Bad
+    ∷ (ascii "G" ++ justified ("9" ∷ "0" ∷ []) ++ ascii " a" ++ unit 0xC3 ++ unit 10) says Bad
+    ∷ row "P" [] " é" says Bad
+    ∷ row "R" [] " é" says Bad
+    ∷ (node ++ utf8 "é" ++ unit 10) says Bad
     ∷ (ascii "P " ++ sixty ++ ascii "abcd" ++ unit 10) says Parameter
     ∷ (ascii "P " ++ sixty ++ ascii "abcde" ++ unit 10) says Bad
     ∷ (ascii "R " ++ sixty ++ ascii "abcd" ++ unit 10) says Root
@@ -130,9 +139,9 @@ expected : List Case → List Content
 expected cs = map (λ c. c .says) cs
 
 all-cases : readAll (numbers ++ kinds ++ texts) ≡ expected (numbers ++ kinds ++ texts)
-unfolding justified row _says_ sixty node numbers kinds texts readAll expected trimmed digits unpadded columnOf
-    isWord isGraphic all isName isGraphicText endsIn rootLine nodeLine parameterLine fieldLine groupLine typeLine scopeLine
-    unboundLine valueLine wordLine mostA mostB mostC mostCount mostBits reader lineOf
+unfolding justified row _says_ sixty node numbers kinds texts readAll expected trimmed digits unpadded columnOf isWord
+    isGraphic all areChars isName isFieldName isGraphicText endsIn rootLine nodeLine parameterLine fieldLine groupLine
+    typeLine scopeLine unboundLine valueLine wordLine mostA mostB mostC mostCount mostBits reader lineOf
 all-cases = refl
 
 -- document 01's example: the rows of the sheet, what each says, its text; and the same printed
@@ -156,8 +165,8 @@ printedAll (l ∷ ls) [] = []
 printedAll (l ∷ ls) (t ∷ ts) = printLine l t ++ printedAll ls ts
 
 sheet-lines : map lineOf (rows sheet) ≡ lines
-unfolding justified row sheet lines rows onto trimmed digits unpadded columnOf isWord isGraphic all isName isGraphicText endsIn
-    rootLine nodeLine fieldLine typeLine valueLine mostA mostB mostC mostBits reader lineOf
+unfolding justified row sheet lines rows onto trimmed digits unpadded columnOf isWord isGraphic all areChars isName
+    isFieldName isGraphicText endsIn rootLine nodeLine fieldLine typeLine valueLine mostA mostB mostC mostBits reader lineOf
 sheet-lines = refl
 
 sheet-texts : map textOf (rows sheet) ≡ names

@@ -9,7 +9,7 @@ use lib.Dec.{eqb, ltb}
 use lib.ListN.{length, getD, take, drop}
 use Rattle.text.specs.Bytes.{Str, cond}
 use Rattle.column.specs.Number.{columnOf, most}
-use Rattle.column.specs.Texts.{endsIn, isName, isGraphicText}
+use Rattle.column.specs.Texts.{endsIn, isName, isFieldName, isGraphicText}
 use Rattle.row.specs.declared.Line.{Line}
 use Rattle.row.specs.declared.Line.the-variants as line
 
@@ -79,14 +79,14 @@ fieldLine t =
     given (columnOf t 22 0 (most 16)) λ discriminant.
     given (columnOf t 43 0 1) λ explicit.
     given (columnOf t 64 0 1) λ option.
-    cond (endsIn isName t 85) (Field offset discriminant explicit option) Bad
+    cond (endsIn isFieldName t 85) (Field offset discriminant explicit option) Bad
 
 -- G: group id (1 or more), discriminant value; the field's name
 unfoldable pub groupLine : Str → Content
 groupLine t =
     given (columnOf t 1 1 (most 64)) λ id.
     given (columnOf t 22 0 (most 16)) λ discriminant.
-    cond (endsIn isName t 43) (Group id discriminant) Bad
+    cond (endsIn isFieldName t 43) (Group id discriminant) Bad
 
 -- T's a by the kind: an id for kinds 15 to 17, 0 or 1 for kind 18, otherwise 0
 unfoldable pub mostA : ℕ → ℕ

@@ -5,7 +5,7 @@ use mathlib.Core.List.{List, [], _∷_, _++_}
 use Prim.Native.Nat.{ℕ, _≤_}
 use Rattle.text.specs.Bytes.{Str, unit}
 use Rattle.column.specs.Number.{most, padded}
-use Rattle.column.specs.Texts.{isName, isGraphicText}
+use Rattle.column.specs.Texts.{isName, isFieldName, isGraphicText}
 use Rattle.row.specs.Line.{byte, mostA, mostB, mostC, mostCount, mostBits}
 use Rattle.row.specs.Line.{Content, Root, Node, Parameter, Field, Group, Typ, Scope, Unbound, Value, Word, Bad}
 
@@ -75,8 +75,8 @@ Fits (Node i p s x g c o) text =
     ((1 ≤ i) × (i ≤ most 64)) × (p ≤ most 64) × (s ≤ most 64) × (x ≤ 1) × (g ≤ 1) × (c ≤ most 16) × (o ≤ most 32)
     × (isGraphicText 128 text ≡ true)
 Fits Parameter text = isName text ≡ true
-Fits (Field o d e p) text = (o ≤ most 32) × (d ≤ most 16) × (e ≤ 1) × (p ≤ 1) × (isName text ≡ true)
-Fits (Group i d) text = ((1 ≤ i) × (i ≤ most 64)) × (d ≤ most 16) × (isName text ≡ true)
+Fits (Field o d e p) text = (o ≤ most 32) × (d ≤ most 16) × (e ≤ 1) × (p ≤ 1) × (isFieldName text ≡ true)
+Fits (Group i d) text = ((1 ≤ i) × (i ≤ most 64)) × (d ≤ most 16) × (isFieldName text ≡ true)
 Fits (Typ k a b c) text = (k ≤ 18) × (a ≤ mostA k) × (b ≤ mostB k a) × (c ≤ mostC k a) × (text ≡ [])
 Fits (Scope i b n) text = (i ≤ most 64) × (b ≤ 1) × (n ≤ mostCount b) × (text ≡ [])
 Fits Unbound text = text ≡ []

@@ -206,7 +206,7 @@ fn field_line(t: &[u8]) -> Line
     let Number::Is(option) = column::column(t, 64, 0, 1) else {
         return Line::Bad;
     };
-    if !column::ends_in_name(t, 85) {
+    if !column::ends_in_field_name(t, 85) {
         return Line::Bad;
     }
     Line::Field {
@@ -227,7 +227,7 @@ fn group_line(t: &[u8]) -> Line
     let Number::Is(discriminant) = column::column(t, 22, 0, MOST_16) else {
         return Line::Bad;
     };
-    if !column::ends_in_name(t, 43) {
+    if !column::ends_in_field_name(t, 43) {
         return Line::Bad;
     }
     Line::Group { id, discriminant }

@@ -11,6 +11,7 @@ use lib.ListN.{length, drop, length-append, length-drop}
 use Rattle.text.specs.Bytes.{Str, unit}
 use Rattle.column.specs.Number.{padded}
 use Rattle.column.specs.Texts.{isName, isGraphicText}
+use Rattle.column.proofs.Laws.{may-length, name-may}
 use Rattle.column.proofs.PaddedLaws.{padded-length}
 use Rattle.row.specs.Rows.{rows, restOf, size}
 use Rattle.row.specs.Line.{lineOf, lineAt, textOf}
@@ -23,9 +24,7 @@ use Rattle.row.specs.Line as line
 
 -- a name has a byte
 name-some : (t : Str) → isName t ≡ true → 1 ≤ length t
-unfolding isName
-name-some [] h = never cc
-name-some (b ∷ t) h = omega arith
+name-some t h = may-length t (name-may t h) .0
 
 -- and so has a module
 module-some : (t : Str) → isGraphicText 128 t ≡ true → 1 ≤ length t

@@ -7,7 +7,7 @@ use lib.ListN.{length, take, drop, replicate}
 use Rattle.text.specs.Bytes.{Str, ascii, unit}
 use Rattle.text.specs.Decimal.{decimal}
 use Rattle.column.specs.Number.{trimmed, digits, unpadded, columnOf, padded}
-use Rattle.column.specs.Texts.{isWord, isGraphic, all, isName, isGraphicText, endsIn}
+use Rattle.column.specs.Texts.{isWord, isGraphic, all, areChars, isName, isFieldName, isGraphicText, endsIn}
 use Rattle.row.specs.Rows.{rows, joined, onto, restOf, newlines, size, lineNo}
 use Rattle.row.specs.Line.{rootLine, nodeLine, parameterLine, fieldLine, groupLine}
 use Rattle.row.specs.Line.{typeLine, scopeLine, unboundLine, valueLine, wordLine}
@@ -165,19 +165,18 @@ expected (c ∷ cs) = c .answer ∷ expected cs
 
 -- what is admitted of each sheet is what the table says
 worked : answers table ≡ expected table
-unfolding answers expected table rich down groups worded bed7 lists typed oneSlot freeTree bedWith freeAs
-    joined printed sheetRows nodeRows paramRows fieldRows wordRows typeRows bindCount scopeCount rowText columns padded decimal
-    admitted readSheet readNodes readNode readMembers readParams groupIds readFields fieldsUpTo readField overlap among
-    readSlot readWords
-    readWordsUpTo valueOf readType typeFrom readScope readBinding times lineNo size newlines restOf onto rows
-    textAt textOf textStart lineAt lineOf reader
-    rootLine nodeLine parameterLine fieldLine groupLine typeLine scopeLine unboundLine valueLine wordLine
-    mostA mostB mostC mostCount mostBits columnOf unpadded digits trimmed isGraphicText isName all isGraphic isWord endsIn
+unfolding answers expected table rich down groups worded bed7 lists typed oneSlot freeTree bedWith freeAs joined printed
+    sheetRows nodeRows paramRows fieldRows wordRows typeRows bindCount scopeCount rowText columns padded decimal admitted
+    readSheet readNodes readNode readMembers readParams groupIds readFields fieldsUpTo readField overlap among readSlot
+    readWords readWordsUpTo valueOf readType typeFrom readScope readBinding times lineNo size newlines restOf onto rows textAt
+    textOf textStart lineAt lineOf reader rootLine nodeLine parameterLine fieldLine groupLine typeLine scopeLine unboundLine
+    valueLine wordLine mostA mostB mostC mostCount mostBits columnOf unpadded digits trimmed isGraphicText isName isFieldName
+    areChars all isGraphic isWord endsIn
 worked = refl
 
 -- the two trees with most in them are well-formed
 fit : (wellFormed freeTree ≡ true) × (wellFormed rich ≡ true)
-unfolding wellFormed every distinct typeFits nodeIds allGroupIds groupIds among mostBits isGraphicText isName all isGraphic isWord
-    freeTree rich groups bedWith
-    joined printed sheetRows nodeRows paramRows fieldRows wordRows typeRows bindCount scopeCount rowText columns padded decimal
+unfolding wellFormed every distinct typeFits nodeIds allGroupIds groupIds among mostBits isGraphicText isName isFieldName
+    areChars all isGraphic isWord freeTree rich groups bedWith joined printed sheetRows nodeRows paramRows fieldRows wordRows
+    typeRows bindCount scopeCount rowText columns padded decimal
 fit = (refl, refl)

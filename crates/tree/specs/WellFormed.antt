@@ -6,7 +6,7 @@ use Prim.Native.Nat.{ℕ, _-_, _^_}
 use lib.Dec.{eqb, ltb, leb}
 use lib.ListN.{length}
 use Rattle.text.specs.Bytes.{cond, both}
-use Rattle.column.specs.Texts.{isName, isGraphicText}
+use Rattle.column.specs.Texts.{isName, isFieldName, isGraphicText}
 use Rattle.row.specs.Line.{mostBits}
 use Rattle.tree.specs.Tree.{Ty, plain, list, enum, struct, interface, anyPointer, parameter}
 use Rattle.tree.specs.Tree.{Scopes, end, inherit, bind, Binds, stop, unbound, bound}
@@ -81,7 +81,7 @@ armFits (slot s) = slotFits s
 armFits (group i) = isId i
 
 abbrev pub fieldFits : Field → Bool
-fieldFits f = everyTest (isName (f .name) ∷ fits 16 (f .discriminant) ∷ armFits (f .arm) ∷ [])
+fieldFits f = everyTest (isFieldName (f .name) ∷ fits 16 (f .discriminant) ∷ armFits (f .arm) ∷ [])
 
 abbrev pub nodeFits : Node → Bool
 nodeFits n = everyTest (

@@ -121,11 +121,11 @@ module _ (xs : List ℕ) (o n q : ℕ) (left : blocksLeft xs o n ≡ q) where
 
 -- ---- a search that goes on below the blocks that it passes over
 
--- no higher
+-- it goes on no higher
 pub blocks-down : (xs : List ℕ) (o i n : ℕ) → n ≡ blocksLeft xs o (i / blockSize) → n * blockSize ≤ i
 blocks-down xs o i n left = let h = blocks-fewer xs o (i / blockSize) in omega arith
 
--- and to the same place, from the end i of a block on
+-- and it finds the same place, from the end i of a block on
 pub blocks-on :
     (xs ys : List ℕ) (c o i q : ℕ) → placeBelow xs ys c o tableSize i ≡ q → i % blockSize ≡ 0 → (n : ℕ)
     → n ≡ blocksLeft xs o (i / blockSize) → i ≤ length xs → placeBelow xs ys c o tableSize (n * blockSize) ≡ q

@@ -1,5 +1,6 @@
--- The table of a group's lines so far, by type and offset: two lists of 307 places, of which one with type 0 and offset 0 is free. A line is
--- sought from its own place down, and then from the last, up to a place that has it or is free. Assumes nothing.
+-- The table of a group's lines so far, by type and offset: two lists of 307 places, of which one with type 0 and offset 0 is
+-- free. A line is sought from its own place down, and then from the last, up to a place that has it or is free. Assumes
+-- nothing.
 use mathlib.Core.Path.{_≡_}
 use mathlib.Core.Bool.{Bool, true, false}
 use mathlib.Core.List.{List}

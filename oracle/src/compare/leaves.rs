@@ -12,19 +12,41 @@ use crate::report::{shown, Report};
 /// `camel_to_snake_case`, the name of a default, and `module_name`.
 pub fn names(times: u64) -> Report {
     let mut report = Report::new("names");
-    names::short().iter().chain(&names::keywords()).for_each(|name| one_name(&mut report, name));
+    for name in [names::short(), names::keywords(), names::accents_at_bounds()].concat() {
+        one_name(&mut report, &name);
+    }
+    (0..=u8::MAX).for_each(|byte| any_bytes(&mut report, &[byte]));
+    (0..=u16::MAX).for_each(|pair| any_bytes(&mut report, &pair.to_be_bytes()));
+    for byte in 0..=u8::MAX {
+        any_bytes(&mut report, &[b'b', 0xc3, byte, b'D']);
+        any_bytes(&mut report, &[b'b', byte, 0x84, b'D']);
+        any_bytes(&mut report, &[0xc3, 0x84, byte]);
+    }
     let random = &mut Random::new(1);
     for length in 0..=64 {
         for _ in 0..40 * times {
             one_name(&mut report, &names::random(random, length));
+            one_name(&mut report, &names::accented(random, length));
         }
         let ascii: String = (0..length).map(|_| random.below(128) as u8 as char).collect();
         one_name(&mut report, &ascii);
     }
-    for _ in 0..20 * times {
-        no_name(&mut report, random);
+    for length in [65, 66, 100] {
+        any_bytes(&mut report, names::random(random, length).as_bytes());
+        any_bytes(&mut report, names::accented(random, length).as_bytes());
+    }
+    for _ in 0..4_000 * times {
+        any_bytes(&mut report, &names::damaged(random));
     }
     report
+}
+
+/// Bytes that may be no name.
+fn any_bytes(report: &mut Report, bytes: &[u8]) {
+    match names::taken(bytes) {
+        Some(name) => one_name(report, name),
+        None => no_name(report, bytes),
+    }
 }
 
 fn one_name(report: &mut Report, name: &str) {
@@ -37,18 +59,11 @@ fn one_name(report: &mut Report, name: &str) {
     writes(report, module.as_bytes(), |at, buf| kitlubas::module_name(at, buf, bytes), || format!("module {name}"));
 }
 
-/// A slice that is no name of a sheet: over 64 bytes, or with a byte over 127.
-fn no_name(report: &mut Report, random: &mut Random) {
-    let mut bytes = names::random(random, 65).into_bytes();
-    if random.once_in(2) {
-        bytes.truncate(random.between(1, 64));
-        let at = random.between(0, bytes.len() - 1);
-        bytes[at] = random.between(128, 255) as u8;
-    }
-    let what = || format!("no name {}", shown(&bytes));
-    refuses(report, |at, buf| kitlubas::snake(at, buf, &bytes), what);
-    refuses(report, |at, buf| kitlubas::default_name(at, buf, &bytes), what);
-    refuses(report, |at, buf| kitlubas::module_name(at, buf, &bytes), what);
+fn no_name(report: &mut Report, bytes: &[u8]) {
+    let what = || format!("no name {}", shown(bytes));
+    refuses(report, |at, buf| kitlubas::snake(at, buf, bytes), what);
+    refuses(report, |at, buf| kitlubas::default_name(at, buf, bytes), what);
+    refuses(report, |at, buf| kitlubas::module_name(at, buf, bytes), what);
 }
 
 /// Numbers as `format!` writes them.

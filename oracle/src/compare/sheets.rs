@@ -1,17 +1,24 @@
 //! Admission: the sheet reader of this package against the static library's.
 
 use crate::boundary::admit::admit;
+use crate::generate::corners::{group, node, slot};
 use crate::generate::{self, bounds, damage};
 use crate::random::Random;
 use crate::report::{kept, Report};
+use crate::sheet::print::print;
 use crate::sheet::read::{read, Refusal};
+use crate::sheet::{Sheet, Type};
 
-/// Sheets at the bounds, valid sheets, and four damaged copies of each.
+/// Sheets at the bounds, fields with every name of two bytes, valid sheets, and four damaged copies of each.
 pub fn admission(times: u64) -> Report {
     let mut report = Report::new("admission");
     for bound in bounds::all() {
         assert_eq!(read(&bound.bytes).err(), bound.expected, "{}", bound.name);
         one_sheet(&mut report, &bound.bytes, &bound.name);
+    }
+    let bed = node(7, 0, "bed", &[]);
+    for named in [bed.clone().slots([slot("??", Type::Plain(1))]), bed.group(group("??", 9))] {
+        two_bytes(&mut report, print(&Sheet::of(vec![named])));
     }
     let random = &mut Random::new(21);
     for turn in 0..4_000 * times {
@@ -22,6 +29,15 @@ pub fn admission(times: u64) -> Report {
         }
     }
     report
+}
+
+/// A sheet with any two bytes in place of its name `??`.
+fn two_bytes(report: &mut Report, mut bytes: Vec<u8>) {
+    let at = bytes.windows(2).position(|pair| pair == b"??").expect("the sheet has this name");
+    for pair in 0..=u16::MAX {
+        bytes[at..at + 2].copy_from_slice(&pair.to_be_bytes());
+        one_sheet(report, &bytes, "two bytes as a name");
+    }
 }
 
 fn one_sheet(report: &mut Report, bytes: &[u8], name: &str) {

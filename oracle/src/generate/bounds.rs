@@ -1,7 +1,8 @@
-//! Sheets at every bound of document 01 and one past it, each with its name and with the answer that document 01 gives
-//! it, written down here by hand.
+//! Sheets at every bound of document 01 and of request N2 and one past it, each with its name and with the answer that
+//! they give it, written down here by hand.
 
 mod columns;
+mod letters;
 mod lines;
 mod order;
 
@@ -19,6 +20,7 @@ pub fn all() -> Vec<Bound> {
     let mut bounds = Bounds(Vec::new());
     columns::add(&mut bounds);
     lines::add(&mut bounds);
+    letters::add(&mut bounds);
     order::add(&mut bounds);
     bounds.0
 }
@@ -64,8 +66,8 @@ impl Lines {
         self
     }
 
-    fn text(mut self, letter: char, values: &[u64], text: &str) -> Lines {
-        self.0.push(format!("{} {text}", numbers(letter, values)).into_bytes());
+    fn text(mut self, letter: char, values: &[u64], text: impl AsRef<[u8]>) -> Lines {
+        self.0.push([numbers(letter, values).as_bytes(), b" ", text.as_ref()].concat());
         self
     }
 

@@ -1,6 +1,7 @@
 //! Sheets for requests that random ones seldom hold: chains and groups at their 16th and 17th, cycles, doubled scopes,
-//! scopes off the chain, every kind of slot with every kind of default.
+//! scopes off the chain, every kind of slot with every kind of default, names with accents at their bounds.
 
+use crate::names;
 use crate::schema_capnp::field::NO_DISCRIMINANT;
 use crate::sheet::{has_words, value_width, Binding, Field, Group, Node, Scope, Sheet, Slot, Type, Value};
 
@@ -34,6 +35,10 @@ pub fn all() -> Vec<Corner> {
     add("parameters".to_string(), parameters());
     add("zeroing".to_string(), zeroing());
     add("nested lists".to_string(), lists());
+    // Two names in a sheet, so that it is short enough for the samples.
+    for (pair, at) in names::accents_at_bounds().chunks(2).zip(0..) {
+        add(format!("names with accents {at}"), accents(pair, at));
+    }
     corners
 }
 
@@ -318,4 +323,15 @@ fn lists() -> Vec<Node> {
         slots.push(slot("beds", deepest).default(14, 0, true));
     }
     vec![node(1, 0, "bed", &[]).slots(slots), node(9, 0, "ward", &["T"])]
+}
+
+/// For each name a Text with a default, whose texts have the name wherever there can be one, a slot whose kind is the
+/// turn's, and a group.
+fn accents(names: &[String], turn: usize) -> Vec<Node> {
+    let text = |name: &String| slot(name, Type::Plain(12)).default(12, 0, true).tagged(1);
+    let kinds = (0..19).cycle().skip(turn * names.len());
+    let by_turns = names.iter().zip(kinds).map(|(name, kind)| slot(name, of_kind(kind)));
+    let bed = node(1, 0, "bed", &[]).slots(names.iter().map(text)).slots(by_turns);
+    let bed = names.iter().zip(8..).fold(bed, |bed, (name, id)| bed.group(group(name, id)));
+    vec![bed, node(8, 1, "bed::plan", &[]).slots(names.iter().map(text)), node(9, 1, "ward", &["T"])]
 }

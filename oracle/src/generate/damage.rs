@@ -1,10 +1,32 @@
 //! Damaged copies of sheets.
 
+use crate::names;
 use crate::random::Random;
 use crate::sheet::MAX_BYTES;
 
 /// Bytes that mean something in a sheet.
-const TELLING: &[u8] = b" 0123456789\nRNPFGTSUVWaz_AZ-+\t\r\x00\x80\xff";
+const TELLING: &[u8] = b" 0123456789\nRNPFGTSUVWaz_AZ-+\t\r\x00\x80\xc3\xff";
+
+/// What a letter with an accent is not: half of one, both halves the wrong way round, a half too many, the two signs among the
+/// letters, the letters' neighbours in Unicode, the letter in Latin-1, in too many bytes or with a combining mark.
+pub const NO_LETTERS: &[&[u8]] = &[
+    b"\xc3",
+    b"\x84",
+    b"\x84\xc3",
+    b"\xc3\xc3\x84",
+    b"\xc3\x84\x84",
+    b"\xc3\x97",
+    b"\xc3\xb7",
+    b"\xc2\xbf",
+    b"\xc4\x80",
+    b"\xc4",
+    b"\xe4",
+    b"\xc1\x81",
+    b"\xe0\x83\x84",
+    b"\xf0\x80\x83\x84",
+    b"A\xcc\x88",
+    b"\xc3\x84\xcc\x80",
+];
 
 /// Numbers at the limits of some column, written as they stand.
 const LIMITS: &[&str] = &[
@@ -44,7 +66,7 @@ fn damage(random: &mut Random, bytes: &mut Vec<u8>) {
         return bytes.push(*random.pick(TELLING));
     }
     let at = random.between(0, bytes.len() - 1);
-    match random.below(12) {
+    match random.below(14) {
         0 => bytes[at] ^= 1 << random.below(8),
         1 => bytes[at] = *random.pick(TELLING),
         2 => bytes.insert(at, *random.pick(TELLING)),
@@ -52,6 +74,7 @@ fn damage(random: &mut Random, bytes: &mut Vec<u8>) {
         4 => bytes.truncate(at),
         5..=8 => damage_lines(random, bytes),
         9 | 10 => set_number(random, bytes),
+        11 | 12 => damage_letter(random, bytes),
         _ => resize(random, bytes),
     }
 }
@@ -76,6 +99,19 @@ fn set_number(random: &mut Random, bytes: &mut [u8]) {
     let line_end = bytes[column.min(bytes.len())..].iter().position(|&byte| byte == b'\n');
     if line_end.is_some_and(|end| end >= 21) {
         bytes[column..column + 21].copy_from_slice(format!("{:>21}", random.pick(LIMITS)).as_bytes());
+    }
+}
+
+/// Puts something else in place of a letter with an accent, or such a letter at the end of a line.
+fn damage_letter(random: &mut Random, bytes: &mut Vec<u8>) {
+    let places = |wanted: u8| (0..bytes.len()).filter(|&at| bytes[at] == wanted).collect::<Vec<usize>>();
+    let (letters, ends) = (places(0xc3), places(b'\n'));
+    if !letters.is_empty() && !random.once_in(4) {
+        let at = *random.pick(&letters);
+        bytes.splice(at..(at + 2).min(bytes.len()), random.pick(NO_LETTERS).iter().copied());
+    } else if !ends.is_empty() {
+        let (at, letter) = (*random.pick(&ends), *random.pick(&names::accented_letters()));
+        bytes.splice(at..at, letter.to_string().into_bytes());
     }
 }
 

@@ -142,7 +142,7 @@ fn fields(random: &mut Random, style: &Style, nodes: &[Node], groups: &mut Group
     for _ in 0..count {
         let group = if random.once_in(4) { groups.take(random, style, nodes, node) } else { None };
         fields.push(match group {
-            Some(id) => Field::Group(Group { id, discriminant: discriminant(random), name: name(random, style) }),
+            Some(id) => Field::Group(Group { id, discriminant: discriminant(random), name: field_name(random, style) }),
             None => Field::Slot(slot(random, style, nodes)),
         });
     }
@@ -166,7 +166,7 @@ fn slot(random: &mut Random, style: &Style, nodes: &[Node]) -> Slot {
         discriminant: discriminant(random),
         explicit,
         option,
-        name: name(random, style),
+        name: field_name(random, style),
         typ,
         value,
         words,
@@ -218,14 +218,33 @@ fn discriminant(random: &mut Random) -> u16 {
     }
 }
 
-/// A name of the sheet, at its longest every third time.
+/// An ASCII name.
 fn name(random: &mut Random, style: &Style) -> String {
-    let length = if random.once_in(3) { style.names } else { random.between(1, style.names) };
-    let text = names::random(random, length);
-    if text.as_bytes()[0].is_ascii_digit() {
-        return format!("x{}", &text[1..]);
+    let length = name_length(random, style);
+    no_digit_first(names::random(random, length))
+}
+
+/// The name of a field: every other one has accents.
+fn field_name(random: &mut Random, style: &Style) -> String {
+    let length = name_length(random, style);
+    let make = *random.pick(&[names::random, names::accented]);
+    no_digit_first(make(random, length))
+}
+
+/// The bytes of a name, at its longest every third time.
+fn name_length(random: &mut Random, style: &Style) -> usize {
+    if random.once_in(3) {
+        style.names
+    } else {
+        random.between(1, style.names)
     }
-    text
+}
+
+fn no_digit_first(name: String) -> String {
+    if name.starts_with(|c: char| c.is_ascii_digit()) {
+        return format!("x{}", &name[1..]);
+    }
+    name
 }
 
 fn module(random: &mut Random, style: &Style) -> String {

@@ -33,13 +33,15 @@ pub fn sample() -> Sample {
     cases.0
 }
 
-/// Document 01's names, keywords in capitals, and random names of many lengths.
+/// Document 01's names, keywords in capitals, names with accents at their bounds, and random names of many lengths.
 fn names_of_sample(random: &mut Random) -> Vec<String> {
     let mut names =
         ["bedId", "HTTPCode", "wardName", "type", "isFree", "A", "_", "__a", "x9Y"].map(String::from).to_vec();
     names.extend(exact::RUST_KEYWORDS.iter().step_by(4).map(|keyword| keyword.to_ascii_uppercase()));
     names.extend([1, 2, 3, 7, 8, 15, 16, 31, 32, 33, 62, 63, 64].map(|length| names::random(random, length)));
     names.push("Z".repeat(64));
+    names.extend(names::accents_at_bounds());
+    names.extend([2, 3, 16, 31, 63, 64].map(|length| names::accented(random, length)));
     names
 }
 

@@ -18,7 +18,7 @@ const GETTER: Request = Request::Getter { reader: true, function: false };
 
 pub fn sample() -> Sample {
     let mut sample = Sample::default();
-    for requests in [types(), accessors(), places(), fill_counts(), refused(), own_parent()] {
+    for requests in [types(), accessors(), accents(), places(), fill_counts(), refused(), own_parent()] {
         requests.end(&mut sample);
     }
     for bytes in bad() {
@@ -131,6 +131,21 @@ fn accessors() -> Requests {
     requests
 }
 
+/// Names with accents: a flag, an optional Text with a default, a struct, and a group.
+fn accents() -> Requests {
+    let slots = [
+        slot("möbelÄnderung", Type::Plain(1)).default(1, 1, true),
+        slot("étatÄ", Type::Plain(12)).default(12, 0, true).option(),
+        slot("straßeNr", Type::Struct(7, Vec::new())),
+    ];
+    let bed = node(7, 0, "bed", &[]).slots(slots).group(group("Übergabe", 9));
+    let mut requests = Requests::of(vec![bed, node(9, 7, "bed::plan", &[]).slots([slot("îlot", Type::Plain(7))])]);
+    for place in 0..4 {
+        Request::PARTS.into_iter().for_each(|request| requests.beside(7, place, request));
+    }
+    requests
+}
+
 /// A bed with a flag and a group.
 fn bed() -> Requests {
     let bed = node(7, 0, "bed", &[]).slots([slot("isFree", Type::Plain(1)).default(1, 1, true)]);
@@ -209,14 +224,16 @@ fn own_parent() -> Requests {
     requests
 }
 
-/// Bytes that are no sheet: none, a torn one, a byte too many, an id twice, a type with a 17th level.
+/// Bytes that are no sheet: none, a torn one, a byte too many, an id twice, a type with a 17th level, a torn letter.
 fn bad() -> Vec<Vec<u8>> {
     let whole = bed().sheet;
     let twice = Sheet::of(vec![node(7, 0, "bed", &[]), node(7, 0, "bed", &[])]);
     let deep = (0..16).fold(Type::Plain(1), |inner, _| Type::List(Box::new(inner)));
     let levels = Sheet::of(vec![node(7, 0, "bed", &[]).slots([slot("plan", deep)])]);
     let longer = [&whole[..], b" "].concat();
-    vec![Vec::new(), whole[..whole.len() - 1].to_vec(), longer, print(&twice), print(&levels)]
+    let mut torn_letter = print(&Sheet::of(vec![node(7, 0, "bed", &[]).group(group("é", 9))]));
+    torn_letter.remove(torn_letter.len() - 2);
+    vec![Vec::new(), whole[..whole.len() - 1].to_vec(), longer, print(&twice), print(&levels), torn_letter]
 }
 
 /// A sheet's refusal comes before those of its requests, and after 21.

@@ -1,4 +1,5 @@
-//! Sheets read as document 01 says ('The sheet', 'Refusals from the input'), with the readings of its open points.
+//! Sheets read as document 01 says ('The sheet', 'Refusals from the input'), with the readings of its open points, and as
+//! request N2 says of the names of fields.
 
 use super::{
     has_words, value_width, Binding, Field, Group, Node, Scope, Sheet, Slot, Type, Value, MAX_BYTES, MAX_LEVEL,
@@ -80,7 +81,7 @@ impl<'a> Reader<'a> {
 
     fn group(&mut self) -> Read<Group> {
         let line = self.line;
-        let ([id, discriminant], name) = self.text_line(b'G', is_name)?;
+        let ([id, discriminant], name) = self.text_line(b'G', is_field_name)?;
         let bits = Bits { line };
         let group = Group { id: bits.id(id)?, discriminant: bits.narrow(discriminant)?, name };
         if !self.group_ids.insert(id) {
@@ -91,7 +92,7 @@ impl<'a> Reader<'a> {
 
     fn slot(&mut self) -> Read<Slot> {
         let bits = Bits { line: self.line };
-        let ([offset, discriminant, explicit, option], name) = self.text_line(b'F', is_name)?;
+        let ([offset, discriminant, explicit, option], name) = self.text_line(b'F', is_field_name)?;
         let offset = bits.narrow(offset)?;
         let discriminant = bits.narrow(discriminant)?;
         let explicit = bits.flag(explicit)?;
@@ -197,11 +198,12 @@ impl<'a> Reader<'a> {
     }
 
     /// A line of numbers, a space and a text.
-    fn text_line<const N: usize>(&mut self, letter: u8, is_text: fn(&[u8]) -> bool) -> Read<([u64; N], String)> {
+    fn text_line<const N: usize>(&mut self, letter: u8, is_text: fn(&str) -> bool) -> Read<([u64; N], String)> {
         let (numbers, rest) = self.numbers(letter)?;
-        let text = rest.strip_prefix(b" ").filter(|text| is_text(text)).ok_or(self.bad(2))?;
+        let text = rest.strip_prefix(b" ").and_then(|text| str::from_utf8(text).ok()).filter(|text| is_text(text));
+        let text = text.ok_or(self.bad(2))?;
         self.step();
-        Ok((numbers, text.iter().map(|&byte| byte as char).collect()))
+        Ok((numbers, text.to_string()))
     }
 
     /// The numbers of the line that is next, and the rest of that line.
@@ -270,16 +272,27 @@ fn column_number(column: &[u8]) -> Option<u64> {
     digits.iter().try_fold(0, digit)
 }
 
-fn is_name(text: &[u8]) -> bool {
+/// The name of a parameter.
+fn is_name(text: &str) -> bool {
+    is_field_name(text) && text.is_ascii()
+}
+
+/// The name of a field: 1 to 64 bytes, and no digit first.
+fn is_field_name(text: &str) -> bool {
     (1..=64).contains(&text.len())
-        && text.iter().all(|&byte| byte.is_ascii_alphanumeric() || byte == b'_')
-        && !text[0].is_ascii_digit()
+        && text.chars().all(|c| c.is_ascii_alphanumeric() || c == '_' || is_accented(c))
+        && !text.starts_with(|c: char| c.is_ascii_digit())
 }
 
-fn is_root(text: &[u8]) -> bool {
-    (1..=64).contains(&text.len()) && text.iter().all(u8::is_ascii_graphic)
+/// The letters of request N2: U+00C0 to U+00FF without the signs U+00D7 and U+00F7.
+pub fn is_accented(c: char) -> bool {
+    matches!(c, '\u{c0}'..='\u{d6}' | '\u{d8}'..='\u{f6}' | '\u{f8}'..='\u{ff}')
 }
 
-fn is_module(text: &[u8]) -> bool {
-    (1..=128).contains(&text.len()) && text.iter().all(u8::is_ascii_graphic)
+fn is_root(text: &str) -> bool {
+    (1..=64).contains(&text.len()) && text.bytes().all(|byte| byte.is_ascii_graphic())
+}
+
+fn is_module(text: &str) -> bool {
+    (1..=128).contains(&text.len()) && text.bytes().all(|byte| byte.is_ascii_graphic())
 }

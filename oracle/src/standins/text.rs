@@ -1,4 +1,4 @@
-//! `capnp::text::Reader`: a name of the sheet, which is ASCII.
+//! `capnp::text::Reader`: a name of the sheet, which is UTF-8.
 
 use super::Result;
 

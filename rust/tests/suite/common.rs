@@ -102,7 +102,7 @@ pub fn ask(
         assert!(fill < after && after <= length, "fill count {fill} became {after} of {length}");
         assert_eq!(buf[..fill], before[..fill], "a byte before the text changed");
         assert_eq!(buf[after..], before[after..], "a byte behind the text changed");
-        String::from_utf8(buf[fill..after].to_vec()).expect("texts are ASCII")
+        String::from_utf8(buf[fill..after].to_vec()).expect("texts are UTF-8")
     });
     if let Err(refusal) = text {
         assert_eq!(buf, before, "{refusal} changed the buffer");

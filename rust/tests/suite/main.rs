@@ -1,5 +1,6 @@
 //! The tests of the crate.
 
+mod accents;
 mod common;
 mod examples;
 mod fill;

@@ -6,7 +6,7 @@ use std::fs;
 
 /// The example sheets that are admitted.
 fn sheets() -> Vec<Vec<u8>> {
-    let names = ["is_free", "ward", "bed_status", "groups", "nodes", "large", "deep"];
+    let names = ["is_free", "ward", "accents", "bed_status", "groups", "nodes", "large", "deep"];
     let read = |name: &str| fs::read(file(&format!("examples/{name}.sheet"))).expect("an example sheet");
     names.map(read).to_vec()
 }

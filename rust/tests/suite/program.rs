@@ -10,7 +10,7 @@ mod all_texts;
 fn written(bytes: &[u8]) -> String {
     let mut out = Vec::new();
     all_texts::all_texts(bytes, &mut out).expect("memory can be written");
-    String::from_utf8(out).expect("texts are ASCII")
+    String::from_utf8(out).expect("texts are UTF-8")
 }
 
 #[test]

@@ -33,9 +33,35 @@ pub fn text(sheet: &[u8], (id, place): (u64, u64), request: u64, leaf: u64) -> R
         )
     };
     match number {
-        0 => Ok(String::from_utf8(buf[..fill].to_vec()).expect("texts are ASCII")),
+        0 => Ok(String::from_utf8(buf[..fill].to_vec()).expect("texts are UTF-8")),
         number => Err(number),
     }
+}
+
+type NameHelper = unsafe extern "C" fn(usize, *mut u8, usize, *const u8, usize) -> usize;
+
+/// What a name helper writes, with a byte in front of it; nothing, and no byte changed, where it does not take the name.
+fn helped(helper: NameHelper, name: &[u8]) -> Option<String> {
+    let mut lent = Lent::new(200);
+    let fill = unsafe { helper(1, lent.start(), lent.length, name.as_ptr(), name.len()) };
+    if fill == usize::MAX {
+        lent.check(lent.length);
+        return None;
+    }
+    lent.check(1);
+    Some(String::from_utf8(lent.bytes[ROOM + 1..ROOM + fill].to_vec()).expect("names are UTF-8"))
+}
+
+pub fn snake(name: &[u8]) -> Option<String> {
+    helped(declarations::kitlubas_snake, name)
+}
+
+pub fn default_name(name: &[u8]) -> Option<String> {
+    helped(declarations::kitlubas_default_name, name)
+}
+
+pub fn module_name(name: &[u8]) -> Option<String> {
+    helped(declarations::kitlubas_module_name, name)
 }
 
 /// The index of a sheet, with so many numbers, and what was answered; nothing behind the numbers is written.

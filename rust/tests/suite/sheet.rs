@@ -144,7 +144,7 @@ fn texts_behind_each_other() {
         .map(|(place, request)| admitted.text(NodeId(7), Place(*place), *request).expect("there is a text"))
         .collect();
     assert!(whole.len() > 65_536 / 5);
-    assert_eq!(String::from_utf8(out).expect("texts are ASCII"), format!("start{whole}"));
+    assert_eq!(String::from_utf8(out).expect("texts are UTF-8"), format!("start{whole}"));
 }
 
 /// A text is as long as the room that is tried first, a byte shorter or longer.

@@ -13,7 +13,7 @@ returns-2 : tie.Need-returns-2
 returns-2 c =
     let d = c .before .before in
     let e = d .before .before .before in
-    let w = rw (d .before .before .at .ensures) at (d .snake-chars .ensures) in
+    let w = rw (d .before .before .at .ensures) at (d .snake-bytes .ensures) in
     let h = held-taken _ _ _ (sym (e .before .takes .ensures) ∙ not-false _ (e .if1 .left)) w in
     rw (c .fill .ensures) (snaked _ _ h)
 

@@ -17,7 +17,7 @@ field c =
     (past _ (discriminant .before .before .column2 .ensures) (discriminant .discriminant .given .1)
     (past _ (explicit .before .before .column3 .ensures) (explicit .explicit .given .1)
     (past _ (option .before .before .column4 .ensures) (option .option .given .1)
-    (rw (is-text (c .before .ends-in-name .ensures) (c .if1 .left))))))
+    (rw (is-text (c .before .ends-in-field-name .ensures) (c .if1 .left))))))
 
 pub field-line-spec : {M : Type 1} → statement M
 unfolding lineSaid fieldLine
@@ -41,5 +41,5 @@ field-line-spec =
     (λ c. search needs)
     (λ c. simp (← c .before .before .column4 .ensures, c .enum-told4 .given .1, given-bad))
     (λ c κs. search needs)
-    (λ c. simp (no-text (c .before .ends-in-name .ensures) (c .if1 .taken), given-bad))
+    (λ c. simp (no-text (c .before .ends-in-field-name .ensures) (c .if1 .taken), given-bad))
     field)

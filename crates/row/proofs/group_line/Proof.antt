@@ -13,7 +13,7 @@ group c =
     let id = discriminant .before .before .before .before in
     past _ (id .before .before .column .ensures) (id .id .given .1)
     (past _ (discriminant .before .before .column2 .ensures) (discriminant .discriminant .given .1)
-    (rw (is-text (c .before .ends-in-name .ensures) (c .if1 .left))))
+    (rw (is-text (c .before .ends-in-field-name .ensures) (c .if1 .left))))
 
 pub group-line-spec : {M : Type 1} → statement M
 unfolding lineSaid groupLine
@@ -29,5 +29,5 @@ group-line-spec =
     (λ c. search needs)
     (λ c. simp (← c .before .before .column2 .ensures, c .enum-told2 .given .1, given-bad))
     (λ c κs. search needs)
-    (λ c. simp (no-text (c .before .ends-in-name .ensures) (c .if1 .taken), given-bad))
+    (λ c. simp (no-text (c .before .ends-in-field-name .ensures) (c .if1 .taken), given-bad))
     group)

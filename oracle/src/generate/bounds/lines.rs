@@ -36,33 +36,32 @@ pub fn whole() -> Lines {
 fn names(bounds: &mut Bounds) {
     let good = ["a", "Z", "_", "x9", "__", "aZ09_"].map(String::from).to_vec();
     let bad = ["", "9", "0a", "a b", "a-b", " a", "a ", "a/", "a:", "a@", "a[", "a^", "a`", "a{", "\u{7f}"];
-    for (letter, sheet) in [('P', named_p as fn(&str) -> Lines), ('F', named_f), ('G', named_g)] {
+    for (letter, sheet) in [('P', named_p as fn(&[u8]) -> Lines), ('F', named_f), ('G', named_g)] {
         for name in good.iter().cloned().chain([1, 63, 64].map(|length| "n".repeat(length))) {
-            bounds.passes(format!("{letter} name {name}"), &sheet(&name));
+            bounds.passes(format!("{letter} name {name}"), &sheet(name.as_bytes()));
         }
         for name in bad {
-            bounds.refused(format!("{letter} name `{name}`"), &sheet(name), 2, 3);
+            bounds.refused(format!("{letter} name `{name}`"), &sheet(name.as_bytes()), 2, 3);
         }
         for length in [65, 66, 128, 1000] {
-            bounds.refused(format!("{letter} name of {length}"), &sheet(&"n".repeat(length)), 2, 3);
+            bounds.refused(format!("{letter} name of {length}"), &sheet(&b"n".repeat(length)), 2, 3);
         }
         for byte in [0, 9, 13, 128, 195, 255] {
-            let mut lines = sheet("ab");
-            *lines.0[2].last_mut().expect("the line is not empty") = byte;
-            bounds.refused(format!("{letter} name with byte {byte}"), &lines, 2, 3);
+            bounds.refused(format!("{letter} name with byte {byte}"), &sheet(&[b'a', byte]), 2, 3);
         }
     }
 }
 
-fn named_p(name: &str) -> Lines {
+/// Sheets with this name on line 3.
+pub fn named_p(name: &[u8]) -> Lines {
     Lines::start().text('P', &[], name)
 }
 
-fn named_f(name: &str) -> Lines {
+pub fn named_f(name: &[u8]) -> Lines {
     Lines::start().text('F', &[3, 65535, 0, 0], name).typ([0, 0, 0, 0]).void_value()
 }
 
-fn named_g(name: &str) -> Lines {
+pub fn named_g(name: &[u8]) -> Lines {
     Lines::start().text('G', &[9, 65535], name)
 }
 
