@@ -57,10 +57,18 @@ fn with_parameters(id: u64, parent: u64, count: usize) -> Node {
     node
 }
 
-pub fn parameters_unbound(count: usize) -> Vec<Node> {
-    let types = vec![Type::Struct(1, Vec::new()); count];
-    let bound = slot("ward", Type::Struct(2, vec![binds(2, types)]));
+/// A brand bound by so many types of a node that has twice as many parameters: its texts have megabytes.
+fn parameters_under(typ: Type, count: usize) -> Vec<Node> {
+    let bound = slot("ward", Type::Struct(2, vec![binds(2, vec![typ; count])]));
     vec![with_parameters(1, 0, count * 2), with_parameters(2, 0, count).slots([bound])]
+}
+
+pub fn parameters_unbound(count: usize) -> Vec<Node> {
+    parameters_under(Type::Struct(1, Vec::new()), count)
+}
+
+pub fn parameters_inherited(count: usize) -> Vec<Node> {
+    parameters_under(Type::Struct(1, vec![inherits(1)]), count)
 }
 
 /// A brand whose own node has a binding too many, and whose parent is bound by so many types: the Rust meets the refusal

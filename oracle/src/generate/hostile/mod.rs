@@ -17,7 +17,7 @@ type Shape = fn(usize) -> Vec<Node>;
 type Lines = fn(usize) -> Vec<u8>;
 
 /// Shapes that grow with their sheet.
-const GROWING: [(&str, Shape); 29] = [
+const GROWING: [(&str, Shape); 30] = [
     ("nest", brands::nest),
     ("nest of scopes", brands::nest_of_scopes),
     ("nest of scopes that bind", brands::nest_of_binds),
@@ -27,6 +27,7 @@ const GROWING: [(&str, Shape); 29] = [
     ("far behind long names with long texts", brands::far_behind_long_names_long),
     ("thousands of parameters", brands::parameters),
     ("thousands of parameters under hundreds of unbound types", brands::parameters_unbound),
+    ("thousands of parameters under hundreds of inheriting types", brands::parameters_inherited),
     ("refused before hundreds of unbound types", brands::refused_before_unbound),
     ("refused before hundreds of inheriting types", brands::refused_before_inherited),
     ("one scope doubled hundreds of times", brands::doubled_scopes),
