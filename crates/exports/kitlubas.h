@@ -14,7 +14,7 @@
  * A function of sheets answers 0, or the number of a refusal:
  *
  *    1  the sheet has more than 65,536 bytes
- *    2  a line is not written as a sheet's line, or it stands where it may not stand
+ *    2  a line has a letter that may not stand there, or no byte 10 at its end, or the sheet ends too soon
  *    3  a line gives an id that an earlier line of the same letter has
  *    4  a type, a chain of parents or the groups inside each other have a 17th level
  *    5  a node that the field refers to is not in the sheet
@@ -28,6 +28,8 @@
  *   13  a type parameter's index is past the parameters of its node
  *   14  the node of a group is not a struct
  *   15  there is no such node, field, leaf or request, or such a request is not for such a field
+ *   16  a number of a line is not written as a sheet's number, or is none that may stand there
+ *   17  a text of a line is none that may stand there, or the line has more bytes than belong to it
  *   21  the fill count is above the buffer's length
  *   22  the text is longer than the free part of the buffer
  */
@@ -71,16 +73,21 @@ enum {
     KITLUBAS_GET_TYPE = 9
 };
 
-/* Whether s is a sheet: 0 or a refusal. *line becomes the refusal's line, from 1, or 0 where it has none. */
-uint64_t kitlubas_admit(const uint8_t *s, size_t s_len, size_t *line);
+/*
+ * Whether s is a sheet: 0 or a refusal. *line becomes the line of a refusal that was met reading the sheet (2, 3, 4 of a type,
+ * 16, 17), from 1, and *column the column in that line, in bytes from 1: for 16 the first of the number's 21, for 17 where the
+ * text begins, or the column of the space before it that is missing, or the first surplus byte's, for 3 the id's, which is 2,
+ * for 2 and 4 it is 1. The column may lie past the end of its line. Else both become 0.
+ */
+uint64_t kitlubas_admit(const uint8_t *s, size_t s_len, size_t *line, size_t *column);
 
 /*
  * Admits s and answers a request for the field at a place, from 0, among those of the node with an id. 0: the text stands
  * in buf from *fill on, *fill has moved past it, and no other byte has changed. A refusal leaves buf and *fill as they were.
- * *line becomes the refusal's line, or 0.
+ * *line and *column become what they do in kitlubas_admit.
  */
 uint64_t kitlubas_answer(const uint8_t *s, size_t s_len, uint64_t id, uint64_t place, uint64_t request, uint64_t leaf,
-                         size_t *fill, size_t *line, uint8_t *buf, size_t buf_len);
+                         size_t *fill, size_t *line, size_t *column, uint8_t *buf, size_t buf_len);
 
 /* How many numbers the index of a sheet of so many bytes needs, which is never more than 1,793. */
 size_t kitlubas_index_size(size_t size);
@@ -89,7 +96,8 @@ size_t kitlubas_index_size(size_t size);
  * Answers as kitlubas_admit does. After 0, an index of at least kitlubas_index_size(s_len) numbers is that of the sheet's
  * nodes, for the functions below; a shorter one is not to be used. After a refusal the numbers may be any.
  */
-uint64_t kitlubas_index(const uint8_t *s, size_t s_len, uint64_t *index, size_t index_len, size_t *line);
+uint64_t kitlubas_index(const uint8_t *s, size_t s_len, uint64_t *index, size_t index_len, size_t *line,
+                        size_t *column);
 
 /*
  * Answers and leaves what kitlubas_answer does, over the index that kitlubas_index filled for these bytes, without
@@ -97,8 +105,8 @@ uint64_t kitlubas_index(const uint8_t *s, size_t s_len, uint64_t *index, size_t 
  * nor passed the end of buf; after a number other than 0 nothing has changed.
  */
 uint64_t kitlubas_answer_in(const uint8_t *s, size_t s_len, const uint64_t *index, size_t index_len, uint64_t id,
-                            uint64_t place, uint64_t request, uint64_t leaf, size_t *fill, size_t *line, uint8_t *buf,
-                            size_t buf_len);
+                            uint64_t place, uint64_t request, uint64_t leaf, size_t *fill, size_t *line, size_t *column,
+                            uint8_t *buf, size_t buf_len);
 
 /*
  * The node with a number, from 0: *id becomes its id, *at the place of its module in the sheet, *size the length of that,

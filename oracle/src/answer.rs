@@ -50,10 +50,10 @@ pub fn answer(
     buffer: &mut [u8],
 ) -> Result<usize, Refusal> {
     if fill > buffer.len() {
-        return Err(Refusal { number: 21, line: 0 });
+        return Err(Refusal::nowhere(21));
     }
     let sheet = read(bytes)?;
-    let text = text(&sheet, &context(&sheet), node, place, request).map_err(|number| Refusal { number, line: 0 })?;
+    let text = text(&sheet, &context(&sheet), node, place, request).map_err(Refusal::nowhere)?;
     put(&text, fill, buffer)
 }
 
@@ -61,7 +61,7 @@ pub fn answer(
 pub fn put(text: &str, fill: usize, buffer: &mut [u8]) -> Result<usize, Refusal> {
     let free = &mut buffer[fill..];
     if text.len() > free.len() {
-        return Err(Refusal { number: 22, line: 0 });
+        return Err(Refusal::nowhere(22));
     }
     free[..text.len()].copy_from_slice(text.as_bytes());
     Ok(fill + text.len())

@@ -78,10 +78,10 @@ pub mod admit {
     use crate::sheet::read::Refusal;
 
     pub fn admit(sheet: &[u8]) -> Result<(), Refusal> {
-        let mut line = usize::MAX;
-        match unsafe { kitlubas_admit(sheet.as_ptr(), sheet.len(), &mut line) } {
+        let (mut line, mut column) = (usize::MAX, usize::MAX);
+        match unsafe { kitlubas_admit(sheet.as_ptr(), sheet.len(), &mut line, &mut column) } {
             0 => Ok(()),
-            number => Err(Refusal { number, line: line as u64 }),
+            number => Err(Refusal { number, line: line as u64, column: column as u64 }),
         }
     }
 }
@@ -123,16 +123,25 @@ pub mod answer {
         fill: &mut usize,
         buf: &mut [u8],
     ) -> Result<(), Refusal> {
-        let leaf = leaf(request);
-        let (sheet_at, sheet_len) = (sheet.as_ptr(), sheet.len());
-        let (buf_at, len) = (buf.as_mut_ptr(), buf.len());
-        let request = number(request);
-        let mut line = usize::MAX;
-        let number =
-            unsafe { kitlubas_answer(sheet_at, sheet_len, node, place, request, leaf, fill, &mut line, buf_at, len) };
+        let (mut line, mut column) = (usize::MAX, usize::MAX);
+        let number = unsafe {
+            kitlubas_answer(
+                sheet.as_ptr(),
+                sheet.len(),
+                node,
+                place,
+                number(request),
+                leaf(request),
+                fill,
+                &mut line,
+                &mut column,
+                buf.as_mut_ptr(),
+                buf.len(),
+            )
+        };
         match number {
             0 => Ok(()),
-            number => Err(Refusal { number, line: line as u64 }),
+            number => Err(Refusal { number, line: line as u64, column: column as u64 }),
         }
     }
 }

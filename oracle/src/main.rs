@@ -60,7 +60,9 @@ fn bounds() -> ExitCode {
     for bound in generate::bounds::all() {
         match bound.expected {
             None => println!("{}: admitted", bound.name),
-            Some(Refusal { number, line }) => println!("{}: {number} at line {line}", bound.name),
+            Some(Refusal { number, line, column }) => {
+                println!("{}: {number} at line {line} column {column}", bound.name)
+            }
         }
     }
     ExitCode::SUCCESS

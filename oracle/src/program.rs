@@ -12,7 +12,9 @@ pub const BUFFER: usize = 65_536;
 pub fn accessors(bytes: &[u8]) -> Vec<u8> {
     let sheet = match read(bytes) {
         Ok(sheet) => sheet,
-        Err(Refusal { number, line }) => return format!("refused {number} line {line}\n").into_bytes(),
+        Err(Refusal { number, line, column }) => {
+            return format!("refused {number} line {line} column {column}\n").into_bytes();
+        }
     };
     let ctx = context(&sheet);
     let mut buffer = vec![0; BUFFER];

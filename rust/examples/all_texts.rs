@@ -35,7 +35,10 @@ fn main() -> io::Result<()> {
 pub fn all_texts(bytes: &[u8], out: &mut impl Write) -> io::Result<()> {
     let sheet = match Sheet::admit(bytes) {
         Ok(sheet) => sheet,
-        Err(refusal) => return writeln!(out, "refused {} line {}", refusal.number, refusal.line.unwrap_or(0)),
+        Err(refusal) => {
+            let (line, column) = (refusal.line.unwrap_or(0), refusal.column.unwrap_or(0));
+            return writeln!(out, "refused {} line {line} column {column}", refusal.number);
+        }
     };
     let mut piece = Vec::with_capacity(2 * PIECE_SIZE);
     for field in sheet.nodes().flat_map(|node| node.fields()) {

@@ -61,10 +61,10 @@ pub struct NoText {
 
 /// Whether the bytes are a sheet.
 pub fn admit(sheet: &[u8]) -> Result<(), Refusal> {
-    let mut line = 0;
-    // Sound: the address and the length are the slice's, and `line` is a local variable.
-    let number = unsafe { declarations::kitlubas_admit(sheet.as_ptr(), sheet.len(), &mut line) };
-    Refusal::told(number, line)
+    let (mut line, mut column) = (0, 0);
+    // Sound: the address and the length are the slice's, and `line` and `column` are local variables.
+    let number = unsafe { declarations::kitlubas_admit(sheet.as_ptr(), sheet.len(), &mut line, &mut column) };
+    Refusal::told(sheet, number, line, column)
 }
 
 /// How many numbers the index of a sheet of so many bytes needs.
@@ -75,12 +75,14 @@ pub fn index_size(sheet_len: usize) -> usize {
 
 /// Whether the bytes are a sheet; if so, and if the index is long enough, it becomes that of the sheet's nodes.
 pub fn index(sheet: &[u8], index: &mut [u64]) -> Result<(), Refusal> {
+    let (sheet_at, sheet_len) = (sheet.as_ptr(), sheet.len());
     let (index_at, index_len) = (index.as_mut_ptr(), index.len());
-    let mut line = 0;
-    // Sound: addresses and lengths are those of the slices, `index` is borrowed exclusively, and `line` is a local
-    // variable.
-    let number = unsafe { declarations::kitlubas_index(sheet.as_ptr(), sheet.len(), index_at, index_len, &mut line) };
-    Refusal::told(number, line)
+    let (mut line, mut column) = (0, 0);
+    // Sound: addresses and lengths are those of the slices, `index` is borrowed exclusively, and `line` and `column` are
+    // local variables.
+    let number =
+        unsafe { declarations::kitlubas_index(sheet_at, sheet_len, index_at, index_len, &mut line, &mut column) };
+    Refusal::told(sheet, number, line, column)
 }
 
 /// The fill count after the text of a request, over any bytes.
@@ -93,9 +95,9 @@ pub fn answer(
     fill: usize,
 ) -> Result<usize, Refusal> {
     let (buf_at, buf_len) = (buf.as_mut_ptr(), buf.len());
-    let (mut after, mut line) = (fill, 0);
-    // Sound: addresses and lengths are those of the slices, `buf` is borrowed exclusively, and `after` and `line` are
-    // local variables.
+    let (mut after, mut line, mut column) = (fill, 0, 0);
+    // Sound: addresses and lengths are those of the slices, `buf` is borrowed exclusively, and `after`, `line` and `column`
+    // are local variables.
     let number = unsafe {
         declarations::kitlubas_answer(
             sheet.as_ptr(),
@@ -106,11 +108,12 @@ pub fn answer(
             request.leaf(),
             &mut after,
             &mut line,
+            &mut column,
             buf_at,
             buf_len,
         )
     };
-    Refusal::told(number, line).map(|()| after)
+    Refusal::told(sheet, number, line, column).map(|()| after)
 }
 
 /// The fill count after the text of a request, over the index of the sheet's nodes.
@@ -123,9 +126,9 @@ pub fn answer_in(
     fill: usize,
 ) -> Result<usize, Refusal> {
     let (buf_at, buf_len) = (buf.as_mut_ptr(), buf.len());
-    let (mut after, mut line) = (fill, 0);
-    // Sound: addresses and lengths are those of the slices, `buf` is borrowed exclusively, and `after` and `line` are
-    // local variables.
+    let (mut after, mut line, mut column) = (fill, 0, 0);
+    // Sound: addresses and lengths are those of the slices, `buf` is borrowed exclusively, and `after`, `line` and `column`
+    // are local variables.
     let number = unsafe {
         declarations::kitlubas_answer_in(
             sheet.as_ptr(),
@@ -138,11 +141,12 @@ pub fn answer_in(
             request.leaf(),
             &mut after,
             &mut line,
+            &mut column,
             buf_at,
             buf_len,
         )
     };
-    Refusal::told(number, line).map(|()| after)
+    Refusal::told(sheet, number, line, column).map(|()| after)
 }
 
 /// The length of the text of a request for a field of the node with a number; the text then begins `buf`. Where there is
@@ -174,7 +178,7 @@ pub fn text(
             buf_len,
         )
     };
-    Refusal::told(number, 0).map(|()| length).map_err(|refusal| NoText { refusal, length })
+    Refusal::told(sheet, number, 0, 0).map(|()| length).map_err(|refusal| NoText { refusal, length })
 }
 
 /// The node with a number, from 0.

@@ -4,8 +4,8 @@
 //! from a sheet come its [`Node`]s, from a node its [`Field`]s, and from a field the text of each [`Request`].
 //! [`Sheet::answer`] writes a text into a buffer of the caller's instead, and [`answer`] does so in one call, from bytes.
 //! All of them take anything: whole, torn or empty sheets, any node, any place, any buffer and any fill count. What can't
-//! be answered is a [`Refusal`] with a number and a sentence, and a refusal changes no byte of the buffer. Nothing panics
-//! and nothing has to be checked first.
+//! be answered is a [`Refusal`] with a number and a sentence, and a refusal changes no byte of the buffer. That of a bad line
+//! has the line and the column, and says what is expected there. Nothing panics and nothing has to be checked first.
 //!
 //! The work is done by a static library in which every function is proved to meet its contract; this crate only calls
 //! it. The text is capnpc's, byte for byte. Calls have no state, may run on any number of threads, and get along with a
@@ -140,6 +140,7 @@
 
 mod address;
 mod boundary;
+mod expected;
 mod field;
 mod kind;
 mod padded;

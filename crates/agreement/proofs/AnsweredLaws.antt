@@ -38,7 +38,7 @@ unfolding text.answerOf text.bufferOf
 done-text l fill w l′ upto e b = by-tests (ltb (length l) fill) (ltb (length l) (fill + length w)) refl e b
   where
     by-tests : (past short : Bool) → ltb (length l) fill ≡ past
-        → text.done upto ≡ cond past (text.refused 21 0) (cond short (text.refused 22 0) (text.done (fill + length w)))
+        → text.done upto ≡ cond past (text.refused 21 0 0) (cond short (text.refused 22 0 0) (text.done (fill + length w)))
         → l′ ≡ cond past l (cond short l (text.placed l fill w))
         → w ≡ bytesBetween fill upto l′
     by-tests true short h e b = let z : _≡_ {A = ℕ} 0 1 = cc in let y : ⊥ = omega arith in absurd y
@@ -51,10 +51,10 @@ done-text l fill w l′ upto e b = by-tests (ltb (length l) fill) (ltb (length l
 done-gives : (l : Str) (t : Text) (o : Outcome) (l′ : Str) (t′ : Text) → Answered l t o l′ (Done t′)
     → o ≡ gives (bytesBetween (t .at) (t′ .at) l′)
 done-gives l t (gives w) l′ t′ a = ap gives (done-text l (t .at) w l′ (t′ .at) (a .answer) (a .buffer))
-done-gives l t (refuses k line) l′ t′ a = by-test (ltb (length l) (t .at)) (a .answer)
+done-gives l t (refuses k line column) l′ t′ a = by-test (ltb (length l) (t .at)) (a .answer)
   where
-    by-test : (b : Bool) → text.done (t′ .at) ≡ cond b (text.refused 21 0) (text.refused k line)
-        → refuses k line ≡ gives (bytesBetween (t .at) (t′ .at) l′)
+    by-test : (b : Bool) → text.done (t′ .at) ≡ cond b (text.refused 21 0 0) (text.refused k line column)
+        → refuses k line column ≡ gives (bytesBetween (t .at) (t′ .at) l′)
     by-test true e = cc
     by-test false e = cc
 

@@ -406,7 +406,7 @@ abbrev oddSetter : Str
 oddSetter = setterWith "odd(&mut self, value: bool" "    self.builder.set_bool_field_mask(5, value, 3);\n"
 
 pub odd-worked :
-    (outcomeOf (admitted bytes) 7 (ofField 7 (Getter true false)) ≡ refuses 10 0) × Ran bytes 7 7 Setter oddSetter
+    (outcomeOf (admitted bytes) 7 (ofField 7 (Getter true false)) ≡ refuses 10 0 0) × Ran bytes 7 7 Setter oddSetter
     × (runSetter oddSetter 1 some16 ≡ none)
 unfolding fieldAt byId nth accessorText areChars taken snakeFrom camelToSnakeCase typeString getterText getterRequest
     setBoolField primDefault generateSetter setterRequest toLines flatMap join stringify decimal signed typeName truth

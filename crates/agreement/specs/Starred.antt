@@ -87,7 +87,7 @@ bytes = printed tree
 -- a text, or which refusal stands in its place
 abbrev text : Outcome → Str
 text (gives s) = s
-text (refuses k line) = ascii "refused " ++ decimal k
+text (refuses k line column) = ascii "refused " ++ decimal k
 
 -- the text of an accessor of the bed's field at a place
 abbrev asked : ℕ → Accessor → Str

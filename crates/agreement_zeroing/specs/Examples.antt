@@ -203,11 +203,11 @@ runs = refl
 -- what a getter's and a haser's text answer on a record
 abbrev reads : Record → Outcome → Option ℕ
 reads r (gives t) = runGetter t r
-reads r (refuses k line) = none
+reads r (refuses k line column) = none
 
 abbrev says : Record → Outcome → Option Bool
 says r (gives t) = runHaser t r
-says r (refuses k line) = none
+says r (refuses k line column) = none
 
 abbrev get : Record → ℕ → ℕ → Bool → Bool → Option ℕ
 get r id place isReader isFn = reads r (outcomeOf (sheet ward) id (ofField place (Getter isReader isFn)))

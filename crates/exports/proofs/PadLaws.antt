@@ -26,7 +26,7 @@ module _ (s l : Str) (fill : ℕ) (t : Text) (at : t ≡ stateAt fill) (f : ℕ)
   }
 
   pub pad-past : length l < f → PadTold s l fill l fill 21
-  pad-past h = told l (refused 21 0) (refused-21 l fill (paddedText s) (rw f-is at h))
+  pad-past h = told l (refused 21 0 0) (refused-21 l fill (paddedText s) (rw f-is at h))
 
   -- measured, the sheet ends at n
   module _
@@ -36,7 +36,7 @@ module _ (s l : Str) (fill : ℕ) (t : Text) (at : t ≡ stateAt fill) (f : ℕ)
     where
       pub pad-long : length l < n → PadTold s l fill l fill 22
       pad-long h =
-          told l (refused 22 0)
+          told l (refused 22 0 0)
           (refused-22 l fill (paddedText s) l₀ l₁ t₁ (rw f-is at within) (omega arith) (rw at at measured) (rw end at h))
 
       pub pad-done :

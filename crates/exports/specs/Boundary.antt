@@ -58,31 +58,41 @@ isWidth w = either (eqb w 8) (either (eqb w 16) (either (eqb w 32) (eqb w 64)))
 abbrev pub Signed : Str → ℕ → ℕ → ℕ → Str → ℕ → Type 0
 Signed l at w n = FillsIf (isWidth w) l at (signed (2 ^ (w - 1)) (n % 2 ^ w))
 
--- document 01's number and line for what is admitted of a sheet: 0 where it has a tree
+-- document 01's number, line and column for what is admitted of a sheet: 0 where it has a tree
 abbrev pub numberTold : Admitted → ℕ
 numberTold (sheet sh) = 0
-numberTold (refused k l) = k
+numberTold (refused k l c) = k
 
 abbrev pub lineTold : Admitted → ℕ
 lineTold (sheet sh) = 0
-lineTold (refused k l) = l
+lineTold (refused k l c) = l
 
-pub record Told (a : Admitted) (number line : ℕ) : Type 0 where
+abbrev pub columnTold : Admitted → ℕ
+columnTold (sheet sh) = 0
+columnTold (refused k l c) = c
+
+pub record Told (a : Admitted) (number line column : ℕ) : Type 0 where
   pub number-is : number ≡ numberTold a
   pub line-is : line ≡ lineTold a
+  pub column-is : column ≡ columnTold a
 
--- an answer by its number, its line and the fill count that it leaves: 0 where there is a text, and a refusal leaves the count
+-- an answer by its number, its line, its column and the fill count that it leaves: 0 where there is a text, and a refusal leaves
+-- the count
 abbrev pub numberIn : text.Answer → ℕ
 numberIn (text.done n) = 0
-numberIn (text.refused k line) = k
+numberIn (text.refused k line column) = k
 
 abbrev pub lineIn : text.Answer → ℕ
 lineIn (text.done n) = 0
-lineIn (text.refused k line) = line
+lineIn (text.refused k line column) = line
+
+abbrev pub columnIn : text.Answer → ℕ
+columnIn (text.done n) = 0
+columnIn (text.refused k line column) = column
 
 abbrev pub fillIn : ℕ → text.Answer → ℕ
 fillIn fill (text.done n) = n
-fillIn fill (text.refused k line) = fill
+fillIn fill (text.refused k line column) = fill
 
 -- what a request answers and leaves of the buffer, over a buffer and a fill count
 pub record Reply : Type 0 where
@@ -115,10 +125,11 @@ requested place none = Unknown
 abbrev pub requestOf : ℕ → ℕ → ℕ → Request
 requestOf number place leaf = requested place (accessorNumbered number leaf)
 
--- over the buffer l and a fill count, a reply leaves l′ and fill′, and is told by a number and a line
-pub record Asked (l : Str) (fill : ℕ) (reply : Str → ℕ → Reply) (l′ : Str) (fill′ number line : ℕ) : Type 0 where
+-- over the buffer l and a fill count, a reply leaves l′ and fill′, and is told by a number, a line and a column
+pub record Asked (l : Str) (fill : ℕ) (reply : Str → ℕ → Reply) (l′ : Str) (fill′ number line column : ℕ) : Type 0 where
   pub number-is : number ≡ numberIn (reply l fill .answer)
   pub line-is : line ≡ lineIn (reply l fill .answer)
+  pub column-is : column ≡ columnIn (reply l fill .answer)
   pub fill-is : fill′ ≡ fillIn fill (reply l fill .answer)
   pub buffer-is : l′ ≡ reply l fill .buffer
 
@@ -141,9 +152,9 @@ pub record AskedWithin (l : Str) (fill : ℕ) (l′ : Str) (fill′ number : ℕ
 abbrev pub SameAnswersHold : Type 0
 SameAnswersHold =
     (s index : List ℕ) (sh : Sheet) → admitted s ≡ sheet sh → IndexOf s (admitted s) index
-    → (id : ℕ) (request : Request) (l : Str) (fill : ℕ) (l′ : Str) (fill′ number line : ℕ)
-    → OverIndex s index (λ a. Asked l fill (ask a id request) l′ fill′ number line)
-    → Asked l fill (ask (admitted s) id request) l′ fill′ number line
+    → (id : ℕ) (request : Request) (l : Str) (fill : ℕ) (l′ : Str) (fill′ number line column : ℕ)
+    → OverIndex s index (λ a. Asked l fill (ask a id request) l′ fill′ number line column)
+    → Asked l fill (ask (admitted s) id request) l′ fill′ number line column
 
 -- the length of a text, 0 where there is none
 abbrev pub lengthTold : Option ℕ → ℕ

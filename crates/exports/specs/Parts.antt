@@ -4,7 +4,7 @@ use mathlib.Core.Option.{Option, none, some}
 use Prim.Native.Nat.{ℕ}
 use Rattle.text.specs.Answer as text
 use Rattle.requests.specs.declared.Accessor.{Accessor}
-use Rattle.exports.specs.Boundary.{numberIn, lineIn, fillIn}
+use Rattle.exports.specs.Boundary.{numberIn, lineIn, columnIn, fillIn}
 use Rattle.exports.specs.declared.AccessorNumber.{AccessorNumber}
 use Rattle.exports.specs.declared.AccessorNumber.the-variants as number
 
@@ -13,8 +13,9 @@ abbrev pub accessorSaid : AccessorNumber → Option Accessor
 accessorSaid (number.Is accessor) = some accessor
 accessorSaid number.Nothing = none
 
--- over a fill count, an answer leaves fill′, and is told by a number and a line
-pub record Said (a : text.Answer) (fill fill′ number line : ℕ) : Type 0 where
+-- over a fill count, an answer leaves fill′, and is told by a number, a line and a column
+pub record Said (a : text.Answer) (fill fill′ number line column : ℕ) : Type 0 where
   pub number-is : number ≡ numberIn a
   pub line-is : line ≡ lineIn a
+  pub column-is : column ≡ columnIn a
   pub fill-is : fill′ ≡ fillIn fill a

@@ -32,21 +32,32 @@ pub extern "C" fn kitlubas_index_size(size: usize) -> usize
     nodes::index_size(size)
 }
 
-// The number of the sheet's refusal, 0 for a sheet that is admitted; `line` becomes the refusal's line, or 0. The index of an
-// admitted sheet is put into `index`, if there is room for it.
+// The number of the sheet's refusal, 0 for a sheet that is admitted; `line` and `column` become the refusal's, or 0. The
+// index of an admitted sheet is put into `index`, if there is room for it.
 #[no_mangle]
-pub extern "C" fn kitlubas_index(s: &[u8], index: &mut [u64], line: &mut usize) -> u64
-    ensures told { λ r. ⌜ Told (admitted (now (s .entry))) r (now (line .exit)) ⌝ }
+pub extern "C" fn kitlubas_index(
+    s: &[u8],
+    index: &mut [u64],
+    line: &mut usize,
+    column: &mut usize,
+) -> u64
+    ensures told { λ r. ⌜ Told (admitted (now (s .entry))) r (now (line .exit)) (now (column .exit)) ⌝ }
     ensures index { λ r. ⌜ (indexSize (length (now (s .entry))) ≤ length (now (index .entry))
         → IndexOf (now (s .entry)) (admitted (now (s .entry))) (now (index .exit))) ⌝ }
 {
     match sheet::admit(s, index) {
         Answer::Sheet => {
             *line = 0;
+            *column = 0;
             0
         }
-        Answer::Refused { number, line: at } => {
-            *line = at;
+        Answer::Refused {
+            number,
+            line: at_line,
+            column: at_column,
+        } => {
+            *line = at_line;
+            *column = at_column;
             number
         }
     }
@@ -64,15 +75,17 @@ pub extern "C" fn kitlubas_answer_in(
     leaf: u64,
     fill: &mut usize,
     line: &mut usize,
+    column: &mut usize,
     buf: &mut [u8],
 ) -> u64
     ensures asked { λ r. ⌜ OverIndex (now (s .entry)) (now (index .entry)) (λ sheet. Asked (now (buf .entry)) (now (fill .entry))
-        (ask sheet id (requestOf request place leaf)) (now (buf .exit)) (now (fill .exit)) r (now (line .exit))) ⌝ }
+        (ask sheet id (requestOf request place leaf)) (now (buf .exit)) (now (fill .exit)) r (now (line .exit))
+        (now (column .exit))) ⌝ }
     ensures within { λ r. ⌜ AskedWithin (now (buf .entry)) (now (fill .entry)) (now (buf .exit)) (now (fill .exit)) r ⌝ }
 {
     let asked = request_of(request, place, leaf);
     let answer = requests::answer_in(s, index, id, asked, Text::at(*fill), buf);
-    say(answer, fill, line)
+    say(answer, fill, line, column)
 }
 
 // The text with a number of the field with these numbers, as `kitlubas_field` puts them, in the node with a number, from 0: 0,

@@ -125,30 +125,33 @@ pub extern "C" fn kitlubas_module_name(at: usize, buf: &mut [u8], name: &[u8]) -
     count(t)
 }
 
-// The number of the sheet's refusal, 0 for a sheet that is admitted; `line` becomes the refusal's line, or 0.
+// The number of the sheet's refusal, 0 for a sheet that is admitted; `line` and `column` become the refusal's, or 0.
 #[no_mangle]
-pub extern "C" fn kitlubas_admit(s: &[u8], line: &mut usize) -> u64
-    ensures { λ r. ⌜ Told (admitted (now (s .entry))) r (now (line .exit)) ⌝ }
+pub extern "C" fn kitlubas_admit(s: &[u8], line: &mut usize, column: &mut usize) -> u64
+    ensures { λ r. ⌜ Told (admitted (now (s .entry))) r (now (line .exit)) (now (column .exit)) ⌝ }
 {
     let mut none = [0u64; 0];
-    kitlubas_index(s, &mut none, line)
+    kitlubas_index(s, &mut none, line, column)
 }
 
-// Says an answer: 0 with `fill` moved past the text, or the number of its refusal; `line` becomes the refusal's line.
-fn say(answer: Answer, fill: &mut usize, line: &mut usize) -> u64
-    ensures { λ r. ⌜ Said (inNumbers answer) (now (fill .entry)) (now (fill .exit)) r (now (line .exit)) ⌝ }
+// Says an answer: 0 with `fill` moved past the text, or the number of its refusal; `line` and `column` become the refusal's.
+fn say(answer: Answer, fill: &mut usize, line: &mut usize, column: &mut usize) -> u64
+    ensures { λ r. ⌜ Said (inNumbers answer) (now (fill .entry)) (now (fill .exit)) r (now (line .exit)) (now (column .exit)) ⌝ }
 {
     match answer {
         Answer::Done(t) => {
             *fill = t.fill();
             *line = 0;
+            *column = 0;
             0
         }
         Answer::Refused {
             number,
             line: at_line,
+            column: at_column,
         } => {
             *line = at_line;
+            *column = at_column;
             number
         }
     }
@@ -211,13 +214,14 @@ pub extern "C" fn kitlubas_answer(
     leaf: u64,
     fill: &mut usize,
     line: &mut usize,
+    column: &mut usize,
     buf: &mut [u8],
 ) -> u64
     ensures { λ r. ⌜ Asked (now (buf .entry)) (now (fill .entry))
         (ask (admitted (now (s .entry))) id (requestOf request place leaf))
-        (now (buf .exit)) (now (fill .exit)) r (now (line .exit)) ⌝ }
+        (now (buf .exit)) (now (fill .exit)) r (now (line .exit)) (now (column .exit)) ⌝ }
 {
     let asked = request_of(request, place, leaf);
     let answer = requests::answer_request(s, id, asked, Text::at(*fill), buf);
-    say(answer, fill, line)
+    say(answer, fill, line, column)
 }

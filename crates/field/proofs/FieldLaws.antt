@@ -1,18 +1,18 @@
 -- Laws of the fields that stand at some rows: the first is what its row says, and the others stand after it. By cases on what is
 -- read. Assumes nothing.
 use mathlib.Core.Path.{_≡_, refl, sym, ap, _∙_}
-use mathlib.Core.Bool.{true, false}
+use mathlib.Core.Bool.{Bool, true, false}
 use mathlib.Core.List.{List, [], _∷_}
 use Prim.Native.Nat.{ℕ, zero, suc, _-_, _<_, _≤_}
 use native.Mathlib.Numerals.{sub-one}
 use native.Mathlib.Omega.{arith}
-use package.types.Run.{OneOf}
+use package.types.Run.{OneOf, miss}
 use denote.Enum.Declared.{tagOf}
 use lib.ListN.{drop, length}
+use lib.Dec.{eqb}
 use Rattle.text.specs.Bytes.{Str}
 use Rattle.row.specs.Rows.{rows, restOf}
-use Rattle.row.specs.Line as content
-use Rattle.row.specs.Line.{Content, lineSaid, lineAt, textAt}
+use Rattle.row.specs.Line.{Fault, fault, misplaced, lineSaid, lineAt, textAt}
 use Rattle.row.specs.declared.Line.{Line}
 use Rattle.row.specs.declared.Line.the-variants as line
 use Rattle.row.proofs.Line.{the-type}
@@ -23,7 +23,7 @@ use Rattle.tree.specs.Read as read
 use Rattle.tree.specs.Read.{readSlot, readField, isField}
 use Rattle.tree.specs.Fields as fields
 use Rattle.tree.specs.Fields.{FieldsHere}
-use Rattle.tree.proofs.OtherLines.{never, not-a-field}
+use Rattle.tree.proofs.OtherLines.{never}
 use Rattle.nodes.specs.Index.{nth}
 use Rattle.field.specs.Field.{nextOf, ReadsFirst, Fewer, FindsField}
 use Rattle.field.specs.Parts.{Gets, SlotRead}
@@ -34,23 +34,35 @@ use Rattle.field.specs.declared.Field.the-variants as field
 use Rattle.field.proofs.SlotLaws.{row-fewer}
 use Rattle.field.proofs.TypeLaws.{rest-fewer}
 
--- where no field stands, none is read
-field-none : (rs : Rows) → isField (lineAt rs) ≡ false → readField rs ≡ no 2 rs
-unfolding readField
-field-none rs h = go (lineAt rs) refl h
+-- where no good F or G line stands, none is read: at a bad one its fault is told, and any other is misplaced
+not-read : (rs rest : Rows) (f : tree.Field) (l : Line) → OneOf (0 ∷ 1 ∷ 2 ∷ 5 ∷ 6 ∷ 7 ∷ 8 ∷ 9 ∷ 10 ∷ []) (tagOf the-type l)
+    → lineSaid l ≡ lineAt rs → readField rs ≡ got f rest → ⊥
+unfolding lineSaid readField
+not-read rs rest f l h e x = go l h e
   where
-    go : (l : Content) → lineAt rs ≡ l → isField l ≡ false → readField rs ≡ no 2 rs
-    go content.Root e h = rw (e, e)
-    go (content.Node a b c d x f g) e h = rw (e, e)
-    go content.Parameter e h = rw (e, e)
-    go (content.Field a b c d) e h = never cc
-    go (content.Group a b) e h = never cc
-    go (content.Typ a b c d) e h = rw (e, e)
-    go (content.Scope a b c) e h = rw (e, e)
-    go content.Unbound e h = rw (e, e)
-    go (content.Value a b) e h = rw (e, e)
-    go (content.Word a) e h = rw (e, e)
-    go content.Bad e h = rw (e, e)
+    never-read : readField rs ≡ no misplaced rs → ⊥
+    never-read n = never cc
+
+    go : (l : Line) → OneOf (0 ∷ 1 ∷ 2 ∷ 5 ∷ 6 ∷ 7 ∷ 8 ∷ 9 ∷ 10 ∷ []) (tagOf the-type l) → lineSaid l ≡ lineAt rs → ⊥
+    go line.Root h e = never-read (rw (← e, ← e, ← e, ← e))
+    go (line.Node a b c d x f g) h e = never-read (rw (← e, ← e, ← e, ← e))
+    go line.Parameter h e = never-read (rw (← e, ← e, ← e, ← e))
+    go (line.Field a b c d) h e = miss (0 ∷ 1 ∷ 2 ∷ 5 ∷ 6 ∷ 7 ∷ 8 ∷ 9 ∷ 10 ∷ []) 3 tt h
+    go (line.Group a b) h e = miss (0 ∷ 1 ∷ 2 ∷ 5 ∷ 6 ∷ 7 ∷ 8 ∷ 9 ∷ 10 ∷ []) 4 tt h
+    go (line.Typ a b c d) h e = never-read (rw (← e, ← e, ← e, ← e))
+    go (line.Scope a b c) h e = never-read (rw (← e, ← e, ← e, ← e))
+    go line.Unbound h e = never-read (rw (← e, ← e, ← e, ← e))
+    go (line.Value a b) h e = never-read (rw (← e, ← e, ← e, ← e))
+    go (line.Word a) h e = never-read (rw (← e, ← e, ← e, ← e))
+    go (line.Bad y k c) h e = by-letters (eqb y 70) (eqb y 71) refl refl
+      where
+        told-so : (k : Fault) → readField rs ≡ no k rs → ⊥
+        told-so k n = never cc
+
+        by-letters : (f g : Bool) → eqb y 70 ≡ f → eqb y 71 ≡ g → ⊥
+        by-letters true g i j = told-so (fault k c) (rw (← e, ← e, i))
+        by-letters false true i j = told-so (fault k c) (rw (← e, ← e, i, ← e, ← e, j))
+        by-letters false false i j = never-read (rw (← e, ← e, i, ← e, ← e, j))
 
 -- what the code says of the row at a position, and the rows after it
 module _ (s : Str) (at next : ℕ) (l : Line) (here : lineSaid l ≡ lineAt (rows (drop at s)))
@@ -93,7 +105,7 @@ module _ (s : Str) (at next : ℕ) (l : Line) (here : lineSaid l ≡ lineAt (row
 
     of-group : readField rs ≡ got (read.field (textAt rs) d (group i)) (rows (drop next s))
     unfolding lineSaid readField
-    of-group = rw (← here, is, ← here, is, ← after)
+    of-group = rw (← here, is, ← here, is, ← here, is, ← after)
 
     pub first-group : (fs : List tree.Field) → FieldsHere rs fs → ReadsFirst s here-group fs
     unfolding lineSaid
@@ -113,7 +125,7 @@ module _ (s : Str) (at next : ℕ) (l : Line) (here : lineSaid l ≡ lineAt (row
       → FieldsHere rs fs → ReadsFirst s field.Nothing fs
   first-none other [] (fields.none x) = refl
   first-none other (f ∷ fs) (fields.more {rest = rest} x y) =
-      let e : readField rs ≡ no 2 rs = field-none rs (rw (← here) (not-a-field l other)) in never cc
+      absurd (not-read rs rest f l other here x)
 
 -- ---- by place
 

@@ -10,7 +10,7 @@ use denote.Enum.Declared.{tagOf}
 use lib.ListN.{drop, length}
 use Rattle.text.specs.Bytes.{Str}
 use Rattle.row.specs.Rows.{rows, restOf}
-use Rattle.row.specs.Line.{Content, lineSaid, lineAt}
+use Rattle.row.specs.Line.{Fault, Content, lineSaid, lineAt, faultOf}
 use Rattle.row.specs.declared.Line.{Line}
 use Rattle.row.specs.declared.Line.the-variants as line
 use Rattle.row.proofs.Line.{the-type}
@@ -20,12 +20,13 @@ use Rattle.tree.specs.Tree.{Ty, Value}
 use Rattle.tree.specs.Reader.{Rows, Reading, Reader, got, no, _then_, mapR}
 use Rattle.tree.specs.Read.{readType, hasWords, valueOf, readWordsUpTo, readWords, readSlot}
 use Rattle.tree.proofs.OtherLines.{never, not-value}
+use Rattle.tree.proofs.WalkLaws.{faultOr, told-wrong}
 use Rattle.field.specs.Field.{Fewer}
 use Rattle.field.specs.Parts.{Gets, TypeIs, mostWords, SlotRead}
 use Rattle.field.specs.declared.Slot.{Slot}
 use Rattle.field.specs.declared.TypeSpan.{TypeSpan}
 use Rattle.field.specs.declared.Field.the-variants as field
-use Rattle.field.proofs.WordsLaws.{words-counted, counted-fewer}
+use Rattle.field.proofs.WordsLaws.{words-counted, words-refused, counted-fewer}
 
 gets-got : {A : Type 0} (P : A → Rows → Type 0) (g : Reading A) (a : A) (q : Rows) → Gets g P → g ≡ got a q → P a q
 gets-got P g a q h e = rw e at h
@@ -77,8 +78,31 @@ module _ (s : Str) (typ : ℕ) (t : TypeSpan) (type-is : Gets (readType 16 (rows
       none : (ty : Ty) (q : Rows) (v : Value) (w : Rows) → readType 16 (rows (drop typ s)) ≡ got ty q → valueOf q ≡ got v w → ⊥
       none ty q v w et ev =
           let at : rows (drop (t .past) s) ≡ q = gets-got _ _ ty q type-is et .past in
-          let n : valueOf q ≡ no 2 q = rw (← at, ← here, not-value {A = Reader _} l _ _ other) refl in
+          let n : valueOf q ≡ no (faultOr (faultOf 86 (lineSaid l))) q =
+          rw (← at, ← here, not-value {A = Reader _} l _ _ other, ← here) (told-wrong (faultOf 86 (lineSaid l)) _) in
           never cc
+
+  -- words that are refused
+  pub slot-no-words :
+      (o e p k b : ℕ) (after : Rows) (P : tree.Slot → Rows → Type 0) (has : Bool) (f : Fault) (q : Rows) → l ≡ line.Value k b
+      → after ≡ restOf (rows (drop (t .past) s)) → has ≡ hasWords e k
+      → no f q ≡ mapR length (readWordsUpTo (mostWords has)) after → Gets (readSlot o e p (rows (drop typ s))) P
+  unfolding lineSaid valueOf
+  slot-no-words o e p k b after P has f q is rest has-is refused =
+      slot-gets o e p (rows (drop typ s)) P none
+    where
+      none : (ty : Ty) (q : Rows) (v : Value) (w : Rows) (ws : List ℕ) (z : Rows) → readType 16 (rows (drop typ s)) ≡ got ty q
+          → valueOf q ≡ got v w → readWords (hasWords e (v .kind)) w ≡ got ws z
+          → P (record { offset = o; explicit = e; option = p; ty = ty; default = v; words = ws }) z
+      none ty q v w ws z et ev ew =
+          let at : rows (drop (t .past) s) ≡ q = gets-got _ _ ty q type-is et .past in
+          let g : valueOf q ≡ got (record { kind = k; bits = b }) (restOf q) = rw (← at, ← here, is) refl in
+          let v-is : v ≡ record { kind = k; bits = b } = cc in
+          let w-is : w ≡ restOf q = cc in
+          let w-after : w ≡ after = w-is ∙ sym (rw at at rest) in
+          let words : readWords has after ≡ got ws z =
+          rw (has-is, ← ap (λ (y : Value). y .kind) v-is, ← w-after) ew in
+          absurd (words-refused has after ws z f _ words refused)
 
 -- a slot by value, whose type t, V row l and words these are
 module _ (s : Str) (r : Slot) (t : TypeSpan) (type-is : Gets (readType 16 (rows (drop (r .typ) s))) (TypeIs s t))

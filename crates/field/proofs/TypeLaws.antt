@@ -13,7 +13,7 @@ use lib.Dec.{eqb, ltb}
 use lib.ListN.{drop, length}
 use Rattle.text.specs.Bytes.{Str, cond}
 use Rattle.row.specs.Rows.{rows, restOf}
-use Rattle.row.specs.Line.{lineSaid, lineAt, asType}
+use Rattle.row.specs.Line.{fault, misplaced, lineSaid, lineAt, asType, faultOf}
 use Rattle.row.specs.declared.Line.{Line}
 use Rattle.row.specs.declared.Line.the-variants as line
 use Rattle.row.proofs.Line.{the-type}
@@ -23,10 +23,11 @@ use Rattle.tree.specs.Reader.{Rows, Reading, Reader, got, no, mapR, times, On}
 use Rattle.tree.specs.Read as read
 use Rattle.tree.specs.Read.{readType, typeFrom, branded}
 use Rattle.tree.proofs.OtherLines.{not-type}
+use Rattle.tree.proofs.WalkLaws.{by-told}
 use Rattle.row.specs.Part.{owed}
 use Rattle.row.proofs.Laws.{rows-fewer}
 use Rattle.types.specs.Find.{After, kindAt, pastRows, AllParts, Past}
-use Rattle.types.proofs.Laws.{as-type, on-map, on-all, past-type, past-next, past-none, parts-next, type-parts}
+use Rattle.types.proofs.Laws.{on-type, on-map, on-all, past-type, past-next, past-none, parts-next, type-parts}
 use Rattle.types.proofs.TypeLaws.{type-kind}
 use Rattle.field.specs.Slot.{HasId}
 use Rattle.field.specs.Parts.{Gets, TypeIs}
@@ -47,10 +48,10 @@ branded-id k a ss = go (eqb k 15) (eqb k 16)
 
 type-id : (left : ℕ) (rs : Rows) → On (readType left rs) (λ ty. HasId ty (idAt rs))
 unfolding readType typeFrom
-type-id zero rs = as-type (λ (f : Reader Ty). On (f rs) (λ ty. HasId ty (idAt rs))) (lineAt rs) _ _ (λ k a b c e. tt) tt
+type-id zero rs = on-type (λ ty. HasId ty (idAt rs)) rs (λ k a b c rest. no (fault 4 1) rs) (λ k a b c e. tt)
 type-id (suc n) rs =
-    as-type (λ (f : Reader Ty). On (f rs) (λ ty. HasId ty (idAt rs))) (lineAt rs) _ _
-    (λ k a b c e. rw e (go k a b c (ltb k 14) (eqb k 14) (ltb k 18) (eqb a 0) refl refl (restOf rs))) tt
+    on-type (λ ty. HasId ty (idAt rs)) rs (typeFrom (readType n))
+    (λ k a b c e. rw e (go k a b c (ltb k 14) (eqb k 14) (ltb k 18) (eqb a 0) refl refl (restOf rs)))
   where
     go : (k a b c : ℕ) (x y z w : Bool) → ltb k 14 ≡ x → eqb a 0 ≡ w → (q : Rows)
         → On (cond x (got (plain k)) (cond y (mapR (λ t. list t) (readType n)) (cond z
@@ -89,7 +90,9 @@ nested-fewer s rs next past e l = omega (arith, rest-fewer rs (rows (drop next s
 module _ (s : Str) (r : TypeSpan) (rs rest : Rows) (l : Line) (here : lineSaid l ≡ lineAt rs) (after : rest ≡ restOf rs) where
   pub type-other : OneOf (0 ∷ 1 ∷ 2 ∷ 3 ∷ 4 ∷ 6 ∷ 7 ∷ 8 ∷ 9 ∷ 10 ∷ []) (tagOf the-type l) → Gets (readType 16 rs) (TypeIs s r)
   unfolding readType
-  type-other other = rw (← here, not-type {A = Reader _} l _ _ other) tt
+  type-other other =
+      rw (← here, not-type {A = Reader _} l _ _ other)
+      (by-told (λ g. Gets g (TypeIs s r)) (faultOf 84 (lineAt rs)) (no misplaced) rs (λ k. tt) tt)
 
   module _ (k a b c : ℕ) (is : l ≡ line.Typ k a b c) (id : r .id ≡ a) where
     past-is : Past rest (owed (lineSaid l)) (rows (drop (r .past) s)) → Past rs 1 (rows (drop (r .past) s))

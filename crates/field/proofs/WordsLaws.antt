@@ -9,10 +9,11 @@ use lib.ListN.{length}
 use Rattle.text.specs.Bytes.{Str}
 use Rattle.row.specs.Rows.{restOf}
 use Rattle.row.specs.Line as content
-use Rattle.row.specs.Line.{Content, lineAt, asWord}
+use Rattle.row.specs.Line.{Fault, Content, lineAt, asWord, faultOf}
 use Rattle.tree.specs.Reader.{Rows, Reading, Reader, got, no, _then_, mapR}
 use Rattle.tree.specs.Read.{readWordsUpTo, readWords}
 use Rattle.tree.proofs.OtherLines.{never}
+use Rattle.tree.proofs.WalkLaws.{by-told, told-wrong}
 use Rattle.field.specs.Parts.{Gets, mostWords}
 
 -- two choices by whether a line is a W row
@@ -28,7 +29,7 @@ two R (content.Scope i b c) y z y′ z′ f g = g
 two R content.Unbound y z y′ z′ f g = g
 two R (content.Value k b) y z y′ z′ f g = g
 two R (content.Word w) y z y′ z′ f g = f w
-two R content.Bad y z y′ z′ f g = g
+two R (content.Bad x k) y z y′ z′ f g = g
 
 -- where a slot has words, they are those up to 255
 words-whole : (has : Bool) (rs : Rows) (ws : List ℕ) (z : Rows) → readWords has rs ≡ got ws z
@@ -36,12 +37,19 @@ words-whole : (has : Bool) (rs : Rows) (ws : List ℕ) (z : Rows) → readWords 
 unfolding readWords readWordsUpTo
 words-whole false rs ws z e = e
 words-whole true rs ws z e =
-    two (λ (f g : Reader (List ℕ)). f rs ≡ got ws z → g rs ≡ got ws z) (lineAt rs) _ _ _ _ (λ w e. e) (λ e. never cc) e
+    two (λ (f g : Reader (List ℕ)). f rs ≡ got ws z → g rs ≡ got ws z) (lineAt rs) _ _ _ _ (λ w e. e)
+    (λ e. let n = told-wrong {A = List ℕ} (faultOf 87 (lineAt rs)) rs in never cc) e
 
 pub words-counted : (has : Bool) (rs : Rows) (ws : List ℕ) (z : Rows) (k : ℕ) (q : Rows) → readWords has rs ≡ got ws z
     → got k q ≡ mapR length (readWordsUpTo (mostWords has)) rs → (k ≡ length ws) × (q ≡ z)
 words-counted has rs ws z k q e h =
     let g : got k q ≡ got (length ws) z = rw (words-whole has rs ws z e) at h in (cc, cc)
+
+-- words that are refused are none of a slot's
+pub words-refused : (has : Bool) (rs : Rows) (ws : List ℕ) (z : Rows) (k : Fault) (q : Rows) → readWords has rs ≡ got ws z
+    → no k q ≡ mapR length (readWordsUpTo (mostWords has)) rs → ⊥
+words-refused has rs ws z k q e h =
+    let g : no k q ≡ got (length ws) z = rw (words-whole has rs ws z e) at h in never cc
 
 -- words leave no more rows
 words-fewer : (n : ℕ) (rs : Rows) → Gets (readWordsUpTo n rs) (λ ws q. length q ≤ length rs)
@@ -49,7 +57,8 @@ unfolding readWordsUpTo restOf
 words-fewer zero rs = omega arith
 words-fewer (suc n) [] =
     two (λ (f g : Reader (List ℕ)). Gets (f []) (λ ws q. length q ≤ length {A = Str} [])) (lineAt []) _ _ (λ w. got []) (got [])
-    (λ w. go w (readWordsUpTo n []) (words-fewer n [])) (omega arith)
+    (λ w. go w (readWordsUpTo n []) (words-fewer n []))
+    (by-told (λ g. Gets g (λ ws q. length q ≤ length {A = Str} [])) (faultOf 87 (lineAt [])) (got []) [] (λ k. tt) (omega arith))
   where
     go : (w : ℕ) (g : Reading (List ℕ)) → Gets g (λ ws q. length q ≤ length {A = Str} [])
         → Gets (g then λ ws. got (w ∷ ws)) (λ ws q. length q ≤ length {A = Str} [])
@@ -58,7 +67,9 @@ words-fewer (suc n) [] =
 words-fewer (suc n) (r ∷ rs) =
     two (λ (f g : Reader (List ℕ)). Gets (f (r ∷ rs)) (λ ws q. length q ≤ length (r ∷ rs))) (lineAt (r ∷ rs)) _ _ (λ w. got [])
     (got [])
-    (λ w. go w (readWordsUpTo n rs) (words-fewer n rs)) (omega arith)
+    (λ w. go w (readWordsUpTo n rs) (words-fewer n rs))
+    (by-told (λ g. Gets g (λ ws q. length q ≤ length (r ∷ rs))) (faultOf 87 (lineAt (r ∷ rs))) (got []) (r ∷ rs) (λ k. tt)
+    (omega arith))
   where
     go : (w : ℕ) (g : Reading (List ℕ)) → Gets g (λ ws q. length q ≤ length rs)
         → Gets (g then λ ws. got (w ∷ ws)) (λ ws q. length q ≤ length (r ∷ rs))

@@ -3,6 +3,7 @@
 use row::Line;
 use terms::kinds;
 use tree::Counted;
+use tree::Walk;
 ghost use mathlib.Core.Path.{_≡_};
 ghost use mathlib.Core.List.{List};
 ghost use Prim.Native.Nat.{ℕ, _≤_};
@@ -11,8 +12,9 @@ ghost use Rattle.text.specs.Bytes.{Str};
 ghost use Rattle.row.specs.Rows.{rows, restOf};
 ghost use Rattle.row.specs.Span.{textBetween};
 ghost use Rattle.tree.specs.Tree as tree;
-ghost use Rattle.tree.specs.Reader.{got, mapR};
+ghost use Rattle.tree.specs.Reader.{mapR};
 ghost use Rattle.tree.specs.Read.{readType, readWordsUpTo, readSlot};
+ghost use Rattle.tree.specs.Walked.{walkedWith};
 ghost use Rattle.tree.specs.Fields.{FieldsHere};
 ghost use Rattle.nodes.specs.Index.{nth};
 ghost use Rattle.field.specs.Slot.{SlotField, SlotHere};
@@ -128,7 +130,7 @@ fn type_span(s: &[u8], at: usize) -> TypeSpan
 
 // The W rows at a position, up to 255, where there may be any.
 fn words_from(s: &[u8], from: usize, any: bool) -> Counted
-    ensures { λ r. ⌜ got (r .count) (rows (drop (r .next) (now (s .entry))))
+    ensures { λ r. ⌜ walkedWith (now (s .entry)) (r .walk) (r .count)
         ≡ mapR length (readWordsUpTo (mostWords any)) (rows (drop from (now (s .entry)))) ⌝ }
 {
     if any {
@@ -165,6 +167,10 @@ fn slot_from(
     };
     let any = tree::has_words(explicit, default);
     let w = words_from(s, words, any);
+    let walk = w.walk;
+    let Walk::Next { at: next } = walk else {
+        return Field::Nothing;
+    };
     Field::Slot(Slot {
         offset,
         discriminant,
@@ -178,7 +184,7 @@ fn slot_from(
         typ,
         words,
         count: w.count,
-        next: w.next,
+        next,
     })
 }
 

@@ -3,7 +3,7 @@
 use mathlib.Core.Path.{_≡_, refl, sym, ap, _∙_}
 use mathlib.Core.Bool.{true, false}
 use mathlib.Core.List.{List, [], _∷_}
-use mathlib.Core.Option.{none, some}
+use mathlib.Core.Option.{Option, none, some}
 use Prim.Native.Nat.{ℕ, zero, suc, _+_, _-_, _<_, _≤_}
 use native.Mathlib.Nat.{zero-add, suc-add}
 use native.Mathlib.Numerals.{sub-one}
@@ -11,9 +11,9 @@ use native.Mathlib.Omega.{arith}
 use lib.ListN.{length, drop, length-drop}
 use Rattle.text.specs.Bytes.{Str}
 use Rattle.row.specs.Rows.{restOf}
-use Rattle.row.specs.Line.{Content, lineOf, lineAt, textOf, textAt, asParameter}
+use Rattle.row.specs.Line.{Fault, Content, lineOf, lineAt, textOf, textAt, asParameter, faultOf}
 use Rattle.row.specs.Line.{Root, Node, Parameter, Field, Group, Typ, Scope, Unbound, Value, Word, Bad}
-use Rattle.tree.specs.Reader.{Rows, Reading, got, no, Reader, _then_, On}
+use Rattle.tree.specs.Reader.{Rows, Reading, got, no, Reader, _then_, told, orFault, On}
 use Rattle.tree.specs.Read.{readParams}
 use Rattle.tree.proofs.OtherLines.{never}
 use Rattle.nodes.specs.Index.{namesOf, nth, rowsAfter}
@@ -39,7 +39,7 @@ names-by P r rs f g = go (lineOf r) refl
     go Unbound e = g
     go (Value k b) e = g
     go (Word x) e = g
-    go Bad e = g
+    go (Bad x k) e = g
 
 pub names-more : (rs : Rows) → lineAt rs ≡ Parameter → namesOf rs ≡ textAt rs ∷ namesOf (restOf rs)
 unfolding namesOf lineAt textAt restOf
@@ -58,21 +58,28 @@ unfolding readParams namesOf lineAt textAt restOf
 params-names [] = refl
 params-names (r ∷ rs) = go (lineOf r) (readParams rs) (params-names rs)
   where
+    ended : (o : Option Fault) → On {A = List Str} (told o (got []) (r ∷ rs)) (λ ps. ps ≡ [])
+    ended (some k) = tt
+    ended none = refl
+
+    other : On {A = List Str} (orFault 80 (got []) (r ∷ rs)) (λ ps. ps ≡ [])
+    other = ended (faultOf 80 (lineOf r))
+
     go : (l : Content) (g : Reading (List Str)) → On g (λ ps. ps ≡ namesOf rs)
-        → On (asParameter {A = Reader (List Str)} l (λ q. g then λ ps. got (textAt q ∷ ps)) (got []) (r ∷ rs))
+        → On (asParameter {A = Reader (List Str)} l (λ q. g then λ ps. got (textAt q ∷ ps)) (orFault 80 (got [])) (r ∷ rs))
         (λ ps. ps ≡ asParameter l (textOf r ∷ namesOf rs) [])
     go Parameter (got ps us) ih = ap (λ (l : List Str). textOf r ∷ l) ih
     go Parameter (no k us) ih = tt
-    go Root g ih = refl
-    go (Node i q k x y c o) g ih = refl
-    go (Field o d e q) g ih = refl
-    go (Group i d) g ih = refl
-    go (Typ k a b c) g ih = refl
-    go (Scope i b c) g ih = refl
-    go Unbound g ih = refl
-    go (Value k b) g ih = refl
-    go (Word x) g ih = refl
-    go Bad g ih = refl
+    go Root g ih = other
+    go (Node i q k x y c o) g ih = other
+    go (Field o d e q) g ih = other
+    go (Group i d) g ih = other
+    go (Typ k a b c) g ih = other
+    go (Scope i b c) g ih = other
+    go Unbound g ih = other
+    go (Value k b) g ih = other
+    go (Word x) g ih = other
+    go (Bad x k) g ih = other
 
 -- where there is a name, a P row stands first
 pub names-first : (rs : Rows) → 0 < length (namesOf rs) → namesOf rs ≡ textAt rs ∷ namesOf (restOf rs)

@@ -317,4 +317,4 @@ line-comes (Value k b) text f =
     let m0 = mostBits-fits k in
     comes 86 (k ∷ b ∷ []) [] refl (omega arith) (narrow k (omega arith), (narrow b (omega arith), tt)) tail-none
 line-comes (Word v) text f = comes 87 (v ∷ []) [] refl (omega arith) (narrow v (omega arith), tt) tail-none
-line-comes Bad text f = absurd f
+line-comes (Bad x k) text f = absurd f

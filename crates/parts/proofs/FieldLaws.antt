@@ -1,11 +1,12 @@
 -- Laws of one field that was read: its name has at most 64 bytes, its parts are those of its arm, and what is written of it is
 -- its unit. Assumes nothing.
 use mathlib.Core.Path.{_≡_, refl}
-use mathlib.Core.Bool.{true}
+use mathlib.Core.Bool.{Bool, true, false}
 use mathlib.Core.List.{List, [], _∷_}
 use Prim.Native.Nat.{ℕ, _+_, _*_, _≤_}
 use native.Mathlib.Nat.{le-trans, mul-le-mul-right}
 use native.Mathlib.Omega.{arith}
+use lib.Dec.{eqb}
 use lib.ListN.{length}
 use Rattle.text.specs.Bytes.{Str}
 use Rattle.column.specs.Texts.{isFieldName}
@@ -46,17 +47,22 @@ read-few (r ∷ rs) = go (lineOf r) refl
     slots o d e p i (no k us) = tt
 
     go : (l : Content) → lineOf r ≡ l → On (readField (r ∷ rs)) (λ f. length (f .name) ≤ 64)
-    go line.Root i = rw (i, i) tt
-    go (line.Node a b c d e f g) i = rw (i, i) tt
-    go line.Parameter i = rw (i, i) tt
+    go line.Root i = rw (i, i, i, i) tt
+    go (line.Node a b c d e f g) i = rw (i, i, i, i) tt
+    go line.Parameter i = rw (i, i, i, i) tt
     go (line.Field o d e p) i = rw i (slots o d e p i (readSlot o e p (restOf (r ∷ rs))))
-    go (line.Group j d) i = rw (i, i) (name-few (textOf r) (printed-line r (line.Group j d) tt i .fits .2))
-    go (line.Typ a b c d) i = rw (i, i) tt
-    go (line.Scope a b c) i = rw (i, i) tt
-    go line.Unbound i = rw (i, i) tt
-    go (line.Value a b) i = rw (i, i) tt
-    go (line.Word a) i = rw (i, i) tt
-    go line.Bad i = rw (i, i) tt
+    go (line.Group j d) i = rw (i, i, i) (name-few (textOf r) (printed-line r (line.Group j d) tt i .fits .2))
+    go (line.Typ a b c d) i = rw (i, i, i, i) tt
+    go (line.Scope a b c) i = rw (i, i, i, i) tt
+    go line.Unbound i = rw (i, i, i, i) tt
+    go (line.Value a b) i = rw (i, i, i, i) tt
+    go (line.Word a) i = rw (i, i, i, i) tt
+    go (line.Bad x k) i = by-letters (eqb x 70) (eqb x 71) refl refl
+      where
+        by-letters : (f g : Bool) → eqb x 70 ≡ f → eqb x 71 ≡ g → On (readField (r ∷ rs)) (λ f. length (f .name) ≤ 64)
+        by-letters true g e h = rw (i, i, e) tt
+        by-letters false true e h = rw (i, i, e, i, i, h) tt
+        by-letters false false e h = rw (i, i, e, i, i, h) tt
 
 pub field-few : (rs : Rows) (f : tree.Field) (fs : List tree.Field) → FieldsHere rs (f ∷ fs) → length (f .name) ≤ 64
 field-few rs f fs (more e h) = rw e at (read-few rs)

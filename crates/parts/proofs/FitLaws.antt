@@ -36,9 +36,11 @@ pub refused-few : (n : ℕ) → n < 2 ^ 64 → length (refusedText n) ≤ 65536
 unfolding refusedText
 refused-few n h = simp length-append (omega (arith, digits-few n h))
 
-pub refused-sheet-few : (n line : ℕ) → n < 2 ^ 64 → line < 2 ^ 64 → length (refusedSheetText n line) ≤ 65536
+pub refused-sheet-few :
+    (n line column : ℕ) → n < 2 ^ 64 → line < 2 ^ 64 → column < 2 ^ 64 → length (refusedSheetText n line column) ≤ 65536
 unfolding refusedSheetText
-refused-sheet-few n line h k = simp length-append (omega (arith, digits-few n h, digits-few line k))
+refused-sheet-few n line column h k m =
+    simp length-append (omega (arith, digits-few n h, digits-few line k, digits-few column m))
 
 pub header-few : (part : Part) (name : Str) → length (headerText part name) ≤ length name + 18
 unfolding headerText

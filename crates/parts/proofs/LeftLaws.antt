@@ -123,12 +123,12 @@ pub end-turn : (s index : List ℕ) (l l′ : Str) → Turns s index End l l′ 
 end-turn s index l l′ = record { goes = λ text left. record { rest = text; left = left; joined = refl } }
 
 pub refused-turn :
-    (s index : List ℕ) (k line : ℕ) (l l′ : Str) (r : Fit) → TakesAtMost 65536 l r → Puts (refusedSheetText k line) l′ r
-    → Turns s index (Refused k line) l l′ r End
-refused-turn s index k line l l′ (Whole n) fits put = record {
+    (s index : List ℕ) (k line column : ℕ) (l l′ : Str) (r : Fit) → TakesAtMost 65536 l r
+    → Puts (refusedSheetText k line column) l′ r → Turns s index (Refused k line column) l l′ r End
+refused-turn s index k line column l l′ (Whole n) fits put = record {
   goes = λ text left. record { rest = []; left = refl; joined = append-nil (take n l′) ∙ put ∙ sym left };
 }
-refused-turn s index k line l l′ Short fits put = λ text left. omega (arith, fits)
+refused-turn s index k line column l l′ Short fits put = λ text left. omega (arith, fits)
 
 -- the first of the fields that stand at q, as it was read
 record Reads (s : Str) (q : ℕ) (r : Field) (fields : List tree.Field) : Type 0 where
@@ -226,7 +226,7 @@ node-fewer s index k q next enters =
 
 -- a place that is not the end
 pub not-end : (place : Place) → OneOf (0 ∷ 1 ∷ []) (tagOf the-type place) → place ≡ End → ⊥
-not-end (Refused k line) h e = never cc
+not-end (Refused k line column) h e = never cc
 not-end (At k q) h e = never cc
 not-end End h e = absurd (miss (0 ∷ 1 ∷ []) 2 tt h)
 
@@ -298,7 +298,7 @@ module _ (s index : List ℕ) (place : Place) (l₀ : Str) where
 -- ---- the pieces over a buffer
 
 at-end : (place : Place) → ((place ≡ End → ⊥) → ⊥) → place ≡ End
-at-end (Refused k line) h = absurd (h (λ e. never cc))
+at-end (Refused k line column) h = absurd (h (λ e. never cc))
 at-end (At k q) h = absurd (h (λ e. never cc))
 at-end End h = refl
 

@@ -62,7 +62,7 @@ unfolding programText nodeText fieldText eachText printedPart partText refusedTe
     stringify join flatMap toLines decimal
 example = refl
 
-pub torn : programText (admitted (take (length isFree - 1) isFree)) ≡ ascii "refused 2 line 5\n"
+pub torn : programText (admitted (take (length isFree - 1) isFree)) ≡ ascii "refused 2 line 5 column 1\n"
 unfolding programText refusedSheetText typeFrom readType valueOf readWords readSlot readField fieldsUpTo readFields readParams
     readMembers readNode readNodes readSheet among admitted rowText columns textAt textOf textStart lineAt lineOf reader
     mostBits mostC mostB mostA valueLine typeLine fieldLine nodeLine rootLine joined restOf onto rows lineNo size newlines

@@ -32,7 +32,7 @@ pub record LeftAt (s index : List ℕ) (number q : ℕ) (text : Str) : Type 0 wh
 
 -- what is left to print at a place
 abbrev pub Left : (s index : List ℕ) → Place → Str → Type 0
-Left s index (Refused k line) text = text ≡ refusedSheetText k line
+Left s index (Refused k line column) text = text ≡ refusedSheetText k line column
 Left s index (At number q) text = LeftAt s index number q text
 Left s index End text = text ≡ []
 

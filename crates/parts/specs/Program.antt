@@ -78,11 +78,16 @@ fieldText sheet n f = eachText (printedPart sheet (n, f)) (partsOf (f .arm))
 unfoldable pub nodeText : Sheet → Node → Str
 nodeText sheet n = eachText (fieldText sheet n) (n .fields)
 
+-- a word and a number after it
+abbrev pub labelled : Str → ℕ → Str
+labelled label n = label ++ decimal n
+
 -- what is printed of a refused sheet: all that is printed
-unfoldable pub refusedSheetText : ℕ → ℕ → Str
-refusedSheetText k line = ascii "refused " ++ decimal k ++ ascii " line " ++ decimal line ++ unit 10
+unfoldable pub refusedSheetText : ℕ → ℕ → ℕ → Str
+refusedSheetText k line column =
+    labelled (ascii "refused ") k ++ labelled (ascii " line ") line ++ labelled (ascii " column ") column ++ unit 10
 
 -- the whole output, node by node
 unfoldable pub programText : Admitted → Str
 programText (read.sheet sheet) = eachText (nodeText sheet) (sheet .nodes)
-programText (read.refused k line) = refusedSheetText k line
+programText (read.refused k line column) = refusedSheetText k line column

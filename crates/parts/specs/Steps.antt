@@ -22,7 +22,7 @@ use Rattle.parts.specs.declared.Came.the-variants.{To, Failed}
 
 -- a number that falls with each field and with each node
 abbrev pub mostLeft : Str → Place → ℕ
-mostLeft s (Refused k line) = 1
+mostLeft s (Refused k line column) = 1
 mostLeft s (At number q) = (64 - number) * (length s + 2) + length (rows (drop q s)) + 1
 mostLeft s End = 0
 

@@ -61,8 +61,15 @@ enum Fit {
 // Where the printing of a sheet stands: at the refusal of the sheet; at a field of the node with a number, from 0, or at what
 // stands after its last; at the end.
 enum Place {
-    Refused { number: u64, line: usize },
-    At { node: usize, field: usize },
+    Refused {
+        number: u64,
+        line: usize,
+        column: usize,
+    },
+    At {
+        node: usize,
+        field: usize,
+    },
     End,
 }
 

@@ -25,12 +25,13 @@ ghost use Prim.Native.Nat.{_+_, _≤_, _<_};
 ghost use lib.ListN.{length};
 ghost use Rattle.io.specs.Counts.{Counts};
 ghost use Rattle.text.specs.Bytes.{Str};
+ghost use Rattle.text.specs.Text.{Wrote};
 ghost use Rattle.row.specs.Rows.{rows};
 ghost use Rattle.row.specs.Line.{textAt};
 ghost use Rattle.tree.specs.Tree.{Node};
 ghost use Rattle.tree.specs.Read.{admitted};
 ghost use Rattle.nodes.specs.Index.{indexSize, Indexed, nth};
-ghost use Rattle.parts.specs.Program.{refusedSheetText, programText};
+ghost use Rattle.parts.specs.Program.{labelled, refusedSheetText, programText};
 ghost use Rattle.parts.specs.Fit.{unitMost, Within, TakesAtMost, Puts};
 ghost use Rattle.parts.specs.Left.{Left, Gives};
 ghost use Rattle.parts.specs.Pieces.{PiecesHold};
@@ -91,20 +92,35 @@ fn start(s: &[u8], index: &mut [u64]) -> Place
     let verdict = sheet::admit(s, index);
     match verdict {
         Answer::Sheet => enter(index, 0),
-        Answer::Refused { number, line } => Place::Refused { number, line },
+        Answer::Refused {
+            number,
+            line,
+            column,
+        } => Place::Refused {
+            number,
+            line,
+            column,
+        },
     }
 }
 
+// A word and a number after it.
+fn write_labelled(label: &[u8], n: u64, t: Text, buf: &mut [u8]) -> Text
+    ensures { λ r. ⌜ Wrote (now (buf .entry)) t (labelled (now (label .entry)) n) (now (buf .exit)) r ⌝ }
+{
+    let t = t.bytes(buf, label);
+    t.number(buf, n)
+}
+
 // What is printed of a refused sheet.
-fn refused_sheet(number: u64, line: usize, buf: &mut [u8]) -> Fit
+fn refused_sheet(number: u64, line: usize, column: usize, buf: &mut [u8]) -> Fit
     ensures within { λ r. ⌜ Within r (now (buf .exit)) ⌝ }
     ensures fits { λ r. ⌜ TakesAtMost 65536 (now (buf .entry)) r ⌝ }
-    ensures said { λ r. ⌜ Puts (refusedSheetText number line) (now (buf .exit)) r ⌝ }
+    ensures said { λ r. ⌜ Puts (refusedSheetText number line column) (now (buf .exit)) r ⌝ }
 {
-    let t = Text::at(0).bytes(buf, b"refused ");
-    let t = t.number(buf, number);
-    let t = t.bytes(buf, b" line ");
-    let t = t.number(buf, line as u64);
+    let t = write_labelled(b"refused ", number, Text::at(0), buf);
+    let t = write_labelled(b" line ", line as u64, t, buf);
+    let t = write_labelled(b" column ", column as u64, t, buf);
     let t = t.byte(buf, b'\n');
     taken(t, buf)
 }
@@ -151,8 +167,12 @@ fn step(root: &[u8], s: &[u8], index: &[u64], place: Place, out: &mut [u8]) -> T
 {
     match place {
         Place::At { node, field } => field_turn(root, s, index, node, field, out),
-        Place::Refused { number, line } => Turn {
-            fit: refused_sheet(number, line, out),
+        Place::Refused {
+            number,
+            line,
+            column,
+        } => Turn {
+            fit: refused_sheet(number, line, column, out),
             next: Place::End,
         },
         Place::End => Turn {

@@ -17,12 +17,13 @@ use Rattle.text.specs.Lines.{toLines, flatMap, stringify, ended}
 use Rattle.text.proofs.LinesLaws.{ended-append, stringify-lines}
 use Rattle.row.specs.Rows.{restOf}
 use Rattle.row.specs.Line as content
-use Rattle.row.specs.Line.{Content, lineSaid, lineAt, asWord}
+use Rattle.row.specs.Line.{misplaced, Content, lineSaid, lineAt, asWord, faultOf}
 use Rattle.row.specs.declared.Line.{Line as RowLine}
 use Rattle.row.specs.declared.Line.the-variants as line
 use Rattle.tree.specs.Reader.{Rows, Reading, Reader, got, no, _then_, On, Has}
 use Rattle.tree.specs.Read.{readWordsUpTo, readWords}
 use Rattle.tree.proofs.OtherLines.{not-word}
+use Rattle.tree.proofs.WalkLaws.{by-told}
 use Rattle.types.proofs.Laws.{on-map, on-one}
 use Rattle.codegen.specs.WordArray.{bytesFrom, wordBytes, wordsLines, wordArrayDeclaration}
 use Rattle.pointer_constants.specs.Words.{wordsAt, wordCode, wordsText, declarationText}
@@ -43,7 +44,7 @@ two R (content.Scope i b c) y z y′ z′ f g = g
 two R content.Unbound y z y′ z′ f g = g
 two R (content.Value k b) y z y′ z′ f g = g
 two R (content.Word w) y z y′ z′ f g = f w
-two R content.Bad y z y′ z′ f g = g
+two R (content.Bad x k) y z y′ z′ f g = g
 
 words-are : (n : ℕ) (rs : Rows) → On (readWordsUpTo n rs) (λ ws. ws ≡ wordsAt n rs)
 unfolding readWordsUpTo wordsAt
@@ -53,7 +54,7 @@ words-are (suc n) rs =
     (λ w. on-map (λ ws. w ∷ ws) (λ x. x ≡ w ∷ wordsAt n (restOf rs)) (readWordsUpTo n (restOf rs))
     (on-one (λ ws. ws ≡ wordsAt n (restOf rs)) (λ ws. w ∷ ws ≡ w ∷ wordsAt n (restOf rs)) (readWordsUpTo n (restOf rs))
     (λ ws e. ap (λ (x : List ℕ). w ∷ x) e) (words-are n (restOf rs))))
-    refl
+    (by-told (λ g. On g (λ x. x ≡ [])) (faultOf 87 (lineAt rs)) (got []) rs (λ k. tt) refl)
 
 -- a slot's words
 words-whole : (rs : Rows) (ws : List ℕ) → Has (readWords true rs) (λ x. x ≡ ws) → ws ≡ wordsAt 255 rs
@@ -61,7 +62,7 @@ unfolding readWords wordsAt
 words-whole rs ws =
     two (λ (f : Reader (List ℕ)) (xs : List ℕ). Has (f rs) (λ x. x ≡ ws) → ws ≡ xs) (lineAt rs) _ _ _ _
     (λ w. go w (readWordsUpTo 254 (restOf rs)) (words-are 254 (restOf rs)))
-    (λ h. absurd h)
+    (by-told (λ g. Has g (λ x. x ≡ ws) → ws ≡ []) (faultOf 87 (lineAt rs)) (no misplaced) rs (λ k h. absurd h) (λ h. absurd h))
   where
     go : (w : ℕ) (g : Reading (List ℕ)) → On g (λ x. x ≡ wordsAt 254 (restOf rs)) → Has (g then λ x. got (w ∷ x)) (λ x. x ≡ ws)
         → ws ≡ w ∷ wordsAt 254 (restOf rs)
@@ -86,7 +87,7 @@ words-short (suc n) rs = go (lineAt rs) refl (words-short n (restOf rs))
     go (content.Scope i b c) e h = refl
     go content.Unbound e h = refl
     go (content.Value k b) e h = refl
-    go content.Bad e h = refl
+    go (content.Bad x k) e h = refl
 
 words-of : (rs : Rows) (ws : List ℕ) (k : ℕ) → Has (readWords true rs) (λ x. x ≡ ws) → k ≡ length ws → wordsAt k rs ≡ ws
 words-of rs ws k h e =

@@ -12,10 +12,10 @@ use lib.ListN.{length}
 use Rattle.text.specs.Bytes.{Str, both}
 use Rattle.column.specs.Texts.{isFieldName}
 use Rattle.row.specs.Rows.{restOf}
-use Rattle.row.specs.Line.{Content, lineAt, textAt, asWord, mostBits}
+use Rattle.row.specs.Line.{fault, misplaced, Content, lineAt, textAt, asWord, mostBits}
 use Rattle.row.specs.Print.{printField, printValue, printWord, Fits}
 use Rattle.tree.specs.Tree.{Value, Slot, Arm, slot, group, Field}
-use Rattle.tree.specs.Reader.{Rows, got, no, Reader, mapR, onWord, onGroup}
+use Rattle.tree.specs.Reader.{Rows, got, no, Reader, mapR, orFault, onWord, onGroup}
 use Rattle.tree.specs.Read.{valueOf, readWordsUpTo, readWords, hasWords, readSlot, field, isField, readField}
 use Rattle.tree.specs.Read.{overlap, groupId, groupIds, fieldsUpTo, readFields}
 use Rattle.tree.specs.Print.{typeRows, wordRows, armRows, fieldRows}
@@ -37,7 +37,7 @@ pub data AfterField : Content → Type 0 where
   a-field : {o d e p : ℕ} → AfterField (line.Field o d e p)
   a-group : {i d : ℕ} → AfterField (line.Group i d)
   a-node : {i p s x g c o : ℕ} → AfterField (line.Node i p s x g c o)
-  the-end : AfterField line.Bad
+  the-end : AfterField line.noLine
 
 -- a V line
 read-value :
@@ -51,13 +51,14 @@ read-value v rs e =
 
 -- words end where no W line stands
 words-end : {A : Type 0} (f : ℕ → Reader A) (other : Reader A) (rs : Rows) → AfterField (lineAt rs) → onWord f other rs ≡ other rs
-words-end {A} f other rs h = go (lineAt rs) h
+words-end {A} f other rs h = go (lineAt rs) refl h
   where
-    go : (l : Content) → AfterField l → asWord {A = Reader A} l (λ w rs. f w (restOf rs)) other rs ≡ other rs
-    go l a-field = refl
-    go l a-group = refl
-    go l a-node = refl
-    go l the-end = refl
+    go : (l : Content) → lineAt rs ≡ l → AfterField l
+        → asWord {A = Reader A} l (λ w rs. f w (restOf rs)) (orFault 87 other) rs ≡ other rs
+    go l e a-field = rw e
+    go l e a-group = rw e
+    go l e a-node = rw e
+    go l e the-end = rw e
 
 -- W lines up to a bound, and 1 to 255 where they belong
 read-words-up-to :
@@ -157,7 +158,7 @@ module _ (name : Str) (d : ℕ) where
       let l = armLine d (group i) in
       let fit = arm-fits name d (group i) n f e in
       let h = line-here l name rs fit in
-      reads-line l name fit (rw (h, h, text-here l name rs fit)) reads-none
+      reads-line l name fit (rw (h, h, h, text-here l name rs fit)) reads-none
 
   -- its first line is an F or a G
   arm-field :
@@ -172,7 +173,7 @@ module _ (name : Str) (d : ℕ) where
 -- the line after a node's fields: another node, or none
 pub data AfterFields : Content → Type 0 where
   a-node : {i p s x g c o : ℕ} → AfterFields (line.Node i p s x g c o)
-  the-end : AfterFields line.Bad
+  the-end : AfterFields line.noLine
 
 -- one turn of the fields
 fields-turn :
@@ -232,7 +233,7 @@ tell-value :
     → Tells (λ v rest. (rs ≡ printValue (v .kind) (v .bits) ∷ rest) × (valueFits v ≡ true)) (valueOf rs)
 unfolding valueOf
 tell-value rs =
-    tells-value rs (no 2) nothing (λ k b. got (record { kind = k; bits = b })) (λ k b w.
+    tells-value rs (no misplaced) nothing (λ k b. got (record { kind = k; bits = b })) (λ k b w.
     told (w .row, lt-ltb k 19 (omega (arith, w .fits .0)) and le-leb b (mostBits k) (w .fits .1)))
 
 -- W lines up to a bound, and 1 to 255 where they belong
@@ -250,7 +251,7 @@ tell-words-up-to (suc n) rs =
 tell-words : (b : Bool) (rs : Rows) → Tells (λ ws rest. (rs ≡ wordRows ws rest) × (wordsFit b ws ≡ true)) (readWords b rs)
 unfolding readWords wordRows every
 tell-words true rs =
-    tells-word rs (no 2) nothing (λ w. mapR (w ∷_) (readWordsUpTo 254)) (λ w s.
+    tells-word rs (no misplaced) nothing (λ w. mapR (w ∷_) (readWordsUpTo 254)) (λ w s.
     tells-map (w ∷_) (tell-words-up-to 254 (restOf rs)) (λ ws rest p.
     let n = suc (length ws) in
     let few = lt-ltb n 256 (omega (arith, p .1)) in (
@@ -282,8 +283,8 @@ FieldAt rs f rest = (rs ≡ armRows (f .name) (f .discriminant) (f .arm) rest) �
 tell-field : (rs : Rows) → Tells (FieldAt rs) (readField rs)
 unfolding readField
 tell-field rs =
-    tells-field rs (onGroup (λ i d name. got (field name d (group i))) (no 2))
-    (tells-group rs (no 2) nothing (λ i d name. got (field name d (group i))) (λ i d w.
+    tells-field rs (onGroup (λ i d name. got (field name d (group i))) (no misplaced))
+    (tells-group rs (no misplaced) nothing (λ i d name. got (field name d (group i))) (λ i d w.
     told (w .row, w .fits .2 and most-fits 16 d (w .fits .1) and most-id i (w .fits .0 .0) (w .fits .0 .1) and refl)))
     (λ o d e p name. mapR (λ sl. field name d (slot sl)) (readSlot o e p)) (λ o d e p w.
     let f = w .fits in
@@ -302,7 +303,7 @@ tell-fields-up-to (suc n) seen rs =
     tells-cond (isField (lineAt rs)) _ (got []) rs
     (λ _. tells-then _ (tell-field rs) (λ f mid x.
     let ids = groupId (f .arm) in
-    tells-cond (overlap ids seen) (λ rest. no 3 rs) (mapR (f ∷_) (fieldsUpTo n (seen ++ ids))) mid
+    tells-cond (overlap ids seen) (λ rest. no (fault 3 2) rs) (mapR (f ∷_) (fieldsUpTo n (seen ++ ids))) mid
     (λ _. nothing)
     (λ o. tells-map (f ∷_) (less (seen ++ ids) mid) (λ fs rest y.
     let new = fresh-arm seen (f .arm) ∙ true-not (overlap ids seen) o in (

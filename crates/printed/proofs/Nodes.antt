@@ -9,10 +9,10 @@ use lib.ListN.{length}
 use Rattle.text.specs.Bytes.{Str, cond, unit}
 use Rattle.column.specs.Texts.{isName, isGraphicText}
 use Rattle.row.specs.Rows.{restOf}
-use Rattle.row.specs.Line.{Content, lineOf, lineAt, textAt, asParameter}
+use Rattle.row.specs.Line.{fault, misplaced, Content, lineOf, lineAt, textAt, asParameter}
 use Rattle.row.specs.Print.{printNode, printParameter, printLine, Fits}
 use Rattle.tree.specs.Tree.{Field, Node}
-use Rattle.tree.specs.Reader.{Rows, got, no, Reader, _then_, mapR, atEnd}
+use Rattle.tree.specs.Reader.{Rows, got, no, Reader, _then_, mapR, orFault, atEnd}
 use Rattle.tree.specs.Read.{among, groupIds, readParams, readMembers, readNode, readNodes}
 use Rattle.tree.specs.Print.{fieldRows, paramRows, nodeRows}
 use Rattle.tree.specs.WellFormed.{fits, isId, isFlag, every, fieldFits, nodeFits, nodeIds, allGroupIds}
@@ -33,16 +33,17 @@ use Rattle.row.specs.Line as line
 params-end : (rs : Rows) → AfterField (lineAt rs) → readParams rs ≡ got [] rs
 unfolding readParams lineAt
 params-end [] h = refl
-params-end (r ∷ rs) h = go (lineOf r) h
+params-end (r ∷ rs) h = go (lineOf r) refl h
   where
     go :
-        (l : Content) → AfterField l
-        → asParameter {A = Reader (List Str)} l (λ us. readParams rs then λ ps. got (textAt us ∷ ps)) (got []) (r ∷ rs)
+        (l : Content) → lineOf r ≡ l → AfterField l
+        → asParameter {A = Reader (List Str)} l (λ us. readParams rs then λ ps. got (textAt us ∷ ps)) (orFault 80 (got []))
+        (r ∷ rs)
         ≡ got [] (r ∷ rs)
-    go l AfterField.a-field = refl
-    go l AfterField.a-group = refl
-    go l AfterField.a-node = refl
-    go l AfterField.the-end = refl
+    go l e AfterField.a-field = rw e
+    go l e AfterField.a-group = rw e
+    go l e AfterField.a-node = rw e
+    go l e AfterField.the-end = rw e
 
 -- P lines
 read-params :
@@ -225,12 +226,12 @@ record NodeAt (ids seen : List ℕ) (rs : Rows) (n : Node) (rest : Rows) : Type 
 tell-node : (ids seen : List ℕ) (rs : Rows) → Tells (NodeAt ids seen rs) (readNode ids seen rs)
 unfolding readNode
 tell-node ids seen rs =
-    tells-node rs (no 2) nothing
-    (λ i p sc st g tc to theMod. cond (among i ids) (λ rest. no 3 rs) (readMembers seen (nodeFrom i p sc st g tc to theMod)))
+    tells-node rs (no misplaced) nothing
+    (λ i p sc st g tc to theMod. cond (among i ids) (λ rest. no (fault 3 2) rs) (readMembers seen (nodeFrom i p sc st g tc to theMod)))
     (λ i p sc st g tc to w.
     let node = nodeFrom i p sc st g tc to (textAt rs) in
     let f = w .fits in
-    tells-cond (among i ids) (λ rest. no 3 rs) (readMembers seen node) (restOf rs) (λ _. nothing) (λ new.
+    tells-cond (among i ids) (λ rest. no (fault 3 2) rs) (readMembers seen node) (restOf rs) (λ _. nothing) (λ new.
     tell-members seen node (restOf rs) (NodeAt ids seen rs) (λ ps fs rest is params fields groups.
     record {
       is = w .row ∙ ap (λ (us : Rows). printNode i p sc st g tc to (textAt rs) ∷ us) is;

@@ -6,7 +6,7 @@ use mathlib.Core.List.{_∷_}
 use Prim.Native.Nat.{ℕ, zero, suc}
 use Rattle.text.specs.Bytes.{Str, cond}
 use Rattle.row.specs.Rows.{rows, joined}
-use Rattle.row.specs.Line.{Content, lineAt, textAt}
+use Rattle.row.specs.Line.{Fault, Content, lineAt, textAt}
 use Rattle.row.specs.Print.{printLine, Fits}
 use Rattle.row.proofs.PrintLaws.{read-printed, text-printed, rows-printed}
 use Rattle.tree.specs.Reader.{Rows, Reading, got, no, Reader, _then_, times}
@@ -77,7 +77,7 @@ reads-times one none n {f = f} r q = reads-then _ r (reads-map f q)
 -- what holds of a part that a reading gives, and of the rows that are left; of a refusal nothing is told
 pub data Tells {A : Type 0} (P : A → Rows → Type 0) : Reading A → Type 0 where
   told : {a : A} {rest : Rows} → P a rest → Tells P (got a rest)
-  nothing : {k : ℕ} {rest : Rows} → Tells P (no k rest)
+  nothing : {k : Fault} {rest : Rows} → Tells P (no k rest)
 
 pub tells-then :
     {A B : Type 0} {P : A → Rows → Type 0} {Q : B → Rows → Type 0} {g : Reading A} (k : A → Reader B) → Tells P g

@@ -11,7 +11,7 @@ use lib.ListN.{length, length-append}
 use Rattle.text.specs.Bytes.{Str}
 use Rattle.column.specs.Texts.{isGraphicText}
 use Rattle.row.specs.Rows.{rows, joined, restOf, size}
-use Rattle.row.specs.Line.{textAt}
+use Rattle.row.specs.Line.{misplaced, textAt}
 use Rattle.row.specs.Print.{printRoot}
 use Rattle.row.proofs.Laws.{joined-rows}
 use Rattle.tree.specs.Tree.{Node, Sheet}
@@ -120,7 +120,7 @@ record SheetAt (rs : Rows) (sh : Sheet) (rest : Rows) : Type 0 where
 tell-sheet : (rs : Rows) → Tells (SheetAt rs) (readSheet rs)
 unfolding readSheet sheetRows
 tell-sheet rs =
-    tells-root rs (no 2) nothing (λ root. mapR (λ ns. record { root = root; nodes = ns }) (readNodes 64 [] [])) (λ w.
+    tells-root rs (no misplaced) nothing (λ root. mapR (λ ns. record { root = root; nodes = ns }) (readNodes 64 [] [])) (λ w.
     tells-map (λ ns. record { root = textAt rs; nodes = ns }) (tell-nodes 64 [] [] (restOf rs)) (λ ns rest q.
     record { is = w .row ∙ ap (λ (us : Rows). printRoot (textAt rs) ∷ us) (q .is); root = w .fits; nodes = q }))
 
@@ -154,7 +154,7 @@ prints-read s sh e = by-size (ltb 65536 (length s)) refl e
 
     by-size :
         (b : Bool) → ltb 65536 (length s) ≡ b
-        → (elim b as (λ _. Admitted) [ true ↦ refused 1 0 | false ↦ numbered s (readSheet (rows s)) ]) ≡ sheet sh
+        → (elim b as (λ _. Admitted) [ true ↦ refused 1 0 0 | false ↦ numbered s (readSheet (rows s)) ]) ≡ sheet sh
         → (printed sh ≡ s) × (wellFormed sh ≡ true)
     by-size true h e = let z : _≡_ {A = ℕ} 0 1 = cc in let y : ⊥ = omega arith in absurd y
     by-size false h e = by-reading (ltb-false 65536 (length s) h) (readSheet (rows s)) (tell-sheet (rows s)) e

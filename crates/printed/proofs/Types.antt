@@ -12,12 +12,12 @@ use lib.Dec.{eqb, ltb}
 use Rattle.text.specs.Bytes.{Str, cond, both}
 use Rattle.column.specs.Number.{most}
 use Rattle.row.specs.Rows.{restOf, size}
-use Rattle.row.specs.Line.{Content, lineAt, asUnbound, mostA, mostB, mostC, mostCount}
+use Rattle.row.specs.Line.{Fault, fault, misplaced, Content, lineAt, asUnbound, mostA, mostB, mostC, mostCount}
 use Rattle.row.specs.Print.{rowText, printType, printScope, printUnbound, Fits}
 use Rattle.row.specs.Line.{Root, Node, Parameter, Field, Group, Typ, Scope, Unbound, Value, Word, Bad}
 use Rattle.tree.specs.Tree.{Ty, plain, list, enum, struct, interface, anyPointer, parameter}
 use Rattle.tree.specs.Tree.{Scopes, end, inherit, bind, Binds, stop, unbound, bound}
-use Rattle.tree.specs.Reader.{Rows, got, no, Reader, _then_, mapR, times, onType}
+use Rattle.tree.specs.Reader.{Rows, got, no, Reader, _then_, mapR, orFault, times, onType}
 use Rattle.tree.specs.Read.{readBinding, readScope, branded, pointer, typeFrom, readType}
 use Rattle.tree.specs.Print.{scopeCount, bindCount, typeRows, scopeRows, bindRows}
 use Rattle.tree.specs.WellFormed.{fits, typeFits, scopesFit, bindsFit}
@@ -73,7 +73,7 @@ room-binds bs rs room = record { few = omega (arith, size-binds bs rs, room .few
 -- ---- what is printed is read
 
 -- a type is read where a level is left
-type-turn : (left : ℕ) (rs : Rows) → 0 < left → readType left rs ≡ onType (typeFrom (readType (left - 1))) (no 2) rs
+type-turn : (left : ℕ) (rs : Rows) → 0 < left → readType left rs ≡ onType (typeFrom (readType (left - 1))) (no misplaced) rs
 unfolding readType
 type-turn zero rs h = let z : ⊥ = omega arith in absurd z
 type-turn (suc l) rs h = rw (sub-one (suc l))
@@ -129,26 +129,37 @@ type-binding :
 unfolding readBinding readType
 type-binding left rs rest t e = by-line (lineAt rs) refl
   where
-    refused : (left : ℕ) → lineAt rs ≡ Unbound → readType left rs ≡ no 2 rs
-    refused zero h = rw h
-    refused (suc l) h = rw h
+    refused : (left : ℕ) → lineAt rs ≡ Unbound → readType left rs ≡ no misplaced rs
+    refused zero h = rw (h, h)
+    refused (suc l) h = rw (h, h)
+
+    faulty : (left x : ℕ) (k : Fault) → lineAt rs ≡ Bad x k → x ≡ 85 → readType left rs ≡ no misplaced rs
+    faulty zero x k h i = rw (h, h, i)
+    faulty (suc l) x k h i = rw (h, h, i)
+
+    by-letter :
+        (x : ℕ) (k : Fault) → lineAt rs ≡ Bad x k → (b : Bool) → eqb x 85 ≡ b
+        → orFault {A = Binds → Binds} 85 (mapR (λ t bs. bound t bs) (readType left)) rs
+        ≡ (readType left rs then λ t. got (λ bs. bound t bs))
+    by-letter x k h true i = let r = faulty left x k h (eqb-true x 85 i) in cc
+    by-letter x k h false i = rw (h, i)
 
     by-line :
         (l : Content) → lineAt rs ≡ l
         → asUnbound {A = Reader (Binds → Binds)} l (λ rs. got (λ bs. unbound bs) (restOf rs))
-        (mapR (λ t bs. bound t bs) (readType left)) rs
+        (orFault 85 (mapR (λ t bs. bound t bs) (readType left))) rs
         ≡ (readType left rs then λ t. got (λ bs. bound t bs))
-    by-line Root h = refl
-    by-line (Node i p s x g c o) h = refl
-    by-line Parameter h = refl
-    by-line (Field o d e p) h = refl
-    by-line (Group i d) h = refl
-    by-line (Typ k a b c) h = refl
-    by-line (Scope i b n) h = refl
+    by-line Root h = rw h
+    by-line (Node i p s x g c o) h = rw h
+    by-line Parameter h = rw h
+    by-line (Field o d e p) h = rw h
+    by-line (Group i d) h = rw h
+    by-line (Typ k a b c) h = rw h
+    by-line (Scope i b n) h = rw h
     by-line Unbound h = let r = refused left h in cc
-    by-line (Value k b) h = refl
-    by-line (Word w) h = refl
-    by-line Bad h = refl
+    by-line (Value k b) h = rw h
+    by-line (Word w) h = rw h
+    by-line (Bad x k) h = by-letter x k h (eqb x 85) refl
 
 -- one scope, one binding
 module _ (left : ℕ) where
@@ -303,7 +314,7 @@ module _ (left : ℕ) (tell : (rs : Rows) → Tells (TypeAt left rs) (readType l
       (readScope (readType left) rs)
   unfolding readScope typeRows typeFits scopeCount
   tell-scope rs =
-      tells-scope rs (no 2) nothing
+      tells-scope rs (no misplaced) nothing
       (λ i b n. cond (eqb b 0) (got (λ ss. inherit i ss)) (mapR (λ bs ss. bind i bs ss) (times (readBinding
       (readType left)) stop n)))
       (λ i b n w.
@@ -428,6 +439,6 @@ module _ (left : ℕ) (tell : (rs : Rows) → Tells (TypeAt left rs) (readType l
 -- a type that is read is printed
 pub tell-type : (left : ℕ) (rs : Rows) → Tells (TypeAt left rs) (readType left rs)
 unfolding readType
-tell-type zero rs = tells-type rs (no 2) nothing (λ k a b c rest. no 4 rs) (λ k a b c w. nothing)
+tell-type zero rs = tells-type rs (no misplaced) nothing (λ k a b c rest. no (fault 4 1) rs) (λ k a b c w. nothing)
 tell-type (suc l) rs =
-    let less = tell-type l in tells-type rs (no 2) nothing (typeFrom (readType l)) (λ k a b c w. tell-from l less rs k a b c w)
+    let less = tell-type l in tells-type rs (no misplaced) nothing (typeFrom (readType l)) (λ k a b c w. tell-from l less rs k a b c w)

@@ -1,7 +1,7 @@
 // Replays single requests through the static library's entry: reads sheets from standard input, each after a line with its
 // length in decimal and before its requests, which stand after a line with theirs. A request is a letter and six numbers in 21
 // columns each: the node's id, the place, the request's number, the leaf, the fill count, and the length of a buffer of points.
-// Its answer is printed as the refusal's number, its line and the fill count afterwards, and then the whole buffer. The files
+// Its answer is printed as the refusal's number, its line, its column and the fill count afterwards, and then the whole buffer. The files
 // stdin and stdout beside src/ are written by the comparison in oracle/, by capnpc's own functions.
 use column::Number;
 use libc::STDERR_FILENO;
@@ -17,12 +17,14 @@ fn number(asked: &[u8], at: usize) -> u64 {
     n
 }
 
-// Prints three numbers as a line.
-fn print_numbers(refusal: u64, line: usize, fill: usize) -> bool {
+// Prints four numbers as a line.
+fn print_numbers(refusal: u64, line: usize, column: usize, fill: usize) -> bool {
     let mut buf = io::buffer();
     let t = Text::at(0).number(&mut buf, refusal);
     let t = t.byte(&mut buf, b' ');
     let t = t.number(&mut buf, line as u64);
+    let t = t.byte(&mut buf, b' ');
+    let t = t.number(&mut buf, column as u64);
     let t = t.byte(&mut buf, b' ');
     let t = t.number(&mut buf, fill as u64);
     let t = t.byte(&mut buf, b'\n');
@@ -34,6 +36,7 @@ fn print_numbers(refusal: u64, line: usize, fill: usize) -> bool {
 fn print_answer(sheet: &[u8], asked: &[u8], buf: &mut [u8]) -> bool {
     let mut fill = number(asked, 85) as usize;
     let mut line: usize = 0;
+    let mut column: usize = 0;
     let refusal = exports::kitlubas_answer(
         sheet,
         number(asked, 1),
@@ -42,9 +45,10 @@ fn print_answer(sheet: &[u8], asked: &[u8], buf: &mut [u8]) -> bool {
         number(asked, 64),
         &mut fill,
         &mut line,
+        &mut column,
         buf,
     );
-    if !print_numbers(refusal, line, fill) {
+    if !print_numbers(refusal, line, column, fill) {
         return false;
     }
     if !io::write_all(STDOUT_FILENO, buf) {

@@ -1,16 +1,21 @@
 // Replays what sheets are: reads sheets from standard input, each after a line with its length in decimal, and writes for each
-// a line with its refusal's number and line, `0 0` for a sheet that is admitted. The files stdin and stdout beside src/ are
+// a line with its refusal's number, line and column, `0 0 0` for a sheet that is admitted. The files stdin and stdout beside src/ are
 // written by the comparison in oracle/, by its own reader of sheets.
 use libc::STDIN_FILENO;
 use libc::STDOUT_FILENO;
 use sheet::Answer;
 use text::Text;
 
-fn print_line(number: u64, line: usize, buf: &mut [u8]) {
-    let t = Text::at(0).number(buf, number);
-    let t = t.byte(buf, b' ');
-    let t = t.number(buf, line as u64);
-    let t = t.byte(buf, b'\n');
+// A number and a byte after it.
+fn put(n: u64, end: u8, t: Text, buf: &mut [u8]) -> Text {
+    let t = t.number(buf, n);
+    t.byte(buf, end)
+}
+
+fn print_line(number: u64, line: usize, column: usize, buf: &mut [u8]) {
+    let t = put(number, b' ', Text::at(0), buf);
+    let t = put(line as u64, b' ', t, buf);
+    let t = put(column as u64, b'\n', t, buf);
     let n = programs::filled(t, buf);
     io::write_all(STDOUT_FILENO, &buf[..n]);
 }
@@ -18,8 +23,12 @@ fn print_line(number: u64, line: usize, buf: &mut [u8]) {
 fn print_sheet(s: &[u8], buf: &mut [u8]) {
     let mut none = [0u64; 0];
     match sheet::admit(s, &mut none) {
-        Answer::Sheet => print_line(0, 0, buf),
-        Answer::Refused { number, line } => print_line(number, line, buf),
+        Answer::Sheet => print_line(0, 0, 0, buf),
+        Answer::Refused {
+            number,
+            line,
+            column,
+        } => print_line(number, line, column, buf),
     }
 }
 

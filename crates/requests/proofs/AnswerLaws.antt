@@ -29,23 +29,23 @@ use Rattle.requests.specs.declared.Answer.the-variants.{Done, Refused}
 use Rattle.requests.proofs.LentLaws.{text-end, lent, back, lent-wrote}
 
 -- a fill count past the end is refused whatever is asked
-pub past-end : (l : Str) (t : Text) (o : Outcome) → length l < t .at → Answered l t o l (Refused 21 0)
+pub past-end : (l : Str) (t : Text) (o : Outcome) → length l < t .at → Answered l t o l (Refused 21 0 0)
 past-end l t (gives w) h =
     let a = text-laws.refused-21 l (t .at) w h in
     record { answer = a .answer; buffer = a .buffer }
-past-end l t (refuses k line) h = record { answer = rw (lt-ltb _ _ h); buffer = refl }
+past-end l t (refuses k line column) h = record { answer = rw (lt-ltb _ _ h); buffer = refl }
 
 module _ (l : Str) (t : Text) (within : t .at ≤ length l) where
   -- a refusal changes nothing
-  pub refuses-so : (k line : ℕ) → Answered l t (refuses k line) l (Refused k line)
-  refuses-so k line = record { answer = rw (le-ltb _ _ within); buffer = refl }
+  pub refuses-so : (k line column : ℕ) → Answered l t (refuses k line column) l (Refused k line column)
+  refuses-so k line column = record { answer = rw (le-ltb _ _ within); buffer = refl }
 
   -- a request whose text is w, which does not fit, or fits
   module _ (w : Str) (b : length l < 2 ^ 64 - 1) where
     end : adv t w .at ≡ min (t .at + length w) (2 ^ 64 - 1)
     end = ap (λ (u : Text). u .at) (adv-at t w (omega arith))
 
-    pub too-long : length l < t .at + length w → Answered l t (gives w) l (Refused 22 0)
+    pub too-long : length l < t .at + length w → Answered l t (gives w) l (Refused 22 0 0)
     too-long h =
         let m : Wrote l t w (put l t w) (adv t w) = record { bytes = refl; state = refl } in
         let a = text-laws.refused-22 l (t .at) w l (put l t w) (adv t w) within (omega arith) m (omega (arith, end)) in
@@ -73,20 +73,20 @@ module _
     (o : Out Str) (l : Str) (t : Text) (within : t .at ≤ length l) {t₀ : Text} (z : t₀ ≡ stateAt 0) (l₀ l₁ : Str) (r : Written)
     (measured : Writes o l₀ t₀ l₁ r)
   where
-    pub own-refusal : (k : ℕ) → r .refusal ≡ Number k → Answered l t (outcome o) l (Refused k 0)
+    pub own-refusal : (k : ℕ) → r .refusal ≡ Number k → Answered l t (outcome o) l (Refused k 0 0)
     own-refusal k e = go o (rw e at (measured .refusal))
       where
-        go : (o : Out Str) → some k ≡ refusalOf o → Answered l t (outcome o) l (Refused k 0)
+        go : (o : Out Str) → some k ≡ refusalOf o → Answered l t (outcome o) l (Refused k 0 0)
         go (ok w) e = never cc
-        go (refused j) e = let z : j ≡ k = cc in rw z (refuses-so l t within k 0)
+        go (refused j) e = let z : j ≡ k = cc in rw z (refuses-so l t within k 0 0)
 
     -- n is the text's length, and fill the state's count
     module _ (n fill : ℕ) (b : length l < 2 ^ 64 - 1) (whole : r .refusal ≡ None) (long : n ≡ r .text .at)
         (f : fill ≡ t .at) where
-      pub own-long : length l - fill < n → Answered l t (outcome o) l (Refused 22 0)
+      pub own-long : length l - fill < n → Answered l t (outcome o) l (Refused 22 0 0)
       own-long h = go o (rw whole at (measured .refusal)) measured
         where
-          go : (o : Out Str) → none ≡ refusalOf o → Writes o l₀ t₀ l₁ r → Answered l t (outcome o) l (Refused 22 0)
+          go : (o : Out Str) → none ≡ refusalOf o → Writes o l₀ t₀ l₁ r → Answered l t (outcome o) l (Refused 22 0 0)
           go (ok w) e m = too-long l t within w b (omega (arith, text-end z (text-of m), long, f))
           go (refused j) e m = never cc
 
@@ -106,9 +106,9 @@ module _
 -- a field that was looked for: 15 where there is none, else what its request comes to
 module _ (s : Str) (q : Located) (g : Node × tree.Field → Out Str) (l : Str) (t : Text) where
   pub nowhere : (o : Out (Node × tree.Field)) → Locates s q o → q .field ≡ field.Nothing → t .at ≤ length l
-      → Answered l t (outcome (o then g)) l (Refused 15 0)
+      → Answered l t (outcome (o then g)) l (Refused 15 0 0)
   nowhere (ok at) h e within = absurd (rw e at (h .1))
-  nowhere (refused k) h e within = rw (h .0) (refuses-so l t within 15 0)
+  nowhere (refused k) h e within = rw (h .0) (refuses-so l t within 15 0 0)
 
   pub somewhere : (l′ : Str) (a : Answer) (o : Out (Node × tree.Field)) → Locates s q o → (q .field ≡ field.Nothing → ⊥)
       → ((at : Node × tree.Field) → at .0 .tagOffset ≡ q .tag → FieldIs s (q .field) (at .1) → Answered l t (outcome (g at)) l′ a)

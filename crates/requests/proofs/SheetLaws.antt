@@ -3,7 +3,7 @@ use mathlib.Core.Path.{_≡_, refl, sym, ap}
 use mathlib.Core.Bool.{Bool, true, false}
 use mathlib.Core.List.{List, []}
 use Prim.Native.Nat.{ℕ, _≤_}
-use lib.Dec.{ltb}
+use lib.Dec.{eqb, ltb}
 use lib.ListN.{length}
 use Rattle.text.specs.Bytes.{Str}
 use Rattle.text.specs.declared.Text.{Text}
@@ -37,21 +37,25 @@ root-read rs = go (lineAt rs) refl
 
     go : (l : Content) → lineAt rs ≡ l → On (read.readSheet rs) (λ sh. sh .root ≡ textAt rs)
     go line.Root e = rw e (nodes (readNodes 64 [] [] (restOf rs)))
-    go (line.Node i p sc st g tc to) e = rw e tt
-    go line.Parameter e = rw e tt
-    go (line.Field a b c d) e = rw e tt
-    go (line.Group a b) e = rw e tt
-    go (line.Typ a b c d) e = rw e tt
-    go (line.Scope a b c) e = rw e tt
-    go line.Unbound e = rw e tt
-    go (line.Value a b) e = rw e tt
-    go (line.Word a) e = rw e tt
-    go line.Bad e = rw e tt
+    go (line.Node i p sc st g tc to) e = rw (e, e) tt
+    go line.Parameter e = rw (e, e) tt
+    go (line.Field a b c d) e = rw (e, e) tt
+    go (line.Group a b) e = rw (e, e) tt
+    go (line.Typ a b c d) e = rw (e, e) tt
+    go (line.Scope a b c) e = rw (e, e) tt
+    go line.Unbound e = rw (e, e) tt
+    go (line.Value a b) e = rw (e, e) tt
+    go (line.Word a) e = rw (e, e) tt
+    go (line.Bad x k) e = by-fault (eqb x (line.byte "R")) refl
+      where
+        by-fault : (b : Bool) → eqb x (line.byte "R") ≡ b → On (read.readSheet rs) (λ sh. sh .root ≡ textAt rs)
+        by-fault true f = rw (e, e, f) tt
+        by-fault false f = rw (e, e, f) tt
 
 -- the root of a sheet, if it is admitted
 abbrev HasRoot : Str → Admitted → Type 0
 HasRoot root (sheet sh) = sh .root ≡ root
-HasRoot root (refused k line) = Unit {0}
+HasRoot root (refused k line column) = Unit {0}
 
 admitted-root : (s : Str) → HasRoot (textAt (rows s)) (admitted s)
 unfolding admitted
@@ -62,7 +66,7 @@ admitted-root s = by-length (ltb 65536 (length s))
     by-reading (no k us) e = tt
 
     by-length : (b : Bool)
-        → HasRoot (textAt (rows s)) (elim b [ true ↦ refused 1 0 | false ↦ numbered s (read.readSheet (rows s)) ])
+        → HasRoot (textAt (rows s)) (elim b [ true ↦ refused 1 0 0 | false ↦ numbered s (read.readSheet (rows s)) ])
     by-length true = tt
     by-length false = by-reading (read.readSheet (rows s)) (root-read (rows s))
 
@@ -78,14 +82,20 @@ module _ (s : Str) (r : verdicts.Answer) (x : List ℕ) (told : answerNumbers r 
       go (sheet sh) root e d =
           let z : sheetOf (textAt (rows s)) (sh .nodes) ≡ sh = ap (λ (w : Str). sheetOf w (sh .nodes)) (sym root) in
           rw z at (h (sh .nodes) d)
-      go (refused k line) root e d = never cc
+      go (refused k line column) root e d = never cc
 
-  pub of-refusal : (P : Admitted → Type 0) (k line : ℕ) → r ≡ answer.Refused k line → P (refused k line) → P (admitted s)
-  of-refusal P k line e h = go (admitted s) (rw e at (verdict-is (admitted s) r told))
+  pub of-refusal :
+      (P : Admitted → Type 0) (k line column : ℕ) → r ≡ answer.Refused k line column → P (refused k line column)
+      → P (admitted s)
+  of-refusal P k line column e h = go (admitted s) (rw e at (verdict-is (admitted s) r told))
     where
-      go : (a : Admitted) → answer.Refused k line ≡ verdict a → P a
+      go : (a : Admitted) → answer.Refused k line column ≡ verdict a → P a
       go (sheet sh) e = never cc
-      go (refused j m) e = let a : j ≡ k = cc in let b : m ≡ line = cc in rw (a, b) h
+      go (refused j m d) e =
+          let a : j ≡ k = cc in
+          let b : m ≡ line = cc in
+          let f : d ≡ column = cc in
+          rw (a, b, f) h
 
   module _ (id : ℕ) (request : Request) (l : Str) (t : Text) where
     pub sheet-answered :
@@ -94,7 +104,8 @@ module _ (s : Str) (r : verdicts.Answer) (x : List ℕ) (told : answerNumbers r 
     sheet-answered l′ a e index h = of-sheet (λ b. Answered l t (outcomeOf b id request) l′ a) e index (λ nodes d. h nodes d)
 
     pub sheet-refused :
-        (k line : ℕ) → t .at ≤ length l → r ≡ answer.Refused k line
-        → Answered l t (outcomeOf (admitted s) id request) l (Refused k line)
-    sheet-refused k line within e =
-        of-refusal (λ b. Answered l t (outcomeOf b id request) l (Refused k line)) k line e (refuses-so l t within k line)
+        (k line column : ℕ) → t .at ≤ length l → r ≡ answer.Refused k line column
+        → Answered l t (outcomeOf (admitted s) id request) l (Refused k line column)
+    sheet-refused k line column within e =
+        of-refusal (λ b. Answered l t (outcomeOf b id request) l (Refused k line column)) k line column e
+        (refuses-so l t within k line column)

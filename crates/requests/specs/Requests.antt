@@ -106,26 +106,27 @@ requestText sheet id request.Unknown = refused 15
 
 -- ---- the answer
 
--- what a request comes to before the text state is looked at: a text, or the number and the line of a refusal
+-- what a request comes to before the text state is looked at: a text, or the number, the line and the
+-- column of a refusal
 pub data Outcome : Type 0 where
   gives : Str → Outcome
-  refuses : ℕ → ℕ → Outcome
+  refuses : ℕ → ℕ → ℕ → Outcome
 
--- a refusal after the sheet was read names no line
+-- a refusal after the sheet was read names no line and no column
 abbrev pub outcome : Out Str → Outcome
 outcome (ok s) = gives s
-outcome (refused k) = refuses k 0
+outcome (refused k) = refuses k 0 0
 
 abbrev pub outcomeOf : Admitted → ℕ → Request → Outcome
-outcomeOf (read.refused k line) id request = refuses k line
+outcomeOf (read.refused k line column) id request = refuses k line column
 outcomeOf (read.sheet sheet) id request = outcome (requestText sheet id request)
 
 -- over the buffer l and a fill count: 21 comes first, 22 last
 abbrev pub entryAnswer : Str → ℕ → Outcome → text.Answer
 entryAnswer l fill (gives s) = text.answerOf l fill s
-entryAnswer l fill (refuses k line) = cond (ltb (length l) fill) (text.refused 21 0) (text.refused k line)
+entryAnswer l fill (refuses k line column) = cond (ltb (length l) fill) (text.refused 21 0 0) (text.refused k line column)
 
 -- the buffer afterwards
 abbrev pub entryBuffer : Str → ℕ → Outcome → Str
 entryBuffer l fill (gives s) = text.bufferOf l fill s
-entryBuffer l fill (refuses k line) = l
+entryBuffer l fill (refuses k line column) = l

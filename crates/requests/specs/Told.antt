@@ -29,7 +29,7 @@ use Rattle.requests.specs.declared.Answer.the-variants.{Done, Refused}
 -- the entry's answer as document 01's numbers
 abbrev pub inNumbers : Answer → text.Answer
 inNumbers (Done t) = text.done (t .at)
-inNumbers (Refused k line) = text.refused k line
+inNumbers (Refused k line column) = text.refused k line column
 
 -- the whole contract of the entry: a request that comes to o, over the buffer l at the state t, leaves l′ and answers r
 pub record Answered (l : Str) (t : Text) (o : Outcome) (l′ : Str) (r : Answer) : Type 0 where
@@ -40,7 +40,7 @@ pub record Answered (l : Str) (t : Text) (o : Outcome) (l′ : Str) (r : Answer)
 -- neither below the old one nor past the end
 abbrev pub AnswerWithin : Str → Text → Str → Answer → Type 0
 AnswerWithin l t l′ (Done u) = (take (t .at) l′ ≡ take (t .at) l) × (t .at ≤ u .at) × (u .at ≤ length l)
-AnswerWithin l t l′ (Refused k line) = l′ ≡ l
+AnswerWithin l t l′ (Refused k line column) = l′ ≡ l
 
 -- a pass as document 01's number, 0 where the whole text is there, and the length of the text, if there is one
 abbrev pub passNumbers : Pass → ℕ × Option ℕ

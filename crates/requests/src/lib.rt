@@ -60,7 +60,11 @@ pub enum Request {
 // The state past the text, or document 01's number of a refusal and its line, 0 where it names none.
 pub enum Answer {
     Done(Text),
-    Refused { number: u64, line: usize },
+    Refused {
+        number: u64,
+        line: usize,
+        column: usize,
+    },
 }
 
 // What one pass over a text says: the whole text is there, and so long; it is longer than the buffer, and so long; or it is
@@ -85,9 +89,13 @@ enum LeafNumber {
 
 // The refusal with a number, which names no line: it is no refusal of the sheet.
 fn refused(number: u64) -> Answer
-    ensures { λ r. ⌜ r ≡ Refused number 0 ⌝ }
+    ensures { λ r. ⌜ r ≡ Refused number 0 0 ⌝ }
 {
-    Answer::Refused { number, line: 0 }
+    Answer::Refused {
+        number,
+        line: 0,
+        column: 0,
+    }
 }
 
 // The leaf with a number: 0 to 3 are Reader and Builder, first with 'a, then with '_.
@@ -387,7 +395,15 @@ fn answer_over(
     let verdict = sheet::admit(s, index);
     match verdict {
         sheet::Answer::Sheet => answer_in(s, index, id, request, t, buf),
-        sheet::Answer::Refused { number, line } => Answer::Refused { number, line },
+        sheet::Answer::Refused {
+            number,
+            line,
+            column,
+        } => Answer::Refused {
+            number,
+            line,
+            column,
+        },
     }
 }
 

@@ -1,5 +1,5 @@
--- What stands from a position on as a row: a line that says something has no byte 10 but its last, so where such a line ends the
--- row ends; a line shorter than its letter's least length is bad. Assumes nothing.
+-- What stands from a position on as a row: a good line has no byte 10 but its last, so where such a line ends the row ends; and read
+-- to the first byte 10 past the least bytes that its letter has, a line says what its row says. Assumes nothing.
 use mathlib.Core.Path.{_≡_, refl, sym, ap, _∙_}
 use mathlib.Core.Bool.{Bool, true, false}
 use mathlib.Core.List.{[], _∷_, _++_}
@@ -7,90 +7,20 @@ use Prim.Native.Nat.{ℕ, zero, suc, _+_, _-_, _<_, _≤_}
 use native.Mathlib.Decide.{decLt}
 use native.Mathlib.Omega.{arith}
 use lib.Dec.{eqb}
-use lib.ListN.{length, getD, take, drop, drop-of-length-le, take-append-drop, length-drop}
-use lib.Seq.{drop-drop, length-take-le}
-use borrow.Author.Tests.{ne-eqb}
+use lib.ListN.{length, getD, take, drop, take-append-drop, length-drop}
+use lib.Seq.{drop-drop, getD-drop, take-append-add, length-take-le}
+use borrow.Author.Tests.{eqb-true, eq-eqb}
 use types.Run.{OneOf, miss}
 use denote.Enum.Declared.{tagOf}
-use Rattle.text.specs.Bytes.{Str, cond}
-use Rattle.column.specs.Texts.{endsIn, isName, isFieldName, isGraphicText}
+use Rattle.text.specs.Bytes.{Str}
 use Rattle.row.specs.Rows.{rowLen, rows, restOf}
-use Rattle.row.specs.Line.{rootLine, nodeLine, parameterLine, fieldLine, groupLine}
-use Rattle.row.specs.Line.{typeLine, scopeLine, unboundLine, valueLine, wordLine}
-use Rattle.row.specs.Line.{Content, Bad, lineSaid, reader, badLine, lineOf, lineAt, textOf}
+use Rattle.row.specs.Line.{Content, lineSaid, reader, lineOf, lineAt, textOf}
 use Rattle.row.specs.declared.Line.{Line}
 use Rattle.row.specs.declared.Line.the-variants as line
 use Rattle.row.proofs.Line.{the-type}
-use Rattle.row.proofs.Laws.{row-bounds, rows-at, line-row}
-use Rattle.row.proofs.ColumnLaws.{given-bad}
+use Rattle.row.proofs.Laws.{rowLen-some, row-bounds, rows-at, line-row}
 use Rattle.row.proofs.PrintLaws.{rows-printed}
 use Rattle.row.proofs.ReadLaws.{Good, printed-line}
-
--- ---- lines that are too short
-
-cond-false : (b : Bool) → cond b false false ≡ false
-cond-false true = refl
-cond-false false = refl
-
-module _ (t : Str) where
-  ends-short : (ok : Str → Bool) (a : ℕ) → ok [] ≡ false → length t < a + 2 → endsIn ok t a ≡ false
-  unfolding endsIn
-  ends-short ok a e h =
-      let l : length t ≤ a + 1 = omega arith in
-      rw (drop-of-length-le t l, e) (cond-false (eqb (getD t a 0) 32))
-
-  name-short : (a : ℕ) → length t < a + 2 → endsIn isName t a ≡ false
-  unfolding isName
-  name-short a h = ends-short isName a refl h
-
-  field-name-short : (a : ℕ) → length t < a + 2 → endsIn isFieldName t a ≡ false
-  unfolding isFieldName
-  field-name-short a h = ends-short isFieldName a refl h
-
-  length-short : (n : ℕ) → length t < n → eqb (length t) n ≡ false
-  length-short n h = ne-eqb (length t) n λ e. omega arith
-
-  pub root-short : length t < 3 → rootLine t ≡ Bad
-  unfolding rootLine isGraphicText
-  root-short h = rw (ends-short (isGraphicText 64) 1 refl h)
-
-  pub node-short : length t < 150 → nodeLine t ≡ Bad
-  unfolding nodeLine isGraphicText
-  node-short h = simp (ends-short (isGraphicText 128) 148 refl h, given-bad)
-
-  pub parameter-short : length t < 3 → parameterLine t ≡ Bad
-  unfolding parameterLine
-  parameter-short h = rw (name-short 1 h)
-
-  pub field-short : length t < 87 → fieldLine t ≡ Bad
-  unfolding fieldLine
-  field-short h = simp (field-name-short 85 h, given-bad)
-
-  pub group-short : length t < 45 → groupLine t ≡ Bad
-  unfolding groupLine
-  group-short h = simp (field-name-short 43 h, given-bad)
-
-  pub type-short : length t < 85 → typeLine t ≡ Bad
-  unfolding typeLine
-  type-short h = simp (length-short 85 h, given-bad)
-
-  pub scope-short : length t < 64 → scopeLine t ≡ Bad
-  unfolding scopeLine
-  scope-short h = simp (length-short 64 h, given-bad)
-
-  pub unbound-short : length t < 1 → unboundLine t ≡ Bad
-  unfolding unboundLine
-  unbound-short h = rw (length-short 1 h)
-
-  pub value-short : length t < 43 → valueLine t ≡ Bad
-  unfolding valueLine
-  value-short h = simp (length-short 43 h, given-bad)
-
-  pub word-short : length t < 22 → wordLine t ≡ Bad
-  unfolding wordLine
-  word-short h = simp (length-short 22 h, given-bad)
-
--- ---- where a line that says something ends, its row ends
 
 -- a line that is not bad, by its tag
 pub good-line : (l : Line) → OneOf (0 ∷ 1 ∷ 2 ∷ 3 ∷ 4 ∷ 5 ∷ 6 ∷ 7 ∷ 8 ∷ 9 ∷ []) (tagOf the-type l) → Good (lineSaid l)
@@ -105,7 +35,7 @@ good-line (line.Scope i b n) h = tt
 good-line line.Unbound h = tt
 good-line (line.Value k b) h = tt
 good-line (line.Word v) h = tt
-good-line line.Bad h = miss (0 ∷ 1 ∷ 2 ∷ 3 ∷ 4 ∷ 5 ∷ 6 ∷ 7 ∷ 8 ∷ 9 ∷ []) 10 tt h
+good-line (line.Bad x k c) h = miss (0 ∷ 1 ∷ 2 ∷ 3 ∷ 4 ∷ 5 ∷ 6 ∷ 7 ∷ 8 ∷ 9 ∷ []) 10 tt h
 
 module _ (s : Str) (at e : ℕ) (lo : at < e) (l : Content) (is : l ≡ lineOf (take (e - at) (drop at s))) (good : Good l) where
   r : Str
@@ -128,8 +58,6 @@ module _ (s : Str) (at e : ℕ) (lo : at < e) (l : Content) (is : l ≡ lineOf (
   unfolding lineAt restOf r
   good-row = (rw first is, rw first)
 
--- ---- a row that says nothing
-
 -- past k bytes of a longer row
 rowLen-past : (k : ℕ) (u : Str) → k < rowLen u → rowLen u ≡ k + rowLen (drop k u)
 unfolding rowLen
@@ -143,33 +71,99 @@ rowLen-past (suc k) (b ∷ u) h = go (rowLen-past k u) (eqb b 10) refl
     go f true e = let i = rw (rowLen, e) at h in let z : ⊥ = omega arith in absurd z
     go f false e = let i = rw (rowLen, e) at h in rw (rowLen, e) (omega (arith, f (omega arith)))
 
--- the row at a position, and lines with its letter that are bad where they are shorter than k
-module _
-    (s : Str) (at e k : ℕ) (h : at < length s) (is : e ≡ at + rowLen (drop at s))
-    (short : (t : Str) → length t < k → reader (getD s at 0) t ≡ Bad)
+-- a row with bytes after it ends in byte 10: so it is n bytes, the byte, and what follows
+row-split : (u : Str) (n : ℕ) → rowLen u ≡ suc n → suc n < length u → (u ≡ take n u ++ 10 ∷ drop (suc n) u) × (n ≤ length u)
+unfolding rowLen
+row-split [] n e h = let z : ⊥ = omega arith in absurd z
+row-split (b ∷ u) n e h = go (row-split u) (eqb b 10) refl n e h
   where
-    pub short-row : e - 1 - at < k → Bad ≡ lineAt (rows (drop at s))
-    unfolding lineAt
-    short-row l =
-        let b = row-bounds s at e h is in
-        let m = length-take-le (e - 1 - at) (drop at s) (rw (length-drop at s) (omega arith)) in
-        let x = short (take (e - 1 - at) (drop at s)) (omega (arith, m)) in
-        rw (rows-at s at e h is, line-row s at e (b .0) (b .1)) (sym (go _ (eqb (getD s (e - 1) 0) 10) x))
-      where
-        go : (t : Str) (p : Bool) → reader (getD s at 0) t ≡ Bad → cond p (reader (getD s at 0)) badLine t ≡ Bad
-        go t true x = x
-        go t false x = refl
+    go : ((n : ℕ) → rowLen u ≡ suc n → suc n < length u → (u ≡ take n u ++ 10 ∷ drop (suc n) u) × (n ≤ length u))
+        → (t : Bool) → eqb b 10 ≡ t → (n : ℕ) → rowLen (b ∷ u) ≡ suc n → suc n < length (b ∷ u)
+        → (b ∷ u ≡ take n (b ∷ u) ++ 10 ∷ drop (suc n) (b ∷ u)) × (n ≤ length (b ∷ u))
+    go more true t zero e h = (ap (λ (c : ℕ). c ∷ u) (eqb-true b 10 t), omega arith)
+    go more true t (suc n) e h = let i = rw (rowLen, t) at e in let z : ⊥ = omega arith in absurd z
+    go more false t zero e h =
+        let i = rw (rowLen, t) at e in
+        let some = rowLen-some u (omega arith) in
+        let z : ⊥ = omega arith in
+        absurd z
+    go more false t (suc n) e h =
+        let i = rw (rowLen, t) at e in
+        let r = more n (omega arith) (omega arith) in
+        (ap (λ (x : Str). b ∷ x) (r .0), omega (arith, r .1))
 
-    -- no line ends at the first byte 10 past k bytes
-    pub bad-row :
-        (f : ℕ) → f ≡ at + k + rowLen (drop (at + k) s) → Bad ≡ lineOf (take (f - at) (drop at s))
-        → Bad ≡ lineAt (rows (drop at s))
+seam : (u x : Str) (n : ℕ) → length u ≡ n → getD (u ++ 10 ∷ x) n 0 ≡ 10
+seam [] x n e = rw (← e) refl
+seam (b ∷ u) x zero e = let z : ⊥ = omega arith in absurd z
+seam (b ∷ u) x (suc n) e = seam u x n (omega arith)
+
+-- ---- the line at a position, read to the first byte 10 past k bytes
+
+module _
+    (s : Str) (at e k : ℕ) (h : at + k < length s) (is : e ≡ at + k + rowLen (drop (at + k) s)) (last : getD s (e - 1) 0 ≡ 10)
+    (short : (u w : Str) → 0 < length u → length u < k → reader (getD s at 0) u ≡ reader (getD s at 0) (u ++ 10 ∷ w))
+  where
+    inside : at < length s
+    inside = omega arith
+
+    -- the row is no shorter
+    long-row : k < rowLen (drop at s) → lineOf (take (e - at) (drop at s)) ≡ lineAt (rows (drop at s))
     unfolding lineAt
-    bad-row f there bad = go (decLt k (rowLen (drop at s)))
+    long-row l =
+        let j = rw (drop-drop k at s) at (rowLen-past k (drop at s) l) in
+        let own : e ≡ at + rowLen (drop at s) = omega arith in
+        rw (rows-at s at e inside own) refl
+
+    -- a line of no byte has no letter, and any other has the same fault with more bytes
+    same-fault : (n : ℕ) (u w : Str) → length u ≡ n → n < k → getD (drop at s) n 0 ≡ 10
+        → reader (getD s at 0) (u ++ 10 ∷ w) ≡ reader (getD s at 0) u
+    unfolding reader
+    same-fault n u w l m ten = go (decLt 0 n)
       where
-        go : Dec (k < rowLen (drop at s)) → Bad ≡ lineAt (rows (drop at s))
-        go (no l) = short-row (omega (arith, row-bounds s at e h is))
-        go (yes l) =
-            let j : rowLen (drop at s) ≡ k + rowLen (drop (at + k) s) = rw (← drop-drop k at s) (rowLen-past k (drop at s) l) in
-            let same : f ≡ e = omega arith in
-            rw (rows-at s at e h is, ← same) bad
+        go : Dec (0 < n) → reader (getD s at 0) (u ++ 10 ∷ w) ≡ reader (getD s at 0) u
+        go (yes p) = sym (short u w (omega arith) (omega arith))
+        go (no p) =
+            let i : at + n ≡ at = omega arith in
+            let letter : getD s at 0 ≡ 10 = rw (getD-drop at s n 0, i) at ten in
+            rw letter refl
+
+    -- it is shorter: n bytes, a byte 10, and more
+    short-row : (n : ℕ) → rowLen (drop at s) ≡ suc n → suc n ≤ k → lineOf (take (e - at) (drop at s)) ≡ lineAt (rows (drop at s))
+    unfolding lineAt
+    short-row n m l =
+        let d : Str = drop at s in
+        let b = row-bounds s (at + k) e h is in
+        let ld : length d ≡ length s - at = length-drop at s in
+        let (cut, few) = row-split d n m (omega arith) in
+        let r : ℕ = at + suc n in
+        let own : r ≡ at + rowLen d = omega arith in
+        let u : Str = take n d in
+        let lu : length u ≡ n = length-take-le n d few in
+        let j : ℕ = e - 1 - at - suc n in
+        let w : Str = take j (drop (suc n) d) in
+        let long : e - 1 - at ≡ length u + suc j = omega (arith, b) in
+        let further : take (e - 1 - at) d ≡ u ++ 10 ∷ w =
+        ap (λ (x : ℕ). take x d) long ∙ ap (λ (x : Str). take (length u + suc j) x) cut
+        ∙ take-append-add u (10 ∷ drop (suc n) d) (suc j) in
+        let at-ten : getD d n 0 ≡ 10 = ap (λ (x : Str). getD x n 0) cut ∙ seam u (drop (suc n) d) n lu in
+        let there : r - 1 ≡ at + n = omega arith in
+        let ten : getD s (r - 1) 0 ≡ 10 = rw (there, ← getD-drop at s n 0) at-ten in
+        let here : r - 1 - at ≡ n = omega arith in
+        rw (
+          rows-at s at r inside own,
+          line-row s at e (omega (arith, b)) (b .1),
+          line-row s at r (omega arith) (omega arith),
+          eq-eqb _ _ last,
+          eq-eqb _ _ ten,
+          here,
+          further,
+        ) (same-fault n u w lu l at-ten)
+
+    pub read-so : lineOf (take (e - at) (drop at s)) ≡ lineAt (rows (drop at s))
+    read-so = go (decLt k (rowLen (drop at s)))
+      where
+        go : Dec (k < rowLen (drop at s)) → lineOf (take (e - at) (drop at s)) ≡ lineAt (rows (drop at s))
+        go (yes l) = long-row l
+        go (no l) =
+            let some = rowLen-some (drop at s) (rw (length-drop at s) (omega arith)) in
+            short-row (rowLen (drop at s) - 1) (omega arith) (omega arith)

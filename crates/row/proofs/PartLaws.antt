@@ -138,7 +138,7 @@ by-part (Field o d x p) e f g u = false-true e
 by-part (Group i d) e f g u = false-true e
 by-part (Value k b) e f g u = false-true e
 by-part (Word v) e f g u = false-true e
-by-part Bad e f g u = false-true e
+by-part (Bad x k) e f g u = false-true e
 
 -- past the end there is none
 pub part-none : (s : Str) (at : ℕ) → length s ≤ at → PartAt s at (record { owed = 0; next = at })

@@ -304,7 +304,7 @@ read-printed (Scope i b n) text f = scope-read i b n text f
 read-printed Unbound text f = unbound-read text f
 read-printed (Value k b) text f = value-read k b text f
 read-printed (Word v) text f = word-read v text f
-read-printed Bad text f = absurd f
+read-printed (Bad x k) text f = absurd f
 
 -- the text of a row printed, after its numbers and its space; and of a row without one
 text-after :
@@ -337,7 +337,7 @@ text-printed (Scope i b n) text f = text-no 83 (i ∷ b ∷ n ∷ []) refl ∙ s
 text-printed Unbound text f = text-no 85 [] refl ∙ sym f
 text-printed (Value k b) text f = text-no 86 (k ∷ b ∷ []) refl ∙ sym (f .2)
 text-printed (Word v) text f = text-no 87 (v ∷ []) refl ∙ sym (f .1)
-text-printed Bad text f = absurd f
+text-printed (Bad x k) text f = absurd f
 
 -- ---- a line printed has one byte 10, its last
 
@@ -419,4 +419,4 @@ rows-printed (Scope i b n) text rest f = first-row 83 _ [] rest (omega arith) re
 rows-printed Unbound text rest f = first-row 85 [] [] rest (omega arith) refl
 rows-printed (Value k b) text rest f = first-row 86 _ [] rest (omega arith) refl
 rows-printed (Word v) text rest f = first-row 87 _ [] rest (omega arith) refl
-rows-printed Bad text rest f = absurd f
+rows-printed (Bad x k) text rest f = absurd f

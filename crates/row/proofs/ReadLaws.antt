@@ -10,12 +10,12 @@ use lib.ListN.{length, getD, take, drop, drop-of-length-le}
 use lib.Seq.{take-length, take-suc}
 use borrow.Author.Tests.{eqb-true}
 use Rattle.text.specs.Bytes.{Str, cond, unit}
-use Rattle.column.specs.Number.{columnOf, padded}
+use Rattle.column.specs.Number.{padded}
 use Rattle.column.specs.Texts.{isName, isFieldName, isGraphicText}
 use Rattle.column.proofs.PaddedLaws.{Stands, column-stands, Ends, ends-stands}
 use Rattle.row.specs.Line.{rootLine, nodeLine, parameterLine, fieldLine, groupLine}
 use Rattle.row.specs.Line.{typeLine, scopeLine, unboundLine, valueLine, wordLine}
-use Rattle.row.specs.Line.{given, reader, badLine, lineOf, textStart, textOf}
+use Rattle.row.specs.Line.{Fault, withNumber, reader, noLine, badLine, lineOf, textStart, textOf}
 use Rattle.row.specs.Print.{columns, rowText, printLine, Fits}
 use Rattle.row.specs.Line.{Content, Root, Node, Parameter, Field, Group, Typ, Scope, Unbound, Value, Word, Bad}
 use Rattle.row.proofs.ColumnLaws.{by-number}
@@ -33,7 +33,7 @@ Good (Scope i b n) = Unit
 Good Unbound = Unit
 Good (Value k b) = Unit
 Good (Word v) = Unit
-Good Bad = ⊥
+Good (Bad x k) = ⊥
 
 -- row r is line l printed with its text, in the line's bounds
 pub record Printed (r : Str) (l : Content) : Type 0 where
@@ -43,19 +43,19 @@ pub record Printed (r : Str) (l : Content) : Type 0 where
 abbrev Told : Str → Content → Type 0
 Told r l = Good l → Printed r l
 
-told-bad : (r : Str) → Told r Bad
-told-bad r h = absurd h
+told-bad : (r : Str) (x : ℕ) (k : Fault) → Told r (Bad x k)
+told-bad r x k h = absurd h
 
 -- a line that goes on with a number, and one that goes on where a test holds
 module _ (r : Str) where
   on-column :
       (t : Str) (a least most : ℕ) (f : ℕ → Content) → ((v : ℕ) → Stands t a least most v → Told r (f v))
-      → Told r (given (columnOf t a least most) f)
-  on-column t a least most f g = by-number (Told r) _ f (told-bad r) λ v e. g v (column-stands t a least most v e)
+      → Told r (withNumber t a least most f)
+  on-column t a least most f g = by-number (Told r) t a _ f (told-bad r _ _) λ v e. g v (column-stands t a least most v e)
 
-  on-test : (b : Bool) (l : Content) → (b ≡ true → Told r l) → Told r (cond b l Bad)
-  on-test true l g = g refl
-  on-test false l g = told-bad r
+  on-test : (b : Bool) (l : Content) (x : ℕ) (k : Fault) → (b ≡ true → Told r l) → Told r (cond b l (Bad x k))
+  on-test true l x k g = g refl
+  on-test false l x k g = told-bad r x k
 
 -- what stands from a on: numbers, and an end
 record Rest (t : Str) (a : ℕ) (ns : List ℕ) (end : Str) : Type 0 where
@@ -91,7 +91,7 @@ unfolding rootLine textStart
 root-told u =
     let t : Str = 82 ∷ u in
     let r = t ++ unit 10 in
-    on-test r _ _ λ z _.
+    on-test r _ _ _ _ λ z _.
     let q = ends-stands (isGraphicText 64) t 1 z in
     printed-as 82 u [] (32 ∷ drop 2 t) (drop 2 t) Root
     (text-end q) (text-read t)
@@ -109,7 +109,7 @@ node-told u =
     on-column r t _ _ _ _ λ g c₄.
     on-column r t _ _ _ _ λ c c₅.
     on-column r t _ _ _ _ λ o c₆.
-    on-test r _ _ λ z _.
+    on-test r _ _ _ _ λ z _.
     let q = ends-stands (isGraphicText 128) t 148 z in
     printed-as 78 u (i ∷ p ∷ s ∷ x ∷ g ∷ c ∷ o ∷ []) (32 ∷ drop 149 t) (drop 149 t) (Node i p s x g c o)
     (c₀ then c₁ then c₂ then c₃ then c₄ then c₅ then c₆ then text-end q) (text-read t)
@@ -120,7 +120,7 @@ unfolding parameterLine textStart
 parameter-told u =
     let t : Str = 80 ∷ u in
     let r = t ++ unit 10 in
-    on-test r _ _ λ z _.
+    on-test r _ _ _ _ λ z _.
     let q = ends-stands isName t 1 z in
     printed-as 80 u [] (32 ∷ drop 2 t) (drop 2 t) Parameter
     (text-end q) (text-read t)
@@ -135,7 +135,7 @@ field-told u =
     on-column r t _ _ _ _ λ d c₁.
     on-column r t _ _ _ _ λ e c₂.
     on-column r t _ _ _ _ λ p c₃.
-    on-test r _ _ λ z _.
+    on-test r _ _ _ _ λ z _.
     let q = ends-stands isFieldName t 85 z in
     printed-as 70 u (o ∷ d ∷ e ∷ p ∷ []) (32 ∷ drop 86 t) (drop 86 t) (Field o d e p)
     (c₀ then c₁ then c₂ then c₃ then text-end q) (text-read t)
@@ -148,7 +148,7 @@ group-told u =
     let r = t ++ unit 10 in
     on-column r t _ _ _ _ λ i c₀.
     on-column r t _ _ _ _ λ d c₁.
-    on-test r _ _ λ z _.
+    on-test r _ _ _ _ λ z _.
     let q = ends-stands isFieldName t 43 z in
     printed-as 71 u (i ∷ d ∷ []) (32 ∷ drop 44 t) (drop 44 t) (Group i d)
     (c₀ then c₁ then text-end q) (text-read t)
@@ -163,7 +163,7 @@ type-told u =
     on-column r t _ _ _ _ λ a c₁.
     on-column r t _ _ _ _ λ b c₂.
     on-column r t _ _ _ _ λ c c₃.
-    on-test r _ _ λ z _.
+    on-test r _ _ _ _ λ z _.
     printed-as 84 u (k ∷ a ∷ b ∷ c ∷ []) [] [] (Typ k a b c)
     (c₀ then c₁ then c₂ then c₃ then no-end (eqb-true _ 85 z)) (text-read t)
     (c₀ .high, c₁ .high, c₂ .high, c₃ .high, refl) refl
@@ -176,7 +176,7 @@ scope-told u =
     on-column r t _ _ _ _ λ i c₀.
     on-column r t _ _ _ _ λ b c₁.
     on-column r t _ _ _ _ λ n c₂.
-    on-test r _ _ λ z _.
+    on-test r _ _ _ _ λ z _.
     printed-as 83 u (i ∷ b ∷ n ∷ []) [] [] (Scope i b n)
     (c₀ then c₁ then c₂ then no-end (eqb-true _ 64 z)) (text-read t)
     (c₀ .high, c₁ .high, c₂ .high, refl) refl
@@ -186,7 +186,7 @@ unfolding unboundLine textStart
 unbound-told u =
     let t : Str = 85 ∷ u in
     let r = t ++ unit 10 in
-    on-test r _ _ λ z _.
+    on-test r _ _ _ _ λ z _.
     printed-as 85 u [] [] [] Unbound
     (no-end (eqb-true _ 1 z)) (text-read t)
     refl refl
@@ -198,7 +198,7 @@ value-told u =
     let r = t ++ unit 10 in
     on-column r t _ _ _ _ λ k c₀.
     on-column r t _ _ _ _ λ b c₁.
-    on-test r _ _ λ z _.
+    on-test r _ _ _ _ λ z _.
     printed-as 86 u (k ∷ b ∷ []) [] [] (Value k b)
     (c₀ then c₁ then no-end (eqb-true _ 43 z)) (text-read t)
     (c₀ .high, c₁ .high, refl) refl
@@ -209,7 +209,7 @@ word-told u =
     let t : Str = 87 ∷ u in
     let r = t ++ unit 10 in
     on-column r t _ _ _ _ λ v c₀.
-    on-test r _ _ λ z _.
+    on-test r _ _ _ _ λ z _.
     printed-as 87 u (v ∷ []) [] [] (Word v)
     (c₀ then no-end (eqb-true _ 22 z)) (text-read t)
     (c₀ .high, refl) refl
@@ -237,18 +237,18 @@ reader-told b u =
     (by-letter b 83 u scopeLine _ scope-told
     (by-letter b 85 u unboundLine _ unbound-told
     (by-letter b 86 u valueLine _ value-told
-    (by-letter b 87 u wordLine badLine word-told (told-bad _))))))))))
+    (by-letter b 87 u wordLine badLine word-told (told-bad _ _ _))))))))))
 
-no-letter : lineOf (unit 10) ≡ Bad
+no-letter : lineOf (unit 10) ≡ noLine
 unfolding lineOf reader
 no-letter = refl
 
 line-told : (t : Str) → Told (t ++ unit 10) (lineOf (t ++ unit 10))
-line-told [] = rw no-letter (told-bad (unit 10))
+line-told [] = rw no-letter (told-bad (unit 10) _ _)
 line-told (b ∷ u) = rw (line-read (b ∷ u)) (reader-told b u)
 
 -- a row without byte 10
-line-open : (r : Str) → eqb (getD r (length r - 1) 0) 10 ≡ false → lineOf r ≡ Bad
+line-open : (r : Str) → eqb (getD r (length r - 1) 0) 10 ≡ false → lineOf r ≡ noLine
 unfolding lineOf
 line-open r e = rw e
 
@@ -269,7 +269,7 @@ row-told r = go (eqb (getD r (length r - 1) 0) 10) refl
 
     go : (p : Bool) → eqb (getD r (length r - 1) 0) 10 ≡ p → Told r (lineOf r)
     go true e = same r (take (length r - 1) r ++ unit 10) (row-split r (eqb-true _ 10 e)) (line-told (take (length r - 1) r))
-    go false e = rw (line-open r e) (told-bad r)
+    go false e = rw (line-open r e) (told-bad r _ _)
 
 -- a row that says a line is that line printed: `printed-line r (Field o d e p) tt e` for e : lineOf r ≡ Field o d e p
 pub printed-line : (r : Str) (l : Content) → Good l → lineOf r ≡ l → Printed r l

@@ -2,7 +2,7 @@
 use mathlib.Core.Path.{_≡_, refl}
 use mathlib.Core.List.{List, [], _∷_, _++_, map}
 use mathlib.Core.Option.{none, some}
-use Prim.Native.Nat.{_-_, _^_}
+use Prim.Native.Nat.{ℕ, _-_, _^_}
 use Prim.Native.String as S
 use lib.ListN.{length, replicate}
 use Rattle.text.specs.Bytes.{Str, ascii, unit}
@@ -17,6 +17,7 @@ use Rattle.row.specs.Line.{typeLine, scopeLine, unboundLine, valueLine, 
 use Rattle.row.specs.Line.{mostA, mostB, mostC, mostCount, mostBits, reader, lineOf, textStart, textOf}
 use Rattle.row.specs.Print.{columns, rowText, printLine}
 use Rattle.row.specs.Line.{Content, Root, Node, Parameter, Field, Group, Typ, Scope, Unbound, Value, Word, Bad}
+use Rattle.row.specs.Line.{fault, byte}
 
 -- texts, each right-justified in 21 columns
 justified : List S.String → Str
@@ -36,6 +37,14 @@ _says_ : Str → Content → Case
 r says l = record { bytes = r; says = l }
 
 infix 70 _says_
+-- a bad line: its letter, the number of the refusal and the column
+bad : S.String → ℕ → ℕ → Content
+bad letter number column = Bad (byte letter) (fault number column)
+
+-- no line: no letter, 2 at column 1
+nothing : Content
+nothing = Bad 0 (fault 2 1)
+
 -- 60 letters
 sixty : Str
 sixty = ascii "abcdefghijklmnopqrstuvwxyzabcdefghijklmnopqrstuvwxyzabcdefgh"
@@ -48,88 +57,127 @@ numbers : List Case
 numbers =
     row "W" ("0" ∷ []) "" says Word 0
     ∷ row "W" ("18446744073709551615" ∷ []) "" says Word (2 ^ 64 - 1)
-    ∷ row "W" ("18446744073709551616" ∷ []) "" says Bad
-    ∷ row "W" ("118446744073709551615" ∷ []) "" says Bad
-    ∷ row "W" ("07" ∷ []) "" says Bad
-    ∷ row "W" ("00" ∷ []) "" says Bad
-    ∷ row "W" ("+7" ∷ []) "" says Bad
-    ∷ row "W" ("7 7" ∷ []) "" says Bad
-    ∷ row "W" ("7 " ∷ []) "" says Bad
-    ∷ row "W" ("" ∷ []) "" says Bad
-    ∷ row "W" ("7" ∷ []) " " says Bad
-    ∷ row "W" [] "7" says Bad
+    ∷ row "W" ("18446744073709551616" ∷ []) "" says bad "W" 16 2
+    ∷ row "W" ("118446744073709551615" ∷ []) "" says bad "W" 16 2
+    ∷ row "W" ("07" ∷ []) "" says bad "W" 16 2
+    ∷ row "W" ("00" ∷ []) "" says bad "W" 16 2
+    ∷ row "W" ("+7" ∷ []) "" says bad "W" 16 2
+    ∷ row "W" ("7 7" ∷ []) "" says bad "W" 16 2
+    ∷ row "W" ("7 " ∷ []) "" says bad "W" 16 2
+    ∷ row "W" ("" ∷ []) "" says bad "W" 16 2
+    ∷ row "W" ("7" ∷ []) " " says bad "W" 17 23
+    ∷ row "W" [] "7" says bad "W" 16 2
     ∷ row "F" ("4294967295" ∷ "65535" ∷ "1" ∷ "1" ∷ []) " a" says Field (2 ^ 32 - 1) 65535 1 1
-    ∷ row "F" ("4294967296" ∷ "65535" ∷ "1" ∷ "1" ∷ []) " a" says Bad
-    ∷ row "F" ("3" ∷ "65536" ∷ "1" ∷ "0" ∷ []) " a" says Bad
-    ∷ row "F" ("3" ∷ "65535" ∷ "2" ∷ "0" ∷ []) " a" says Bad
+    ∷ row "F" ("4294967296" ∷ "65535" ∷ "1" ∷ "1" ∷ []) " a" says bad "F" 16 2
+    ∷ row "F" ("3" ∷ "65536" ∷ "1" ∷ "0" ∷ []) " a" says bad "F" 16 23
+    ∷ row "F" ("3" ∷ "65535" ∷ "2" ∷ "0" ∷ []) " a" says bad "F" 16 44
     ∷ row "N" ("7" ∷ "0" ∷ "0" ∷ "1" ∷ "0" ∷ "2" ∷ "4" ∷ []) " bed" says Node 7 0 0 1 0 2 4
-    ∷ row "N" ("0" ∷ "0" ∷ "0" ∷ "1" ∷ "0" ∷ "0" ∷ "0" ∷ []) " bed" says Bad
-    ∷ row "N" ("7" ∷ "0" ∷ "0" ∷ "1" ∷ "0" ∷ "65536" ∷ "0" ∷ []) " bed" says Bad
+    ∷ row "N" ("0" ∷ "0" ∷ "0" ∷ "1" ∷ "0" ∷ "0" ∷ "0" ∷ []) " bed" says bad "N" 16 2
+    ∷ row "N" ("7" ∷ "0" ∷ "0" ∷ "1" ∷ "0" ∷ "65536" ∷ "0" ∷ []) " bed" says bad "N" 16 107
     ∷ row "G" ("1" ∷ "0" ∷ []) " a" says Group 1 0
-    ∷ row "G" ("0" ∷ "0" ∷ []) " a" says Bad
+    ∷ row "G" ("0" ∷ "0" ∷ []) " a" says bad "G" 16 2
     ∷ []
 
+-- bounds that the numbers to the left set: the right one of two that disagree is bad
 kinds : List Case
 kinds =
     row "T" ("14" ∷ "0" ∷ "0" ∷ "0" ∷ []) "" says Typ 14 0 0 0
-    ∷ row "T" ("14" ∷ "1" ∷ "0" ∷ "0" ∷ []) "" says Bad
+    ∷ row "T" ("14" ∷ "1" ∷ "0" ∷ "0" ∷ []) "" says bad "T" 16 23
     ∷ row "T" ("16" ∷ "0" ∷ "2" ∷ "0" ∷ []) "" says Typ 16 0 2 0
-    ∷ row "T" ("16" ∷ "9" ∷ "2" ∷ "1" ∷ []) "" says Bad
+    ∷ row "T" ("16" ∷ "9" ∷ "2" ∷ "1" ∷ []) "" says bad "T" 16 65
     ∷ row "T" ("18" ∷ "0" ∷ "0" ∷ "0" ∷ []) "" says Typ 18 0 0 0
-    ∷ row "T" ("18" ∷ "0" ∷ "1" ∷ "0" ∷ []) "" says Bad
+    ∷ row "T" ("18" ∷ "0" ∷ "7" ∷ "0" ∷ []) "" says bad "T" 16 44
+    ∷ row "T" ("18" ∷ "0" ∷ "0" ∷ "1" ∷ []) "" says bad "T" 16 65
     ∷ row "T" ("18" ∷ "1" ∷ "18446744073709551615" ∷ "65535" ∷ []) "" says Typ 18 1 (2 ^ 64 - 1) 65535
-    ∷ row "T" ("18" ∷ "1" ∷ "7" ∷ "65536" ∷ []) "" says Bad
-    ∷ row "T" ("18" ∷ "2" ∷ "0" ∷ "0" ∷ []) "" says Bad
-    ∷ row "T" ("19" ∷ "0" ∷ "0" ∷ "0" ∷ []) "" says Bad
+    ∷ row "T" ("18" ∷ "1" ∷ "7" ∷ "65536" ∷ []) "" says bad "T" 16 65
+    ∷ row "T" ("18" ∷ "2" ∷ "0" ∷ "0" ∷ []) "" says bad "T" 16 23
+    ∷ row "T" ("19" ∷ "0" ∷ "0" ∷ "0" ∷ []) "" says bad "T" 16 2
     ∷ row "S" ("0" ∷ "1" ∷ "18446744073709551615" ∷ []) "" says Scope 0 1 (2 ^ 64 - 1)
     ∷ row "S" ("9" ∷ "0" ∷ "0" ∷ []) "" says Scope 9 0 0
-    ∷ row "S" ("9" ∷ "0" ∷ "1" ∷ []) "" says Bad
+    ∷ row "S" ("9" ∷ "0" ∷ "1" ∷ []) "" says bad "S" 16 44
     ∷ row "U" [] "" says Unbound
-    ∷ row "U" [] " " says Bad
+    ∷ row "U" [] " " says bad "U" 17 2
     ∷ row "V" ("0" ∷ "0" ∷ []) "" says Value 0 0
-    ∷ row "V" ("0" ∷ "1" ∷ []) "" says Bad
+    ∷ row "V" ("0" ∷ "1" ∷ []) "" says bad "V" 16 23
     ∷ row "V" ("1" ∷ "1" ∷ []) "" says Value 1 1
-    ∷ row "V" ("1" ∷ "2" ∷ []) "" says Bad
+    ∷ row "V" ("1" ∷ "2" ∷ []) "" says bad "V" 16 23
     ∷ row "V" ("2" ∷ "251" ∷ []) "" says Value 2 251
-    ∷ row "V" ("6" ∷ "256" ∷ []) "" says Bad
+    ∷ row "V" ("6" ∷ "256" ∷ []) "" says bad "V" 16 23
     ∷ row "V" ("10" ∷ "4294967295" ∷ []) "" says Value 10 4294967295
-    ∷ row "V" ("10" ∷ "4294967296" ∷ []) "" says Bad
+    ∷ row "V" ("10" ∷ "4294967296" ∷ []) "" says bad "V" 16 23
     ∷ row "V" ("15" ∷ "65535" ∷ []) "" says Value 15 65535
-    ∷ row "V" ("15" ∷ "65536" ∷ []) "" says Bad
-    ∷ row "V" ("16" ∷ "1" ∷ []) "" says Bad
+    ∷ row "V" ("15" ∷ "65536" ∷ []) "" says bad "V" 16 23
+    ∷ row "V" ("16" ∷ "1" ∷ []) "" says bad "V" 16 23
     ∷ []
 
 texts : List Case
 texts =
     row "P" [] " _T9" says Parameter
-    ∷ row "P" [] " 9T" says Bad
-    ∷ row "P" [] " " says Bad
-    ∷ row "P" [] "  T" says Bad
-    ∷ row "P" [] "T" says Bad
-    ∷ row "P" [] " T:" says Bad
+    ∷ row "P" [] " 9T" says bad "P" 17 3
+    ∷ row "P" [] " " says bad "P" 17 3
+    ∷ row "P" [] "  T" says bad "P" 17 3
+    ∷ row "P" [] "T" says bad "P" 17 2
+    ∷ row "P" [] " T:" says bad "P" 17 3
     ∷ row "R" [] " ::capnp" says Root
-    ∷ row "R" [] " a b" says Bad
+    ∷ row "R" [] " a b" says bad "R" 17 3
     -- letters with accents (N2), in F and G lines alone; a torn one
     ∷ row "F" ("0" ∷ "0" ∷ "0" ∷ "0" ∷ []) " étatÄ" says Field 0 0 0 0
     ∷ row "G" ("9" ∷ "0" ∷ []) " Übergabe" says Group 9 0
-    ∷ row "F" ("0" ∷ "0" ∷ "0" ∷ "0" ∷ []) " a×" says Bad
-    ∷ (ascii "G" ++ justified ("9" ∷ "0" ∷ []) ++ ascii " a" ++ unit 0xC3 ++ unit 10) says Bad
-    ∷ row "P" [] " é" says Bad
-    ∷ row "R" [] " é" says Bad
-    ∷ (node ++ utf8 "é" ++ unit 10) says Bad
+    ∷ row "F" ("0" ∷ "0" ∷ "0" ∷ "0" ∷ []) " a×" says bad "F" 17 87
+    ∷ (ascii "G" ++ justified ("9" ∷ "0" ∷ []) ++ ascii " a" ++ unit 0xC3 ++ unit 10) says bad "G" 17 45
+    ∷ row "P" [] " é" says bad "P" 17 3
+    ∷ row "R" [] " é" says bad "R" 17 3
+    ∷ (node ++ utf8 "é" ++ unit 10) says bad "N" 17 150
     ∷ (ascii "P " ++ sixty ++ ascii "abcd" ++ unit 10) says Parameter
-    ∷ (ascii "P " ++ sixty ++ ascii "abcde" ++ unit 10) says Bad
+    ∷ (ascii "P " ++ sixty ++ ascii "abcde" ++ unit 10) says bad "P" 17 3
     ∷ (ascii "R " ++ sixty ++ ascii "abcd" ++ unit 10) says Root
-    ∷ (ascii "R " ++ sixty ++ ascii "abcde" ++ unit 10) says Bad
+    ∷ (ascii "R " ++ sixty ++ ascii "abcde" ++ unit 10) says bad "R" 17 3
     ∷ (node ++ sixty ++ sixty ++ ascii "abcdefgh" ++ unit 10) says Node 7 0 0 0 1 0 0
-    ∷ (node ++ sixty ++ sixty ++ ascii "abcdefghi" ++ unit 10) says Bad
+    ∷ (node ++ sixty ++ sixty ++ ascii "abcdefghi" ++ unit 10) says bad "N" 17 150
     ∷ (ascii "R r" ++ unit 126 ++ unit 10) says Root
-    ∷ (ascii "R r" ++ unit 127 ++ unit 10) says Bad
-    ∷ ascii "U" says Bad
-    ∷ ascii "R r" says Bad
-    ∷ unit 10 says Bad
-    ∷ row "K" [] " a" says Bad
-    ∷ row "u" [] "" says Bad
+    ∷ (ascii "R r" ++ unit 127 ++ unit 10) says bad "R" 17 3
+    ∷ []
+
+-- where a line is bad (N5)
+faults : List Case
+faults =
+    -- too short for a number: at that number, which may lie past the line
+    row "T" [] "" says bad "T" 16 2
+    ∷ row "T" ("18" ∷ "0" ∷ []) "" says bad "T" 16 44
+    ∷ row "T" ("18" ∷ "0" ∷ "0" ∷ []) "                   0" says bad "T" 16 65
+    ∷ row "N" ("7" ∷ "0" ∷ "0" ∷ "1" ∷ "0" ∷ "2" ∷ []) " bed" says bad "N" 16 128
+    -- no space before a text: the line ends there, or another byte stands there
+    ∷ row "R" [] "" says bad "R" 17 2
+    ∷ row "P" [] "" says bad "P" 17 2
+    ∷ row "F" ("3" ∷ "0" ∷ "1" ∷ "0" ∷ []) "" says bad "F" 17 86
+    ∷ row "F" ("3" ∷ "0" ∷ "1" ∷ "0" ∷ []) "_a" says bad "F" 17 86
+    ∷ row "G" ("1" ∷ "0" ∷ []) "" says bad "G" 17 44
+    ∷ row "N" ("7" ∷ "0" ∷ "0" ∷ "1" ∷ "0" ∷ "2" ∷ "4" ∷ []) "_bed" says bad "N" 17 149
+    -- an empty text, and a second space: one column further
+    ∷ row "R" [] " " says bad "R" 17 3
+    ∷ row "F" ("3" ∷ "0" ∷ "1" ∷ "0" ∷ []) " " says bad "F" 17 87
+    ∷ row "G" ("1" ∷ "0" ∷ []) "  a" says bad "G" 17 45
+    ∷ row "N" ("7" ∷ "0" ∷ "0" ∷ "1" ∷ "0" ∷ "2" ∷ "4" ∷ []) "  bed" says bad "N" 17 150
+    -- surplus bytes on a line without a text, byte 13 too
+    ∷ row "T" ("1" ∷ "0" ∷ "0" ∷ "0" ∷ []) " a" says bad "T" 17 86
+    ∷ row "S" ("9" ∷ "0" ∷ "0" ∷ []) "0" says bad "S" 17 65
+    ∷ row "V" ("1" ∷ "1" ∷ "0" ∷ []) "" says bad "V" 17 44
+    ∷ (ascii "U" ++ unit 13 ++ unit 10) says bad "U" 17 2
+    ∷ (ascii "W" ++ justified ("7" ∷ []) ++ unit 13 ++ unit 10) says bad "W" 17 23
+    -- two faults: the leftmost, a number or the text
+    ∷ row "G" ("0" ∷ "65536" ∷ []) " a" says bad "G" 16 2
+    ∷ row "F" ("3" ∷ "65536" ∷ "1" ∷ "2" ∷ []) " 9" says bad "F" 16 23
+    ∷ row "G" ("9" ∷ "65536" ∷ []) "a" says bad "G" 16 23
+    ∷ row "G" ("9" ∷ "65535" ∷ []) " 9" says bad "G" 17 45
+    ∷ row "W" ("07" ∷ []) " " says bad "W" 16 2
+    -- no line: another letter, none, and no byte 10
+    ∷ row "K" [] " a" says nothing
+    ∷ row "u" [] "" says nothing
+    ∷ row "t" ("19" ∷ []) " a" says nothing
+    ∷ unit 10 says nothing
+    ∷ ascii "U" says nothing
+    ∷ ascii "R r" says nothing
+    ∷ (ascii "W" ++ justified ("07" ∷ [])) says nothing
     ∷ []
 
 readAll : List Case → List Content
@@ -138,10 +186,10 @@ readAll cs = map (λ c. lineOf (c .bytes)) cs
 expected : List Case → List Content
 expected cs = map (λ c. c .says) cs
 
-all-cases : readAll (numbers ++ kinds ++ texts) ≡ expected (numbers ++ kinds ++ texts)
-unfolding justified row _says_ sixty node numbers kinds texts readAll expected trimmed digits unpadded columnOf isWord
-    isGraphic all areChars isName isFieldName isGraphicText endsIn rootLine nodeLine parameterLine fieldLine groupLine
-    typeLine scopeLine unboundLine valueLine wordLine mostA mostB mostC mostCount mostBits reader lineOf
+all-cases : readAll (numbers ++ kinds ++ texts ++ faults) ≡ expected (numbers ++ kinds ++ texts ++ faults)
+unfolding justified row _says_ bad nothing sixty node numbers kinds texts faults readAll expected trimmed digits unpadded
+    columnOf isWord isGraphic all areChars isName isFieldName isGraphicText endsIn rootLine nodeLine parameterLine fieldLine
+    groupLine typeLine scopeLine unboundLine valueLine wordLine mostA mostB mostC mostCount mostBits reader lineOf
 all-cases = refl
 
 -- document 01's example: the rows of the sheet, what each says, its text; and the same printed
@@ -178,8 +226,8 @@ unfolding justified row sheet lines names printedAll decimal padded columns rowT
 sheet-printed = refl
 
 -- a last row without byte 10, and the number of each row
-torn : map lineOf (rows (row "U" [] "" ++ ascii "U")) ≡ Unbound ∷ Bad ∷ []
-unfolding justified row rows onto unboundLine reader lineOf
+torn : map lineOf (rows (row "U" [] "" ++ ascii "U")) ≡ Unbound ∷ nothing ∷ []
+unfolding justified row nothing rows onto unboundLine reader lineOf
 torn = refl
 
 second : lineNo (row "U" [] "" ++ ascii "U") (rows (ascii "U")) ≡ 2

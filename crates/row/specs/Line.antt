@@ -1,8 +1,10 @@
--- What a row says: a letter, its numbers in 21 columns each, one space and a text where one belongs, then byte 10.
--- Assumes nothing.
+-- What a row says: a letter, its numbers in 21 columns each, one space and a text where one belongs, then byte 10. Each letter's
+-- line is read from left to right, and the first that is not as document 01 has it gives the fault: 16 for a number, 17 for a
+-- text or surplus bytes, with its column (N5). Assumes nothing.
+use mathlib.Core.Bool.{Bool}
 use mathlib.Core.List.{List, [], _∷_}
 use mathlib.Core.Option.{Option, none, some}
-use Prim.Native.Nat.{ℕ, _-_}
+use Prim.Native.Nat.{ℕ, _+_, _-_}
 use Prim.Native.Char.{code}
 use Prim.Native.String as S
 use lib.Dec.{eqb, ltb}
@@ -13,7 +15,20 @@ use Rattle.column.specs.Texts.{endsIn, isName, isFieldName, isGraphicText}
 use Rattle.row.specs.declared.Line.{Line}
 use Rattle.row.specs.declared.Line.the-variants as line
 
--- what a row says: the numbers of each letter's line; where no such line stands, or nothing, it is bad
+-- what is wrong with a line: document 01's number of the refusal, and the column, in bytes from 1
+pub record Fault : Type 0 where
+  pub number : ℕ
+  pub column : ℕ
+
+abbrev pub fault : ℕ → ℕ → Fault
+fault k c = record { number = k; column = c }
+
+-- 2, a line that may not stand where it stands, or no line
+abbrev pub misplaced : Fault
+misplaced = fault 2 1
+
+-- what a row says: the numbers of each letter's line; or the letter of a bad line and its fault, with 0 for the letter where no
+-- such line stands, or nothing
 pub data Content : Type 0 where
   Root : Content
   Node : ℕ → ℕ → ℕ → ℕ → ℕ → ℕ → ℕ → Content
@@ -25,7 +40,7 @@ pub data Content : Type 0 where
   Unbound : Content
   Value : ℕ → ℕ → Content
   Word : ℕ → Content
-  Bad : Content
+  Bad : ℕ → Fault → Content
 
 -- what an answer of the code gives
 unfoldable pub lineSaid : Line → Content
@@ -40,53 +55,73 @@ lineSaid (line.Scope id bind count) = Scope id bind count
 lineSaid line.Unbound = Unbound
 lineSaid (line.Value kind bits) = Value kind bits
 lineSaid (line.Word value) = Word value
-lineSaid line.Bad = Bad
+lineSaid (line.Bad letter number column) = Bad letter (fault number column)
 
 -- the byte of a letter
 abbrev pub byte : S.String → ℕ
 byte S.[] = 0
 byte (S._∷_ c s) = code c
 
--- the line goes on with the number, or is bad
-abbrev pub given : Option ℕ → (ℕ → Content) → Content
-given (some v) f = f v
-given none f = Bad
+-- the letter of a line
+abbrev pub letterOf : Str → ℕ
+letterOf t = getD t 0 0
+
+-- the line t goes on with the number, or has a bad one in the columns from place a on, which are counted from 1: 16
+abbrev pub given : Str → ℕ → Option ℕ → (ℕ → Content) → Content
+given t a (some v) f = f v
+given t a none f = Bad (letterOf t) (fault 16 (a + 1))
+
+-- the line t has a number from least to most in the 21 columns from place a on, and goes on with it
+abbrev pub withNumber : Str → ℕ → ℕ → ℕ → (ℕ → Content) → Content
+withNumber t a least most f = given t a (columnOf t a least most) f
+
+-- 17: a space that is missing at place a, or a bad text after it
+abbrev pub badText : Str → ℕ → Fault
+badText t a = fault 17 (cond (eqb (getD t a 0) 32) (a + 2) (a + 1))
+
+-- the line t ends in one space at place a and a text that passes a test
+abbrev pub withText : (Str → Bool) → Str → ℕ → Content → Content
+withText ok t a line = cond (endsIn ok t a) line (Bad (letterOf t) (badText t a))
+
+-- the line t ends before place a; what stands there is surplus: 17
+abbrev pub withNothing : Str → ℕ → Content → Content
+withNothing t a line = cond (eqb (length t) a) line (Bad (letterOf t) (fault 17 (a + 1)))
 
 -- R: the root, 1 to 64 bytes 33 to 126
 unfoldable pub rootLine : Str → Content
-rootLine t = cond (endsIn (isGraphicText 64) t 1) Root Bad
+rootLine t = withText (isGraphicText 64) t 1 Root
 
 -- N: id (1 or more), parent, scope id, struct, generic, tag count, tag offset; the module, 1 to 128 bytes 33 to 126
 unfoldable pub nodeLine : Str → Content
 nodeLine t =
-    given (columnOf t 1 1 (most 64)) λ id.
-    given (columnOf t 22 0 (most 64)) λ parent.
-    given (columnOf t 43 0 (most 64)) λ scope.
-    given (columnOf t 64 0 1) λ isStruct.
-    given (columnOf t 85 0 1) λ generic.
-    given (columnOf t 106 0 (most 16)) λ tagCount.
-    given (columnOf t 127 0 (most 32)) λ tagOffset.
-    cond (endsIn (isGraphicText 128) t 148) (Node id parent scope isStruct generic tagCount tagOffset) Bad
+    withNumber t 1 1 (most 64) λ id.
+    withNumber t 22 0 (most 64) λ parent.
+    withNumber t 43 0 (most 64) λ scope.
+    withNumber t 64 0 1 λ isStruct.
+    withNumber t 85 0 1 λ generic.
+    withNumber t 106 0 (most 16) λ tagCount.
+    withNumber t 127 0 (most 32) λ tagOffset.
+    withText (isGraphicText 128) t 148 (Node id parent scope isStruct generic tagCount tagOffset)
 
 -- P: the parameter's name
 unfoldable pub parameterLine : Str → Content
-parameterLine t = cond (endsIn isName t 1) Parameter Bad
+parameterLine t = withText isName t 1 Parameter
 
 -- F: offset, discriminant value, explicit, option; the field's name
 unfoldable pub fieldLine : Str → Content
 fieldLine t =
-    given (columnOf t 1 0 (most 32)) λ offset.
-    given (columnOf t 22 0 (most 16)) λ discriminant.
-    given (columnOf t 43 0 1) λ explicit.
-    given (columnOf t 64 0 1) λ option.
-    cond (endsIn isFieldName t 85) (Field offset discriminant explicit option) Bad
+    withNumber t 1 0 (most 32) λ offset.
+    withNumber t 22 0 (most 16) λ discriminant.
+    withNumber t 43 0 1 λ explicit.
+    withNumber t 64 0 1 λ option.
+    withText isFieldName t 85 (Field offset discriminant explicit option)
 
 -- G: group id (1 or more), discriminant value; the field's name
 unfoldable pub groupLine : Str → Content
 groupLine t =
-    given (columnOf t 1 1 (most 64)) λ id.
-    given (columnOf t 22 0 (most 16)) λ discriminant.
-    cond (endsIn isFieldName t 43) (Group id discriminant) Bad
+    withNumber t 1 1 (most 64) λ id.
+    withNumber t 22 0 (most 16) λ discriminant.
+    withText isFieldName t 43 (Group id discriminant)
 
 -- T's a by the kind: an id for kinds 15 to 17, 0 or 1 for kind 18, otherwise 0
 unfoldable pub mostA : ℕ → ℕ
@@ -103,11 +138,11 @@ mostC kind a = cond (ltb kind 18) 0 (cond (eqb a 0) 0 (most 16))
 -- T: kind, a, b, c
 unfoldable pub typeLine : Str → Content
 typeLine t =
-    given (columnOf t 1 0 18) λ kind.
-    given (columnOf t 22 0 (mostA kind)) λ a.
-    given (columnOf t 43 0 (mostB kind a)) λ b.
-    given (columnOf t 64 0 (mostC kind a)) λ c.
-    cond (eqb (length t) 85) (Typ kind a b c) Bad
+    withNumber t 1 0 18 λ kind.
+    withNumber t 22 0 (mostA kind) λ a.
+    withNumber t 43 0 (mostB kind a) λ b.
+    withNumber t 64 0 (mostC kind a) λ c.
+    withNothing t 85 (Typ kind a b c)
 
 -- S's bindings: none under inherit (0), any number under bind (1)
 unfoldable pub mostCount : ℕ → ℕ
@@ -116,14 +151,14 @@ mostCount bind = cond (eqb bind 0) 0 (most 64)
 -- S: scope id, 0 inherit or 1 bind, bindings
 unfoldable pub scopeLine : Str → Content
 scopeLine t =
-    given (columnOf t 1 0 (most 64)) λ id.
-    given (columnOf t 22 0 1) λ bind.
-    given (columnOf t 43 0 (mostCount bind)) λ count.
-    cond (eqb (length t) 64) (Scope id bind count) Bad
+    withNumber t 1 0 (most 64) λ id.
+    withNumber t 22 0 1 λ bind.
+    withNumber t 43 0 (mostCount bind) λ count.
+    withNothing t 64 (Scope id bind count)
 
 -- U
 unfoldable pub unboundLine : Str → Content
-unboundLine t = cond (eqb (length t) 1) Unbound Bad
+unboundLine t = withNothing t 1 Unbound
 
 -- the widths, in bits, of the values of kinds 0 to 18: Void, Bool, Int8 to Int64, Uint8 to Uint64, Float32, Float64,
 -- Text, Data, List, Enum, Struct, Interface, AnyPointer
@@ -137,16 +172,20 @@ mostBits kind = most (getD widths kind 0)
 -- V: kind, bits
 unfoldable pub valueLine : Str → Content
 valueLine t =
-    given (columnOf t 1 0 18) λ kind.
-    given (columnOf t 22 0 (mostBits kind)) λ bits.
-    cond (eqb (length t) 43) (Value kind bits) Bad
+    withNumber t 1 0 18 λ kind.
+    withNumber t 22 0 (mostBits kind) λ bits.
+    withNothing t 43 (Value kind bits)
 
 -- W: eight bytes as a little-endian value
 unfoldable pub wordLine : Str → Content
-wordLine t = given (columnOf t 1 0 (most 64)) λ value. cond (eqb (length t) 22) (Word value) Bad
+wordLine t = withNumber t 1 0 (most 64) λ value. withNothing t 22 (Word value)
+
+-- no line: another letter, none, or no byte 10
+abbrev pub noLine : Content
+noLine = Bad 0 misplaced
 
 abbrev pub badLine : Str → Content
-badLine t = Bad
+badLine t = noLine
 
 -- the reader of the lines with a letter
 unfoldable pub reader : ℕ → Str → Content
@@ -170,9 +209,9 @@ front r = take (length r - 1) r
 unfoldable pub lineOf : Str → Content
 lineOf r = cond (eqb (getD r (length r - 1) 0) 10) (reader (getD r 0 0)) badLine (front r)
 
--- what the first row says; where there is none, the line is bad
+-- what the first row says; where there is none, there is no line
 unfoldable pub lineAt : List Str → Content
-lineAt [] = Bad
+lineAt [] = noLine
 lineAt (r ∷ rs) = lineOf r
 
 -- where the text of a line with a letter begins, after its numbers and a space; 0 for a line without a text
@@ -197,7 +236,7 @@ textAt (r ∷ rs) = textOf r
 abbrev pub cases :
     {A : Type 0}
     → A → (ℕ → ℕ → ℕ → ℕ → ℕ → ℕ → ℕ → A) → A → (ℕ → ℕ → ℕ → ℕ → A) → (ℕ → ℕ → A)
-    → (ℕ → ℕ → ℕ → ℕ → A) → (ℕ → ℕ → ℕ → A) → A → (ℕ → ℕ → A) → (ℕ → A) → A → Content → A
+    → (ℕ → ℕ → ℕ → ℕ → A) → (ℕ → ℕ → ℕ → A) → A → (ℕ → ℕ → A) → (ℕ → A) → (ℕ → Fault → A) → Content → A
 cases r n p f g t s u v w z Root = r
 cases r n p f g t s u v w z (Node i q k x y c o) = n i q k x y c o
 cases r n p f g t s u v w z Parameter = p
@@ -208,35 +247,41 @@ cases r n p f g t s u v w z (Scope i b c) = s i b c
 cases r n p f g t s u v w z Unbound = u
 cases r n p f g t s u v w z (Value k b) = v k b
 cases r n p f g t s u v w z (Word x) = w x
-cases r n p f g t s u v w z Bad = z
+cases r n p f g t s u v w z (Bad x k) = z x k
 
 -- each letter alone: y for its lines, z for all others
 abbrev pub asRoot : {A : Type 0} → Content → A → A → A
-asRoot l y z = cases y (λ _ _ _ _ _ _ _. z) z (λ _ _ _ _. z) (λ _ _. z) (λ _ _ _ _. z) (λ _ _ _. z) z (λ _ _. z) (λ _. z) z l
+asRoot l y z = cases y (λ _ _ _ _ _ _ _. z) z (λ _ _ _ _. z) (λ _ _. z) (λ _ _ _ _. z) (λ _ _ _. z) z (λ _ _. z) (λ _. z) (λ _ _. z) l
 
 abbrev pub asNode : {A : Type 0} → Content → (ℕ → ℕ → ℕ → ℕ → ℕ → ℕ → ℕ → A) → A → A
-asNode l y z = cases z y z (λ _ _ _ _. z) (λ _ _. z) (λ _ _ _ _. z) (λ _ _ _. z) z (λ _ _. z) (λ _. z) z l
+asNode l y z = cases z y z (λ _ _ _ _. z) (λ _ _. z) (λ _ _ _ _. z) (λ _ _ _. z) z (λ _ _. z) (λ _. z) (λ _ _. z) l
 
 abbrev pub asParameter : {A : Type 0} → Content → A → A → A
-asParameter l y z = cases z (λ _ _ _ _ _ _ _. z) y (λ _ _ _ _. z) (λ _ _. z) (λ _ _ _ _. z) (λ _ _ _. z) z (λ _ _. z) (λ _. z) z l
+asParameter l y z = cases z (λ _ _ _ _ _ _ _. z) y (λ _ _ _ _. z) (λ _ _. z) (λ _ _ _ _. z) (λ _ _ _. z) z (λ _ _. z) (λ _. z) (λ _ _. z) l
 
 abbrev pub asField : {A : Type 0} → Content → (ℕ → ℕ → ℕ → ℕ → A) → A → A
-asField l y z = cases z (λ _ _ _ _ _ _ _. z) z y (λ _ _. z) (λ _ _ _ _. z) (λ _ _ _. z) z (λ _ _. z) (λ _. z) z l
+asField l y z = cases z (λ _ _ _ _ _ _ _. z) z y (λ _ _. z) (λ _ _ _ _. z) (λ _ _ _. z) z (λ _ _. z) (λ _. z) (λ _ _. z) l
 
 abbrev pub asGroup : {A : Type 0} → Content → (ℕ → ℕ → A) → A → A
-asGroup l y z = cases z (λ _ _ _ _ _ _ _. z) z (λ _ _ _ _. z) y (λ _ _ _ _. z) (λ _ _ _. z) z (λ _ _. z) (λ _. z) z l
+asGroup l y z = cases z (λ _ _ _ _ _ _ _. z) z (λ _ _ _ _. z) y (λ _ _ _ _. z) (λ _ _ _. z) z (λ _ _. z) (λ _. z) (λ _ _. z) l
 
 abbrev pub asType : {A : Type 0} → Content → (ℕ → ℕ → ℕ → ℕ → A) → A → A
-asType l y z = cases z (λ _ _ _ _ _ _ _. z) z (λ _ _ _ _. z) (λ _ _. z) y (λ _ _ _. z) z (λ _ _. z) (λ _. z) z l
+asType l y z = cases z (λ _ _ _ _ _ _ _. z) z (λ _ _ _ _. z) (λ _ _. z) y (λ _ _ _. z) z (λ _ _. z) (λ _. z) (λ _ _. z) l
 
 abbrev pub asScope : {A : Type 0} → Content → (ℕ → ℕ → ℕ → A) → A → A
-asScope l y z = cases z (λ _ _ _ _ _ _ _. z) z (λ _ _ _ _. z) (λ _ _. z) (λ _ _ _ _. z) y z (λ _ _. z) (λ _. z) z l
+asScope l y z = cases z (λ _ _ _ _ _ _ _. z) z (λ _ _ _ _. z) (λ _ _. z) (λ _ _ _ _. z) y z (λ _ _. z) (λ _. z) (λ _ _. z) l
 
 abbrev pub asUnbound : {A : Type 0} → Content → A → A → A
-asUnbound l y z = cases z (λ _ _ _ _ _ _ _. z) z (λ _ _ _ _. z) (λ _ _. z) (λ _ _ _ _. z) (λ _ _ _. z) y (λ _ _. z) (λ _. z) z l
+asUnbound l y z = cases z (λ _ _ _ _ _ _ _. z) z (λ _ _ _ _. z) (λ _ _. z) (λ _ _ _ _. z) (λ _ _ _. z) y (λ _ _. z) (λ _. z) (λ _ _. z) l
 
 abbrev pub asValue : {A : Type 0} → Content → (ℕ → ℕ → A) → A → A
-asValue l y z = cases z (λ _ _ _ _ _ _ _. z) z (λ _ _ _ _. z) (λ _ _. z) (λ _ _ _ _. z) (λ _ _ _. z) z y (λ _. z) z l
+asValue l y z = cases z (λ _ _ _ _ _ _ _. z) z (λ _ _ _ _. z) (λ _ _. z) (λ _ _ _ _. z) (λ _ _ _. z) z y (λ _. z) (λ _ _. z) l
 
 abbrev pub asWord : {A : Type 0} → Content → (ℕ → A) → A → A
-asWord l y z = cases z (λ _ _ _ _ _ _ _. z) z (λ _ _ _ _. z) (λ _ _. z) (λ _ _ _ _. z) (λ _ _ _. z) z (λ _ _. z) y z l
+asWord l y z = cases z (λ _ _ _ _ _ _ _. z) z (λ _ _ _ _. z) (λ _ _. z) (λ _ _ _ _. z) (λ _ _ _. z) z (λ _ _. z) y (λ _ _. z) l
+
+-- the fault of a bad line with a letter, if that is what stands there
+abbrev pub faultOf : ℕ → Content → Option Fault
+faultOf letter l =
+    cases none (λ _ _ _ _ _ _ _. none) none (λ _ _ _ _. none) (λ _ _. none) (λ _ _ _ _. none) (λ _ _ _. none) none (λ _ _. none)
+    (λ _. none) (λ x k. cond (eqb x letter) (some k) none) l

@@ -66,7 +66,7 @@ printLine (Scope i b n) text = printScope i b n
 printLine Unbound text = printUnbound
 printLine (Value k b) text = printValue k b
 printLine (Word v) text = printWord v
-printLine Bad text = []
+printLine (Bad x k) text = []
 
 -- document 01's bounds for a line and its text; a line without a text has an empty one
 abbrev pub Fits : Content → Str → Type 0
@@ -82,4 +82,4 @@ Fits (Scope i b n) text = (i ≤ most 64) × (b ≤ 1) × (n ≤ mostCount b) ×
 Fits Unbound text = text ≡ []
 Fits (Value k b) text = (k ≤ 18) × (b ≤ mostBits k) × (text ≡ [])
 Fits (Word v) text = (v ≤ most 64) × (text ≡ [])
-Fits Bad text = ⊥
+Fits (Bad x k) text = ⊥

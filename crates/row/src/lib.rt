@@ -1,58 +1,23 @@
 // Rows of a sheet: where a row ends, what it says, and the text that it has.
 mod ends;
+mod lines;
 mod parts;
 
-use column::Number;
 pub use ends::Newline;
 pub use ends::find_newline;
 use ends::line_end;
 pub use ends::row_end;
+use lines::no_line;
+use lines::read;
 pub use parts::part;
-use terms::kinds;
-use terms::limits;
 ghost use mathlib.Core.Path.{_≡_};
-ghost use mathlib.Core.List.{_++_};
+ghost use mathlib.Core.List.{_∷_, _++_};
 ghost use Prim.Native.Nat.{_+_, _-_, _*_, _≤_, _<_};
 ghost use lib.ListN.{take, drop, length};
 ghost use Rattle.row.specs.Rows.{rowLen, rows, joined, restOf, lineNo, unboundRows};
-ghost use Rattle.row.specs.Line.{rootLine, nodeLine, parameterLine, fieldLine, groupLine};
-ghost use Rattle.row.specs.Line.{typeLine, scopeLine, unboundLine, valueLine, wordLine};
-ghost use Rattle.row.specs.Line.{Bad, lineSaid, mostA, mostB, mostC, mostCount, mostBits, reader, lineOf, lineAt};
-ghost use Rattle.row.specs.Line.{textStart, textAt};
-ghost use Rattle.row.specs.Span.{SpanWithin, spanned, spanTo, spanBetween, textBetween};
+ghost use Rattle.row.specs.Line.{lineSaid, reader, lineOf, lineAt, textStart, textAt};
 ghost use Rattle.text.specs.Bytes.{Str};
-
-// The greatest numbers of 32 and 16 bits.
-const MOST_32: u64 = 0xffff_ffff;
-
-const MOST_16: u64 = 0xffff;
-
-// How many kinds there are.
-const KINDS: usize = 19;
-
-// The greatest bits of a value of each kind: Void, Bool, Int8 to Int64, Uint8 to Uint64, Float32, Float64, Text, Data, List,
-// Enum, Struct, Interface, AnyPointer.
-const MOST_BITS: [u64; KINDS] = [
-    0,
-    1,
-    0xff,
-    MOST_16,
-    MOST_32,
-    u64::MAX,
-    0xff,
-    MOST_16,
-    MOST_32,
-    u64::MAX,
-    MOST_32,
-    u64::MAX,
-    0,
-    0,
-    0,
-    MOST_16,
-    0,
-    0,
-    0,
-];
+ghost use Rattle.row.specs.Span.{SpanWithin, spanned, spanTo, spanBetween, textBetween};
 
 // The bytes of two U rows as one number, the first lowest.
 const TWO_UNBOUND: u64 = 0x0a55_0a55;
@@ -109,8 +74,13 @@ pub enum Line {
     Word {
         value: u64,
     },
-    // Any other row, a last one without byte 10, and what stands past the end.
-    Bad,
+    // A bad line with this letter: the number of its refusal, and the column, from 1. Where no line with a letter of a sheet
+    // stands, a last one lacks byte 10, or the sheet has ended, the letter is 0, and the refusal 2 at column 1.
+    Bad {
+        letter: u8,
+        number: u64,
+        column: usize,
+    },
 }
 
 // What the row at a position says, and where the next row starts.
@@ -131,269 +101,10 @@ pub struct Span {
     pub end: usize,
 }
 
-// R: the root, 1 to 64 graphic bytes.
-fn root_line(t: &[u8]) -> Line
-    ensures { λ r. ⌜ lineSaid r ≡ rootLine (now (t .entry)) ⌝ }
-{
-    if !column::ends_in_graphic(t, 1, limits::ROOT_BYTES) {
-        return Line::Bad;
-    }
-    Line::Root
-}
-
-// N: seven numbers and the module, 1 to 128 graphic bytes.
-fn node_line(t: &[u8]) -> Line
-    ensures { λ r. ⌜ lineSaid r ≡ nodeLine (now (t .entry)) ⌝ }
-{
-    let Number::Is(id) = column::column(t, 1, 1, u64::MAX) else {
-        return Line::Bad;
-    };
-    let Number::Is(parent) = column::column(t, 22, 0, u64::MAX) else {
-        return Line::Bad;
-    };
-    let Number::Is(scope) = column::column(t, 43, 0, u64::MAX) else {
-        return Line::Bad;
-    };
-    let Number::Is(is_struct) = column::column(t, 64, 0, 1) else {
-        return Line::Bad;
-    };
-    let Number::Is(generic) = column::column(t, 85, 0, 1) else {
-        return Line::Bad;
-    };
-    let Number::Is(tag_count) = column::column(t, 106, 0, MOST_16) else {
-        return Line::Bad;
-    };
-    let Number::Is(tag_offset) = column::column(t, 127, 0, MOST_32) else {
-        return Line::Bad;
-    };
-    if !column::ends_in_graphic(t, 148, limits::MODULE_BYTES) {
-        return Line::Bad;
-    }
-    Line::Node {
-        id,
-        parent,
-        scope,
-        is_struct,
-        generic,
-        tag_count,
-        tag_offset,
-    }
-}
-
-// P: the parameter's name.
-fn parameter_line(t: &[u8]) -> Line
-    ensures { λ r. ⌜ lineSaid r ≡ parameterLine (now (t .entry)) ⌝ }
-{
-    if !column::ends_in_name(t, 1) {
-        return Line::Bad;
-    }
-    Line::Parameter
-}
-
-// F: four numbers and the field's name.
-fn field_line(t: &[u8]) -> Line
-    ensures { λ r. ⌜ lineSaid r ≡ fieldLine (now (t .entry)) ⌝ }
-{
-    let Number::Is(offset) = column::column(t, 1, 0, MOST_32) else {
-        return Line::Bad;
-    };
-    let Number::Is(discriminant) = column::column(t, 22, 0, MOST_16) else {
-        return Line::Bad;
-    };
-    let Number::Is(explicit) = column::column(t, 43, 0, 1) else {
-        return Line::Bad;
-    };
-    let Number::Is(option) = column::column(t, 64, 0, 1) else {
-        return Line::Bad;
-    };
-    if !column::ends_in_field_name(t, 85) {
-        return Line::Bad;
-    }
-    Line::Field {
-        offset,
-        discriminant,
-        explicit,
-        option,
-    }
-}
-
-// G: the group's id, the discriminant and the field's name.
-fn group_line(t: &[u8]) -> Line
-    ensures { λ r. ⌜ lineSaid r ≡ groupLine (now (t .entry)) ⌝ }
-{
-    let Number::Is(id) = column::column(t, 1, 1, u64::MAX) else {
-        return Line::Bad;
-    };
-    let Number::Is(discriminant) = column::column(t, 22, 0, MOST_16) else {
-        return Line::Bad;
-    };
-    if !column::ends_in_field_name(t, 43) {
-        return Line::Bad;
-    }
-    Line::Group { id, discriminant }
-}
-
-// T's a by the kind: an id for kinds 15 to 17, 0 or 1 for kind 18, otherwise 0.
-fn most_a(kind: u64) -> u64
-    ensures { λ r. ⌜ r ≡ mostA kind ⌝ }
-{
-    match kind {
-        kinds::VOID..=kinds::LIST => 0,
-        kinds::ENUM..=kinds::INTERFACE => u64::MAX,
-        _ => 1,
-    }
-}
-
-// T's b: a number of scopes for kinds 15 to 17, a scope id for a parameter, otherwise 0.
-fn most_b(kind: u64, a: u64) -> u64
-    ensures { λ r. ⌜ r ≡ mostB kind a ⌝ }
-{
-    match kind {
-        kinds::VOID..=kinds::LIST => 0,
-        kinds::ENUM..=kinds::INTERFACE => u64::MAX,
-        _ => match a {
-            0 => 0,
-            _ => u64::MAX,
-        },
-    }
-}
-
-// T's c: a parameter's index, otherwise 0.
-fn most_c(kind: u64, a: u64) -> u64
-    ensures { λ r. ⌜ r ≡ mostC kind a ⌝ }
-{
-    match kind {
-        kinds::VOID..=kinds::INTERFACE => 0,
-        _ => match a {
-            0 => 0,
-            _ => MOST_16,
-        },
-    }
-}
-
-// T: the kind, and what it allows for a, b and c.
-fn type_line(t: &[u8]) -> Line
-    ensures { λ r. ⌜ lineSaid r ≡ typeLine (now (t .entry)) ⌝ }
-{
-    let Number::Is(kind) = column::column(t, 1, 0, kinds::ANY_POINTER) else {
-        return Line::Bad;
-    };
-    let Number::Is(a) = column::column(t, 22, 0, most_a(kind)) else {
-        return Line::Bad;
-    };
-    let Number::Is(b) = column::column(t, 43, 0, most_b(kind, a)) else {
-        return Line::Bad;
-    };
-    let Number::Is(c) = column::column(t, 64, 0, most_c(kind, a)) else {
-        return Line::Bad;
-    };
-    if t.len() != 85 {
-        return Line::Bad;
-    }
-    Line::Typ { kind, a, b, c }
-}
-
-// S's bindings: none under inherit (0), any number under bind (1).
-fn most_count(bind: u64) -> u64
-    ensures { λ r. ⌜ r ≡ mostCount bind ⌝ }
-{
-    if bind == 0 {
-        return 0;
-    }
-    u64::MAX
-}
-
-// S: the scope id, whether it binds, and how many bindings follow.
-fn scope_line(t: &[u8]) -> Line
-    ensures { λ r. ⌜ lineSaid r ≡ scopeLine (now (t .entry)) ⌝ }
-{
-    let Number::Is(id) = column::column(t, 1, 0, u64::MAX) else {
-        return Line::Bad;
-    };
-    let Number::Is(bind) = column::column(t, 22, 0, 1) else {
-        return Line::Bad;
-    };
-    let Number::Is(count) = column::column(t, 43, 0, most_count(bind)) else {
-        return Line::Bad;
-    };
-    if t.len() != 64 {
-        return Line::Bad;
-    }
-    Line::Scope { id, bind, count }
-}
-
-// U: the letter alone.
-fn unbound_line(t: &[u8]) -> Line
-    ensures { λ r. ⌜ lineSaid r ≡ unboundLine (now (t .entry)) ⌝ }
-{
-    if t.len() != 1 {
-        return Line::Bad;
-    }
-    Line::Unbound
-}
-
-// V's bits: as many as the kind's values have.
-fn most_bits(kind: u64) -> u64
-    ensures { λ r. ⌜ r ≡ mostBits kind ⌝ }
-{
-    let k = kind as usize;
-    if k < KINDS {
-        return MOST_BITS[k];
-    }
-    0
-}
-
-// V: the kind, and bits that fit its width.
-fn value_line(t: &[u8]) -> Line
-    ensures { λ r. ⌜ lineSaid r ≡ valueLine (now (t .entry)) ⌝ }
-{
-    let Number::Is(kind) = column::column(t, 1, 0, kinds::ANY_POINTER) else {
-        return Line::Bad;
-    };
-    let Number::Is(bits) = column::column(t, 22, 0, most_bits(kind)) else {
-        return Line::Bad;
-    };
-    if t.len() != 43 {
-        return Line::Bad;
-    }
-    Line::Value { kind, bits }
-}
-
-// W: one number.
-fn word_line(t: &[u8]) -> Line
-    ensures { λ r. ⌜ lineSaid r ≡ wordLine (now (t .entry)) ⌝ }
-{
-    let Number::Is(value) = column::column(t, 1, 0, u64::MAX) else {
-        return Line::Bad;
-    };
-    if t.len() != 22 {
-        return Line::Bad;
-    }
-    Line::Word { value }
-}
-
-// What a line says, by its letter.
-fn read(t: &[u8], letter: u8) -> Line
-    ensures { λ r. ⌜ lineSaid r ≡ reader letter (now (t .entry)) ⌝ }
-{
-    match letter {
-        b'R' => root_line(t),
-        b'N' => node_line(t),
-        b'P' => parameter_line(t),
-        b'F' => field_line(t),
-        b'G' => group_line(t),
-        b'T' => type_line(t),
-        b'S' => scope_line(t),
-        b'U' => unbound_line(t),
-        b'V' => value_line(t),
-        b'W' => word_line(t),
-        _ => Line::Bad,
-    }
-}
-
-// The least bytes that a line with a letter has.
+// The least bytes that a good line with a letter has. Where a byte 10 stands before that, the fault is the same whether the line is
+// read up to it or further.
 fn least_length(letter: u8) -> usize
-    ensures { λ r. ⌜ ((t : Str) → length t < r → reader letter t ≡ Bad) ⌝ }
+    ensures { λ r. ⌜ ((u w : Str) → 0 < length u → length u < r → reader letter u ≡ reader letter (u ++ 10 ∷ w)) ⌝ }
 {
     match letter {
         b'R' => 3,
@@ -410,6 +121,24 @@ fn least_length(letter: u8) -> usize
     }
 }
 
+// Where to read the line at a position to, so that it says what its row says: a good line ends where it must by its letter, and a
+// row that ends before that has the same fault further on. No row ends later.
+fn read_end(s: &[u8], at: usize) -> usize
+    requires { ⌜ at < length (now s) ⌝ }
+    ensures within { λ r. ⌜ (at < r) × (r ≤ length (now (s .entry))) ⌝ }
+    ensures says { λ r. ⌜ lineOf (take (r - at) (drop at (now (s .entry)))) ≡ lineAt (rows (drop at (now (s .entry)))) ⌝ }
+{
+    let k = least_length(s[at]);
+    if s.len() - at <= k {
+        return row_end(s, at);
+    }
+    let e = line_end(s, at + k);
+    if s[e - 1] != b'\n' {
+        return row_end(s, at);
+    }
+    e
+}
+
 // What the part from `at` to `e` says, taken as a row.
 fn line_to(s: &[u8], at: usize, e: usize) -> Line
     requires { ⌜ (at < e) × (e ≤ length (now s)) ⌝ }
@@ -417,34 +146,30 @@ fn line_to(s: &[u8], at: usize, e: usize) -> Line
 {
     let z = e - 1;
     if s[z] != b'\n' {
-        return Line::Bad;
+        return no_line();
     }
     read(&s[at..z], s[at])
 }
 
-// The row at a position; past the end stands a bad line, and no row follows. A line has no byte 10 before its end, so that the
-// end is first sought where a line with this letter can end; where what stands there is no line, the row is bad.
+// The row at a position; past the end stands no line, and no row follows.
 pub fn next(s: &[u8], at: usize) -> Got
     ensures { λ r. ⌜ lineSaid (r .line) ≡ lineAt (rows (drop at (now (s .entry)))) ⌝ }
     ensures { λ r. ⌜ rows (drop (r .next) (now (s .entry))) ≡ restOf (rows (drop at (now (s .entry)))) ⌝ }
 {
     if s.len() <= at {
         return Got {
-            line: Line::Bad,
+            line: no_line(),
             next: at,
         };
     }
-    let k = least_length(s[at]);
-    if s.len() - at <= k {
-        return Got {
-            line: Line::Bad,
-            next: row_end(s, at),
-        };
-    }
-    let e = line_end(s, at + k);
+    let e = read_end(s, at);
     let line = line_to(s, at, e);
     match line {
-        Line::Bad => Got {
+        Line::Bad {
+            letter: _,
+            number: _,
+            column: _,
+        } => Got {
             line,
             next: row_end(s, at),
         },

@@ -6,15 +6,15 @@ use native.Mathlib.Omega.{arith}
 use lib.Dec.{eqb, ltb}
 use Rattle.text.specs.Bytes.{cond}
 use Rattle.row.specs.Rows.{restOf}
-use Rattle.row.specs.Line.{lineAt}
+use Rattle.row.specs.Line.{fault, lineAt}
 use Rattle.tree.specs.Tree as tree
 use Rattle.tree.specs.Tree.{Ty, plain, list, enum, struct, interface, anyPointer, parameter, kind, Scopes, end}
-use Rattle.tree.specs.Reader.{Rows, Reader, got, mapR, times, On}
+use Rattle.tree.specs.Reader.{Rows, Reader, got, no, mapR, times, On}
 use Rattle.tree.specs.Read as read
 use Rattle.tree.specs.Read.{readType, typeFrom, branded}
 use Rattle.types.specs.Find.{kindAt}
 use Rattle.types.proofs.TypeLaws.{type-kind}
-use Rattle.types.proofs.Laws.{on-map, on-all, as-type}
+use Rattle.types.proofs.Laws.{on-map, on-all, on-type}
 use Rattle.field.specs.Slot.{HasId, SlotIs}
 use Rattle.field.specs.declared.Slot.{Slot}
 
@@ -123,10 +123,10 @@ branded-element k a ss j = go (eqb k 15) (eqb k 16)
 pub element-at : (left : ℕ) (rs : Rows) → On (readType left rs) (λ ty. ElementIs ty (kindAt (restOf rs)))
 unfolding readType typeFrom
 element-at zero rs =
-    as-type (λ (f : Reader Ty). On (f rs) (λ ty. ElementIs ty (kindAt (restOf rs)))) (lineAt rs) _ _ (λ k a b c e. tt) tt
+    on-type (λ ty. ElementIs ty (kindAt (restOf rs))) rs (λ k a b c rest. no (fault 4 1) rs) (λ k a b c e. tt)
 element-at (suc n) rs =
-    as-type (λ (f : Reader Ty). On (f rs) (λ ty. ElementIs ty (kindAt (restOf rs)))) (lineAt rs) _ _
-    (λ k a b c e. go k a b c (ltb k 14) (eqb k 14) (ltb k 18) (eqb a 0)) tt
+    on-type (λ ty. ElementIs ty (kindAt (restOf rs))) rs (typeFrom (readType n))
+    (λ k a b c e. go k a b c (ltb k 14) (eqb k 14) (ltb k 18) (eqb a 0))
   where
     go : (k a b c : ℕ) (x y z w : Bool)
         → On (cond x (got (plain k)) (cond y (mapR (λ t. list t) (readType n)) (cond z

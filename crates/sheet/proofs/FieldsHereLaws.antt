@@ -7,7 +7,7 @@ use Prim.Native.Nat.{ℕ, zero, suc, _≤_}
 use native.Mathlib.Omega.{arith}
 use lib.ListN.{length}
 use Rattle.text.specs.Bytes.{Str, cond}
-use Rattle.row.specs.Line.{lineAt}
+use Rattle.row.specs.Line.{Fault, fault, lineAt}
 use Rattle.tree.specs.Tree.{Field}
 use Rattle.tree.specs.Reader.{Rows, Reading, got, no, Reader, _then_, mapR}
 use Rattle.tree.specs.Read.{overlap, readField, isField, groupId, fieldsUpTo, readFields}
@@ -19,7 +19,7 @@ use Rattle.tree.proofs.FieldLaws.{leaves-field, fields-here}
 -- what is read, if anything is: these fields stand at the rows, and a tail of the rows follows them
 pub data Stand (rs : Rows) : Reading (List Field) → Type 0 where
   read : {fs : List Field} {ts : Rows} → FieldsHere rs fs → Tail ts rs → Stand rs (got fs ts)
-  not : {k : ℕ} {ts : Rows} → Stand rs (no k ts)
+  not : {k : Fault} {ts : Rows} → Stand rs (no k ts)
 
 -- at the end there is no field
 no-line : isField (lineAt []) ≡ false
@@ -39,14 +39,15 @@ module _ (n : ℕ) (fewer : (seen : List ℕ) (rs : Rows) → length rs ≤ n �
   after f ts e t not = not
 
   by-double : (f : Field) (ts : Rows) → readField (r ∷ rs) ≡ got f ts → Tail ts rs → (b : Bool)
-      → Stand (r ∷ rs)
-      (cond {A = Reader (List Field)} b (λ rest. no 3 (r ∷ rs)) (mapR (f ∷_) (readFields (seen ++ groupId (f .arm)))) ts)
+      → Stand (r ∷ rs) (cond {A = Reader (List Field)} b (λ rest. no (fault 3 2) (r ∷ rs))
+      (mapR (f ∷_) (readFields (seen ++ groupId (f .arm)))) ts)
   by-double f ts e t true = not
   by-double f ts e t false =
       let l = tail-length t in after f ts e t (fewer (seen ++ groupId (f .arm)) ts (omega arith))
 
   by-field : (g : Reading Field) → readField (r ∷ rs) ≡ g → Leaves rs g
-      → Stand (r ∷ rs) (g then λ f. cond {A = Reader (List Field)} (overlap (groupId (f .arm)) seen) (λ rest. no 3 (r ∷ rs))
+      → Stand (r ∷ rs) (g then λ f.
+      cond {A = Reader (List Field)} (overlap (groupId (f .arm)) seen) (λ rest. no (fault 3 2) (r ∷ rs))
       (mapR (f ∷_) (readFields (seen ++ groupId (f .arm)))))
   by-field (got f ts) e l = by-double f ts e (leaves-passed l ts refl) (overlap (groupId (f .arm)) seen)
   by-field (no k ts) e l = not
@@ -54,7 +55,7 @@ module _ (n : ℕ) (fewer : (seen : List ℕ) (rs : Rows) → length rs ≤ n �
   by-line : (b : Bool) → isField (lineAt (r ∷ rs)) ≡ b
       → Stand (r ∷ rs) (cond {A = Reader (List Field)} b
       (λ rs. readField rs then λ f.
-      cond (overlap (groupId (f .arm)) seen) (λ rest. no 3 rs) (mapR (f ∷_) (readFields (seen ++ groupId (f .arm)))))
+      cond (overlap (groupId (f .arm)) seen) (λ rest. no (fault 3 2) rs) (mapR (f ∷_) (readFields (seen ++ groupId (f .arm)))))
       (got []) (r ∷ rs))
   by-line true e = by-field (readField (r ∷ rs)) refl (leaves-field r rs)
   by-line false e = read (fields.none e) here

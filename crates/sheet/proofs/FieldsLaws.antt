@@ -1,31 +1,37 @@
--- Laws of `seen`, `params` and `fields`: one turn of each loop. Assumes nothing.
+-- Laws of `seen`, `params` and `fields`: one turn of each loop, and the line at which it ends: a bad one with a letter that may
+-- stand there is refused by its fault. Assumes nothing.
 use mathlib.Core.Path.{_≡_, refl, sym, ap, _∙_}
 use mathlib.Core.Bool.{Bool, true, false}
 use mathlib.Core.List.{List, [], _∷_, _++_, append-nil, append-assoc}
+use mathlib.Core.Option.{Option, none, some}
 use Prim.Native.Nat.{ℕ, _+_, _-_, _≤_, _<_}
 use native.Mathlib.Omega.{arith}
 use native.Mathlib.Numerals.{add-one}
+use lib.Dec.{eqb}
 use lib.ListN.{length, take, drop, set}
 use lib.Seq.{drop-drop, take-add, take-suc-set}
-use types.Run.{OneOf}
+use types.Run.{OneOf, miss}
 use denote.Enum.Declared.{tagOf}
-use Rattle.text.specs.Bytes.{unit, either}
+use Rattle.text.specs.Bytes.{Str, unit, cond, either}
 use Rattle.row.proofs.Line.{the-type}
-use Rattle.row.specs.Rows.{restOf, size}
-use Rattle.row.specs.Line.{Parameter, lineSaid, lineAt, textAt}
+use Rattle.row.specs.Rows.{rows, restOf, size}
+use Rattle.row.specs.Line.{Fault, fault, misplaced, Parameter, lineSaid, lineAt, textAt, faultOf}
 use Rattle.row.specs.declared.Line.{Line}
 use Rattle.row.proofs.ReadLaws.{Good}
 use Rattle.tree.specs.Tree.{Slot, Field, slot, group}
-use Rattle.tree.specs.Reader.{Rows, Reading, got, no, Reader, _then_}
-use Rattle.tree.specs.Read.{among, overlap, readSlot, field, readField, isField, groupId, groupIds, readFields, readParams}
-use Rattle.tree.specs.Walked.{passed}
+use Rattle.tree.specs.Reader.{Rows, Reading, got, no, Reader, _then_, told, onGroup}
+use Rattle.tree.specs.Read.{among, overlap, readSlot, field, readField, isSome, isField, groupId, groupIds, readFields}
+use Rattle.tree.specs.Read.{readParams}
+use Rattle.tree.specs.Walked.{passed, walkedWith, refusedBy}
+use Rattle.tree.specs.declared.Walk.{Walk}
+use Rattle.tree.specs.declared.Walk.the-variants.{Next}
 use Rattle.tree.proofs.OtherLines.{never, not-a-field, not-parameter}
 use Rattle.tree.proofs.WalkLaws.{passed-map}
 use Rattle.tree.proofs.TailLaws.{Tail, tail-rest, tail-length, tail-size, leaves-passed, leaves-slot}
 use Rattle.tree.proofs.FieldLaws.{fields-here}
 use Rattle.tree.proofs.AmongLaws.{among-append}
 use Rattle.sheet.proofs.RoomLaws.{group-room}
-use Rattle.sheet.specs.Steps.{groupsAfter}
+use Rattle.sheet.specs.Steps.{leftAfter, groupsAfter}
 use Rattle.row.specs.declared.Line.the-variants as line
 
 -- the search among the first ids: those from i up to a place j, where b says whether it is found, and those from there on
@@ -61,9 +67,52 @@ groups-on seen rs ts f i e o =
 
 -- a field that is refused
 groups-no :
-    (seen : List ℕ) (rs ts : Rows) (k : ℕ) → isField (lineAt rs) ≡ true → readField rs ≡ no k ts → groupsAfter seen rs ≡ no k ts
+    (seen : List ℕ) (rs ts : Rows) (k : Fault) → isField (lineAt rs) ≡ true → readField rs ≡ no k ts
+    → groupsAfter seen rs ≡ no k ts
 groups-no seen rs ts k i e =
     ap (λ (g : Reading (List Field)). g then λ fs. got (seen ++ groupIds fs)) (fields-here seen rs) ∙ rw (i, e)
+
+-- a line that is neither F nor G is read as no field: a bad one with such a letter is refused by its fault, any other by 2
+not-read :
+    (rs : Rows) (l : Line) → lineSaid l ≡ lineAt rs → OneOf (0 ∷ 1 ∷ 2 ∷ 5 ∷ 6 ∷ 7 ∷ 8 ∷ 9 ∷ 10 ∷ []) (tagOf the-type l)
+    → readField rs ≡ told (faultOf 70 (lineSaid l)) (told (faultOf 71 (lineSaid l)) (no misplaced)) rs
+unfolding lineSaid readField
+not-read rs line.Root here o = rw (← here, ← here, ← here, ← here)
+not-read rs (line.Node a b c d e f g) here o = rw (← here, ← here, ← here, ← here)
+not-read rs line.Parameter here o = rw (← here, ← here, ← here, ← here)
+not-read rs (line.Field a b c d) here o = absurd (miss (0 ∷ 1 ∷ 2 ∷ 5 ∷ 6 ∷ 7 ∷ 8 ∷ 9 ∷ 10 ∷ []) 3 tt o)
+not-read rs (line.Group a b) here o = absurd (miss (0 ∷ 1 ∷ 2 ∷ 5 ∷ 6 ∷ 7 ∷ 8 ∷ 9 ∷ 10 ∷ []) 4 tt o)
+not-read rs (line.Typ a b c d) here o = rw (← here, ← here, ← here, ← here)
+not-read rs (line.Scope a b c) here o = rw (← here, ← here, ← here, ← here)
+not-read rs line.Unbound here o = rw (← here, ← here, ← here, ← here)
+not-read rs (line.Value a b) here o = rw (← here, ← here, ← here, ← here)
+not-read rs (line.Word a) here o = rw (← here, ← here, ← here, ← here)
+not-read rs (line.Bad x k c) here o = rw (← here, ← here) (go (eqb x 70))
+  where
+    as-group : Reader Field
+    as-group = onGroup (λ i d name. got (field name d (group i))) (no misplaced)
+
+    go : (b : Bool)
+        → told (cond b (some (fault k c)) none) as-group rs
+        ≡ told (cond b (some (fault k c)) none) (told (cond (eqb x 71) (some (fault k c)) none) (no misplaced)) rs
+    go true = refl
+    go false = rw (← here, ← here)
+
+-- a walk that ends at a position, or at one of two faults there
+pub walked-ends :
+    {A : Type 0} (s : Str) (at : ℕ) (a b : Option Fault) (w : Walk) → w ≡ refusedBy a at (refusedBy b at (Next at)) → (x : A)
+    → walkedWith s w x ≡ told a (told b (got x)) (rows (drop at s))
+walked-ends s at (some k) b w e x = rw e
+walked-ends s at none (some k) w e x = rw e
+walked-ends s at none none w e x = rw e
+
+-- no more is left than what stands there
+pub ends-left :
+    (s : Str) (at : ℕ) (a b : Option Fault) (w : Walk) → w ≡ refusedBy a at (refusedBy b at (Next at))
+    → leftAfter s w ≤ size (rows (drop at s))
+ends-left s at (some k) b w e = rw e (omega arith)
+ends-left s at none (some k) w e = rw e (omega arith)
+ends-left s at none none w e = rw e (omega arith)
 
 -- where there is a line of a letter, there is a row
 shorter : (rs : Rows) → Good (lineAt rs) → length (restOf rs) < length rs
@@ -86,20 +135,29 @@ module _ (rs rest : Rows) (l : Line) (here : lineSaid l ≡ lineAt rs) (after : 
       go (r ∷ rs) e = rw e (passed-map _ (readParams rs))
 
   pub params-stop :
-      OneOf (0 ∷ 1 ∷ 3 ∷ 4 ∷ 5 ∷ 6 ∷ 7 ∷ 8 ∷ 9 ∷ 10 ∷ []) (tagOf the-type l) → got tt rs ≡ passed (readParams rs)
+      OneOf (0 ∷ 1 ∷ 3 ∷ 4 ∷ 5 ∷ 6 ∷ 7 ∷ 8 ∷ 9 ∷ 10 ∷ []) (tagOf the-type l)
+      → readParams rs ≡ told (faultOf 80 (lineSaid l)) (got []) rs
   unfolding readParams lineAt
   params-stop o = go rs here
     where
-      go : (rs : Rows) → lineSaid l ≡ lineAt rs → got tt rs ≡ passed (readParams rs)
-      go [] e = refl
-      go (r ∷ rs) e = rw (← e, not-parameter {A = Reader _} l _ _ o)
+      go : (rs : Rows) → lineSaid l ≡ lineAt rs → readParams rs ≡ told (faultOf 80 (lineSaid l)) (got []) rs
+      go [] e = rw e
+      go (r ∷ rs) e = rw (← e, not-parameter {A = Reader _} l _ _ o, ← e)
 
   pub groups-stop :
-      (seen : List ℕ) → OneOf (0 ∷ 1 ∷ 2 ∷ 5 ∷ 6 ∷ 7 ∷ 8 ∷ 9 ∷ 10 ∷ []) (tagOf the-type l) → got seen rs ≡ groupsAfter seen rs
+      (seen : List ℕ) → OneOf (0 ∷ 1 ∷ 2 ∷ 5 ∷ 6 ∷ 7 ∷ 8 ∷ 9 ∷ 10 ∷ []) (tagOf the-type l)
+      → told (faultOf 70 (lineSaid l)) (told (faultOf 71 (lineSaid l)) (got seen)) rs ≡ groupsAfter seen rs
   unfolding groupIds
   groups-stop seen o =
-      sym (ap (λ (g : Reading (List Field)). g then λ fs. got (seen ++ groupIds fs)) (fields-here seen rs)
-      ∙ rw (← here, not-a-field l o, append-nil seen))
+      go (faultOf 70 (lineSaid l)) (faultOf 71 (lineSaid l)) (ap isField (sym here) ∙ not-a-field l o) (not-read rs l here o)
+    where
+      go : (a b : Option Fault) → isField (lineAt rs) ≡ either (isSome a) (isSome b)
+          → readField rs ≡ told a (told b (no misplaced)) rs → told a (told b (got seen)) rs ≡ groupsAfter seen rs
+      go (some k) b i f = sym (groups-no seen rs rs k i f)
+      go none (some k) i f = sym (groups-no seen rs rs k i f)
+      go none none i f =
+          sym (ap (λ (g : Reading (List Field)). g then λ fs. got (seen ++ groupIds fs)) (fields-here seen rs)
+          ∙ rw (i, append-nil seen))
 
   module _ (o d e p : ℕ) (is : l ≡ line.Field o d e p) where
     field-here : readField rs ≡ (readSlot o e p rest then λ sl. got (field (textAt rs) d (slot sl)))
@@ -119,7 +177,7 @@ module _ (rs rest : Rows) (l : Line) (here : lineSaid l ≡ lineAt rs) (after : 
         go (no k ts) i h = never cc
 
     pub groups-slot-no :
-        (seen : List ℕ) (k : ℕ) (q : Rows) → no k q ≡ passed (readSlot o e p rest) → no k q ≡ groupsAfter seen rs
+        (seen : List ℕ) (k : Fault) (q : Rows) → no k q ≡ passed (readSlot o e p rest) → no k q ≡ groupsAfter seen rs
     unfolding lineSaid
     groups-slot-no seen k q h = go (readSlot o e p rest) refl h
       where
@@ -136,7 +194,8 @@ module _ (rs rest : Rows) (l : Line) (here : lineSaid l ≡ lineAt rs) (after : 
     pub slot-less : (q : Rows) → got tt q ≡ passed (readSlot o e p rest) → length q < length rs
     unfolding lineSaid
     slot-less q h =
-        let z : length rest < length rs = rw after (shorter rs (rw (← here, is) tt)) in omega (arith, tail-length (slot-tail q h))
+        let z : length rest < length rs = rw after (shorter rs (rw (← here, is) tt)) in
+        omega (arith, tail-length (slot-tail q h))
 
     pub slot-room : (q : Rows) → got tt q ≡ passed (readSlot o e p rest) → size q ≤ size rs
     slot-room q h = let z : size rest ≤ size rs = rw after (tail-size (tail-rest rs)) in omega
@@ -145,9 +204,9 @@ module _ (rs rest : Rows) (l : Line) (here : lineSaid l ≡ lineAt rs) (after : 
   module _ (i d : ℕ) (is : l ≡ line.Group i d) where
     group-here : readField rs ≡ got (field (textAt rs) d (group i)) rest
     unfolding lineSaid readField
-    group-here = rw (← here, is, ← here, is, ← after)
+    group-here = rw (← here, is, ← here, is, ← here, is, ← after)
 
-    pub groups-double : (seen : List ℕ) (b : Bool) → b ≡ among i seen → b ≡ true → no 3 rs ≡ groupsAfter seen rs
+    pub groups-double : (seen : List ℕ) (b : Bool) → b ≡ among i seen → b ≡ true → no (fault 3 2) rs ≡ groupsAfter seen rs
     unfolding lineSaid overlap
     groups-double seen b e t =
         let z : isField (lineAt rs) ≡ true = rw (← here, is) in

@@ -8,6 +8,7 @@ use native.Mathlib.Numerals.{sub-one}
 use lib.ListN.{length, drop, take, set, length-set, length-append}
 use Rattle.text.specs.Bytes.{Str, unit}
 use Rattle.row.specs.Rows.{rows, size}
+use Rattle.row.specs.Line.{fault}
 use Rattle.row.proofs.Laws.{rows-out, rows-shrink}
 use Rattle.tree.specs.Tree.{Node}
 use Rattle.tree.specs.Reader.{Rows, Reading, got, no, _then_, mapR, atEnd}
@@ -102,8 +103,9 @@ standing-first s from index ids groups flags a b r m marks e = record {
 
 -- a reading that is refused has no index
 nodes-no :
-    (s : Str) (k q : ℕ) (y : List ℕ) (g : Reading (List Node)) → g ≡ no k (rows (drop q s)) → NodesRead s (Refused k q) y g
-nodes-no s k q y g e = record { walk = rw e; index = λ big. rw e tt }
+    (s : Str) (k c q : ℕ) (y : List ℕ) (g : Reading (List Node)) → g ≡ no (fault k c) (rows (drop q s))
+    → NodesRead s (Refused k c q) y g
+nodes-no s k c q y g e = record { walk = rw e; index = λ big. rw e tt }
 
 -- what the next node finds
 module _ (s : Str) (from : ℕ) (index ids groups flags : List ℕ) (n count marks at : ℕ)
@@ -112,11 +114,11 @@ module _ (s : Str) (from : ℕ) (index ids groups flags : List ℕ) (n count mar
   held = record { nodes = count; groups = n; marks = marks }
 
   -- no node more
-  pub standing-full : (y : List ℕ) → 64 ≤ count → NodesRead s (Refused 2 at) y (whole s from)
+  pub standing-full : (y : List ℕ) → 64 ≤ count → NodesRead s (Refused 2 1 at) y (whole s from)
   unfolding readNodes
   standing-full y l =
       let z : 64 - count ≡ 0 = omega arith in
-      nodes-no s 2 at y (whole s from) (h .same ∙ rw z)
+      nodes-no s 2 1 at y (whole s from) (h .same ∙ rw z)
 
   module _ (l : count < 64) where
     pub standing-ready : Ready s at groups flags held
@@ -136,19 +138,20 @@ module _ (s : Str) (from : ℕ) (index ids groups flags : List ℕ) (n count mar
         (drop at s))) groups′ flags′
         y r)
       where
-        pub standing-no : (k q : ℕ) → r .walk ≡ Refused k q → (z : List ℕ) → NodesRead s (Refused k q) z (whole s from)
-        standing-no k q e z =
-            nodes-no s k q z (whole s from)
+        pub standing-no :
+            (k c q : ℕ) → r .walk ≡ Refused k c q → (z : List ℕ) → NodesRead s (Refused k c q) z (whole s from)
+        standing-no k c q e z =
+            nodes-no s k c q z (whole s from)
             (h .same ∙ rw (nodes-more (64 - count) (take count ids) (take n groups) (rows (drop at s)) (omega arith))
             (go (readNode (take count ids) (take n groups) (rows (drop at s))) (rw e at (read .read))))
           where
-            go : (g : Reading Node) → no k (rows (drop q s)) ≡ (g then λ m. got (seenAfter (take n groups) m))
+            go : (g : Reading Node) → no (fault k c) (rows (drop q s)) ≡ (g then λ m. got (seenAfter (take n groups) m))
                 → after (h .done) (g then λ m.
                 atEnd (got (m ∷ [])) (mapR (m ∷_)
                 (readNodes (64 - count - 1) (take count ids ++ unit (m .id)) (take n groups ++ groupIds (m .fields)))))
-                ≡ no k (rows (drop q s))
+                ≡ no (fault k c) (rows (drop q s))
             go (got m us) e = never cc
-            go (no j us) e = let a : j ≡ k = cc in let b : us ≡ rows (drop q s) = cc in rw (a, b)
+            go (no j us) e = let a : j ≡ fault k c = cc in let b : us ≡ rows (drop q s) = cc in rw (a, b)
 
         -- it is the next node
         module _ (q : ℕ) (e : r .walk ≡ Next q) (kept : length y ≡ length index) where

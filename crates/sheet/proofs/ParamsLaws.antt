@@ -3,6 +3,7 @@
 use mathlib.Core.Path.{_≡_, refl, sym, ap, _∙_}
 use mathlib.Core.Bool.{Bool, true, false}
 use mathlib.Core.List.{List, [], _∷_}
+use mathlib.Core.Option.{none}
 use Prim.Native.Nat.{ℕ, suc, _+_, _-_, _*_, _/_, _%_, _^_, _≤_, _<_}
 use native.Mathlib.Decide.{ℕ-discrete}
 use native.Mathlib.Omega.{arith}
@@ -15,17 +16,19 @@ use denote.Enum.Declared.{tagOf}
 use Rattle.text.specs.Bytes.{Str, cond, both}
 use Rattle.row.proofs.Line.{the-type}
 use Rattle.row.specs.Rows.{rows, restOf, size}
-use Rattle.row.specs.Line.{Parameter, lineSaid, lineAt, textAt}
+use Rattle.row.specs.Line.{Parameter, lineSaid, lineAt, textAt, faultOf}
 use Rattle.row.specs.declared.Line.{Line}
 use Rattle.tree.specs.Reader.{Rows}
 use Rattle.tree.specs.Read.{readParams}
-use Rattle.tree.specs.Walked.{passed}
+use Rattle.tree.specs.Walked.{passed, walkedWith, endAt}
+use Rattle.tree.specs.declared.Walk.{Walk}
 use Rattle.tree.proofs.OtherLines.{never, not-parameter}
+use Rattle.tree.proofs.WalkLaws.{passed-walk, walked-end}
 use Rattle.nodes.specs.Index.{markEvery, namesOf}
 use Rattle.nodes.proofs.NameLaws.{names-more, names-none}
 use Rattle.sheet.specs.Steps.{MarkRoom, hasMark, withMark, nextMark, SameBetween, ParamsRead}
 use Rattle.sheet.proofs.RoomLaws.{parameter-room}
-use Rattle.sheet.proofs.FieldsLaws.{params-on, params-stop}
+use Rattle.sheet.proofs.FieldsLaws.{params-on, params-stop, ends-left}
 use Rattle.row.specs.declared.Line.the-variants as line
 
 -- ---- which rows have a mark
@@ -89,16 +92,19 @@ passing-first s from marks x = record {
 -- what the code says of the row at a position, and the rows after it
 module _ (s : Str) (rs : Rows) (marks : ℕ) (x y : List ℕ) (at count place : ℕ) (p : Passing s rs marks x y at count place)
     (l : Line) (here : lineSaid l ≡ lineAt (rows (drop at s))) where
-  -- the row is no P row
+  -- the row is no P row, and the walk ends at it, or at its fault
   pub passing-done :
-      OneOf (0 ∷ 1 ∷ 3 ∷ 4 ∷ 5 ∷ 6 ∷ 7 ∷ 8 ∷ 9 ∷ 10 ∷ []) (tagOf the-type l) → MarkRoom (length s) marks (size rs)
-      → ParamsRead s rs marks x y (record { at = at; count = count; marks = place })
-  passing-done o room =
-      let none = names-none (rows (drop at s)) (rw (← here) (not-parameter l true false o)) in
+      OneOf (0 ∷ 1 ∷ 3 ∷ 4 ∷ 5 ∷ 6 ∷ 7 ∷ 8 ∷ 9 ∷ 10 ∷ []) (tagOf the-type l) → (w : Walk) → w ≡ endAt 80 (lineSaid l) at
+      → MarkRoom (length s) marks (size rs) → ParamsRead s rs marks x y (record { walk = w; count = count; marks = place })
+  passing-done o w e room =
+      let no-names = names-none (rows (drop at s)) (rw (← here) (not-parameter l true false o)) in
       let all : count ≡ length (namesOf rs) = omega
-      (arith, p .within, length-drop count (namesOf rs), ap length (p .names), ap length none) in
+      (arith, p .within, length-drop count (namesOf rs), ap length (p .names), ap length no-names) in
+      let ended : walkedWith s w [] ≡ readParams (rows (drop at s)) =
+      walked-end s at (faultOf 80 (lineSaid l)) w e [] ∙ sym (params-stop _ _ l here refl o) in
+      let less = ends-left s at (faultOf 80 (lineSaid l)) none w e in
       record {
-        walk = params-stop _ _ l here refl o ∙ sym (p .walk);
+        walk = passed-walk s w [] ∙ ap passed ended ∙ sym (p .walk);
         count = all;
         next = p .next;
         left = omega (arith, p .left);

@@ -9,17 +9,17 @@ use Rattle.nodes.specs.Index.{Indexed}
 use Rattle.sheet.specs.declared.Answer.{Answer}
 use Rattle.sheet.specs.declared.Answer.the-variants as answer
 
--- the number and the line of the refusal that an answer of the code gives, if it gives one
-abbrev pub answerNumbers : Answer → Option (ℕ × ℕ)
+-- the number, the line and the column of the refusal that an answer of the code gives, if it gives one
+abbrev pub answerNumbers : Answer → Option (ℕ × ℕ × ℕ)
 answerNumbers answer.Sheet = none
-answerNumbers (answer.Refused k l) = some (k, l)
+answerNumbers (answer.Refused k l c) = some (k, l, c)
 
--- document 01's number and line for what is refused; none for a sheet
-abbrev pub refusalIn : Admitted → Option (ℕ × ℕ)
+-- the same for what is refused; none for a sheet
+abbrev pub refusalIn : Admitted → Option (ℕ × ℕ × ℕ)
 refusalIn (sheet sh) = none
-refusalIn (refused k l) = some (k, l)
+refusalIn (refused k l c) = some (k, l, c)
 
 -- the index holds the nodes of the tree, if there is one
 abbrev pub IndexOf : Str → Admitted → List ℕ → Type 0
 IndexOf s (sheet sh) x = Indexed s (sh .nodes) x
-IndexOf s (refused k l) x = Unit {0}
+IndexOf s (refused k l c) x = Unit {0}

@@ -3,16 +3,17 @@
 use mathlib.Core.Path.{_≡_}
 use mathlib.Core.Bool.{Bool, true}
 use mathlib.Core.List.{List, _++_}
+use mathlib.Core.Option.{Option, none, some}
 use Prim.Native.Nat.{ℕ, _+_, _-_, _*_, _/_, _%_, _≤_, _<_}
 use lib.Dec.{eqb, ltb}
 use lib.ListN.{length, drop, take, getD, set}
 use Rattle.text.specs.Bytes.{Str, cond, both}
-use Rattle.row.specs.Rows.{rows, restOf, size}
+use Rattle.row.specs.Rows.{rows, restOf, size, lineNo}
 use Rattle.row.specs.Line.{textAt}
 use Rattle.tree.specs.Tree.{Field, Node}
 use Rattle.tree.specs.Reader.{Rows, Reading, got, no, Reader, _then_, mapR, On}
 use Rattle.tree.specs.Read.{among, readFields, groupIds, readParams, readMembers}
-use Rattle.tree.specs.Walked.{passed, walked}
+use Rattle.tree.specs.Walked.{passed, walked, walkedWith}
 use Rattle.tree.specs.declared.Walk.{Walk}
 use Rattle.tree.specs.declared.Walk.the-variants.{Next, Refused}
 use Rattle.nodes.specs.Index.{entryAt, namesOf, markEvery, markBytes, firstMark, indexSize, Marked, EntryIs, Indexed}
@@ -23,10 +24,10 @@ use Rattle.sheet.specs.declared.ParamsRun.{ParamsRun}
 use Rattle.sheet.specs.declared.Held.{Held}
 use Rattle.sheet.specs.declared.NodeRun.{NodeRun}
 
--- a walk that also gives something
-abbrev pub walkedWith : {A : Type 0} → Str → Walk → A → Reading A
-walkedWith s (Next at) a = got a (rows (drop at s))
-walkedWith s (Refused k at) a = no k (rows (drop at s))
+-- the number, the line and the column of the refusal of a reading of s, if it is refused
+abbrev pub refusalOf : {A : Type 0} → Str → Reading A → Option (ℕ × ℕ × ℕ)
+refusalOf s (got a rs) = none
+refusalOf s (no k rs) = some (k .number, lineNo s rs, k .column)
 
 -- ---- group ids
 
@@ -45,7 +46,7 @@ Room groups count left = 44 * count + left ≤ 44 * length groups + 43
 -- how many bytes are left after a walk
 abbrev pub leftAfter : Str → Walk → ℕ
 leftAfter s (Next at) = size (rows (drop at s))
-leftAfter s (Refused k at) = 0
+leftAfter s (Refused k c at) = 0
 
 -- one turn of the reading of fields, from rows rs on with these group ids seen: after a field it goes on with the ids held then,
 -- over fewer rows; at its end it is told
@@ -89,11 +90,11 @@ pub record SameBetween (x y : List ℕ) (from to : ℕ) : Type 0 where
 
 -- what is said of the P rows that stand first, with their marks from a place of the index on
 pub record ParamsRead (s : Str) (rs : Rows) (marks : ℕ) (x y : List ℕ) (r : ParamsRun) : Type 0 where
-  pub walk : got tt (rows (drop (r .at) s)) ≡ passed (readParams rs)
+  pub walk : walked s (r .walk) ≡ passed (readParams rs)
   pub count : r .count ≡ length (namesOf rs)
   pub next : r .marks ≡ marks + (r .count - 1) / markEvery
-  pub left : size (rows (drop (r .at) s)) ≤ size rs
-  pub room : MarkRoom (length s) (r .marks) (size (rows (drop (r .at) s)))
+  pub left : leftAfter s (r .walk) ≤ size rs
+  pub room : MarkRoom (length s) (r .marks) (leftAfter s (r .walk))
   pub same : SameBetween x y 0 marks
   pub marked : indexSize (length s) ≤ length y → Marked s y marks (namesOf rs)
 
@@ -140,9 +141,9 @@ pub record Begun (s : Str) (held : Held) (e : Entry) : Type 0 where
   pub marks : e .marks ≡ held .marks
   pub room : NodeRoom (length s) (held .nodes + 1) (size (rows (drop (e .params) s)))
 
--- a node that is refused adds nothing
-abbrev pub refusedRun : Held → ℕ → ℕ → NodeRun
-refusedRun held k at = record { walk = Refused k at; id = 0; groups = held .groups; marks = held .marks }
+-- a node whose N row is refused adds nothing
+abbrev pub refusedRun : Held → Walk → NodeRun
+refusedRun held w = record { walk = w; id = 0; groups = held .groups; marks = held .marks }
 
 -- a node's id, and the group ids seen after it
 abbrev pub seenAfter : List ℕ → Node → ℕ × List ℕ

@@ -9,17 +9,23 @@ ghost use mathlib.Core.List.{[]};
 ghost use Prim.Native.Nat.{_-_, _%_, _^_, _≤_, _<_};
 ghost use lib.ListN.{length, drop, take, set};
 ghost use Rattle.row.specs.Rows.{rows, size};
+ghost use Rattle.row.specs.Line.{byte, lineSaid, faultOf};
 ghost use Rattle.tree.specs.Read.{among, readNode, readNodes, admitted};
+ghost use Rattle.tree.specs.Walked.{walked, walkedWith, refusedBy, endAt};
 ghost use Rattle.nodes.specs.Index.{indexSize};
 ghost use Rattle.sheet.specs.Admission.{answerNumbers, refusalIn, IndexOf};
-ghost use Rattle.sheet.specs.Steps.{walkedWith, Flagged, Room, groupsAfter};
+ghost use Rattle.sheet.specs.Steps.{refusalOf, Flagged, Room, groupsAfter};
 ghost use Rattle.sheet.specs.Steps.{MarkRoom, withMark, nextMark, ParamsRead, Ready, Begun, refusedRun, membersHere};
 ghost use Rattle.sheet.specs.Steps.{leftAfter, Turned, NodeRead, NodesRead};
 
-// What a sheet is: one that document 01 admits, or one with a refusal at a line.
+// What a sheet is: one that document 01 admits, or one with a refusal at a line and a column of it.
 pub enum Answer {
     Sheet,
-    Refused { number: u64, line: usize },
+    Refused {
+        number: u64,
+        line: usize,
+        column: usize,
+    },
 }
 
 // A walk, and how many ids are held after it.
@@ -35,9 +41,9 @@ enum Turn {
     End { walk: Walk },
 }
 
-// The P rows of a node: the position after them, how many they are, and the place of the next mark.
+// A walk over the P rows of a node, how many they are, and the place of the next mark.
 struct ParamsRun {
-    at: usize,
+    walk: Walk,
     count: u64,
     marks: usize,
 }
@@ -122,8 +128,9 @@ fn params(s: &[u8], index: &mut [u64], from: usize, marks: usize) -> ParamsRun
         let l = g.line;
         let e = g.next;
         let Line::Parameter = l else {
+            let walk = tree::end_at(l, b'P', at);
             return ParamsRun {
-                at,
+                walk,
                 count,
                 marks: place,
             };
@@ -131,6 +138,21 @@ fn params(s: &[u8], index: &mut [u64], from: usize, marks: usize) -> ParamsRun
         place = mark(index, place, count, at);
         at = e;
         count += 1;
+    }
+}
+
+// Where a field may stand and this line stands, which is none: a bad F or G line is refused by its fault, and at any other the walk
+// ends.
+fn no_field(line: Line, at: usize) -> Walk
+    ensures { λ r. ⌜ r ≡ refusedBy (faultOf (byte "F") (lineSaid line)) at (endAt (byte "G") (lineSaid line) at) ⌝ }
+{
+    match tree::end_at(line, b'F', at) {
+        Walk::Next { at: _ } => tree::end_at(line, b'G', at),
+        Walk::Refused {
+            number,
+            column,
+            at: _,
+        } => Walk::Refused { number, column, at },
     }
 }
 
@@ -153,8 +175,16 @@ fn field(s: &[u8], at: usize, groups: &mut [u64], flags: &mut [u8], count: usize
             option: _,
         } => match tree::slot(s, e, explicit) {
             Walk::Next { at: q } => Turn::Field { at: q, count },
-            Walk::Refused { number, at: q } => Turn::End {
-                walk: Walk::Refused { number, at: q },
+            Walk::Refused {
+                number,
+                column,
+                at: q,
+            } => Turn::End {
+                walk: Walk::Refused {
+                    number,
+                    column,
+                    at: q,
+                },
             },
         },
         Line::Group {
@@ -165,6 +195,7 @@ fn field(s: &[u8], at: usize, groups: &mut [u64], flags: &mut [u8], count: usize
                 return Turn::End {
                     walk: Walk::Refused {
                         number: refusals::SECOND_ID,
+                        column: 2,
                         at,
                     },
                 };
@@ -177,7 +208,7 @@ fn field(s: &[u8], at: usize, groups: &mut [u64], flags: &mut [u8], count: usize
             }
         }
         _ => Turn::End {
-            walk: Walk::Next { at },
+            walk: no_field(l, at),
         },
     }
 }
@@ -208,12 +239,12 @@ fn fields(s: &[u8], from: usize, groups: &mut [u64], flags: &mut [u8], count: us
     }
 }
 
-// A node that is refused at a position.
-fn refused(held: Held, number: u64, at: usize) -> NodeRun
-    ensures { λ r. ⌜ r ≡ refusedRun held number at ⌝ }
+// A node whose N row is refused.
+fn refused(held: Held, walk: Walk) -> NodeRun
+    ensures { λ r. ⌜ r ≡ refusedRun held walk ⌝ }
 {
     NodeRun {
-        walk: Walk::Refused { number, at },
+        walk,
         id: 0,
         groups: held.groups,
         marks: held.marks,
@@ -236,7 +267,15 @@ fn members(
         (now (groups .exit)) (now (flags .exit)) (now (index .exit)) r ⌝ }
 {
     let p = params(s, index, node.params, held.marks);
-    let at = p.at;
+    let first = p.walk;
+    let Walk::Next { at } = first else {
+        return NodeRun {
+            walk: first,
+            id: node.id,
+            groups: held.groups,
+            marks: p.marks,
+        };
+    };
     let f = fields(s, at, groups, flags, held.groups);
     let mut entry = node;
     entry.count = p.count;
@@ -279,10 +318,15 @@ fn node(
         tag_offset,
     } = l
     else {
-        return refused(held, refusals::BAD_LINE, at);
+        return refused(held, tree::wrong_at(l, b'N', at));
     };
     if seen(ids, held.nodes, id) {
-        return refused(held, refusals::SECOND_ID, at);
+        let walk = Walk::Refused {
+            number: refusals::SECOND_ID,
+            column: 2,
+            at,
+        };
+        return refused(held, walk);
     }
     let node = Entry {
         id,
@@ -333,13 +377,22 @@ fn nodes(s: &[u8], index: &mut [u64], from: usize, groups: &mut [u64]) -> Walk
                 marks = m.marks;
                 at = q;
             }
-            Walk::Refused { number, at: q } => {
-                return Walk::Refused { number, at: q };
+            Walk::Refused {
+                number,
+                column,
+                at: q,
+            } => {
+                return Walk::Refused {
+                    number,
+                    column,
+                    at: q,
+                };
             }
         }
     }
     Walk::Refused {
         number: refusals::BAD_LINE,
+        column: 1,
         at,
     }
 }
@@ -373,6 +426,23 @@ fn all_nodes(s: &[u8], index: &mut [u64], from: usize) -> Walk
     long_nodes(s, index, from)
 }
 
+// The answer for a walk over a sheet: the line of a refusal is counted.
+fn answer_for(s: &[u8], walk: Walk) -> Answer
+    ensures { λ r. ⌜ answerNumbers r ≡ refusalOf (now (s .entry)) (walked (now (s .entry)) walk) ⌝ }
+{
+    match walk {
+        Walk::Next { at: _ } => Answer::Sheet,
+        Walk::Refused { number, column, at } => {
+            let line = row::line_number(s, at);
+            Answer::Refused {
+                number,
+                line,
+                column,
+            }
+        }
+    }
+}
+
 // Whether a sheet is admitted: one R row, then the nodes. Their index is put into `index`, if there is room for that of a sheet
 // of this length; `nodes::INDEX_SIZE` numbers are room enough for any sheet.
 pub fn admit(s: &[u8], index: &mut [u64]) -> Answer
@@ -384,24 +454,14 @@ pub fn admit(s: &[u8], index: &mut [u64]) -> Answer
         return Answer::Refused {
             number: refusals::SHEET_TOO_LONG,
             line: 0,
+            column: 0,
         };
     }
     let g = row::next(s, 0);
     let l = g.line;
     let e = g.next;
     let Line::Root = l else {
-        let line = row::line_number(s, 0);
-        return Answer::Refused {
-            number: refusals::BAD_LINE,
-            line,
-        };
+        return answer_for(s, tree::wrong_at(l, b'R', 0));
     };
-    let w = all_nodes(s, index, e);
-    match w {
-        Walk::Next { at: _ } => Answer::Sheet,
-        Walk::Refused { number, at } => {
-            let line = row::line_number(s, at);
-            Answer::Refused { number, line }
-        }
-    }
+    answer_for(s, all_nodes(s, index, e))
 }

@@ -1,4 +1,5 @@
-// The refusals by document 01's numbers: 1 to 4 are of a sheet's lines, 4 to 15 of a request, 21 and 22 of the buffer.
+// The refusals by the numbers of documents 01 and 02: 1 to 4, 16 and 17 are of a sheet's lines, 4 to 15 of a request, 21 and 22
+// of the buffer.
 pub const SHEET_TOO_LONG: u64 = 1;
 
 pub const BAD_LINE: u64 = 2;
@@ -28,6 +29,10 @@ pub const PARAMETER_INDEX: u64 = 13;
 pub const NO_STRUCT: u64 = 14;
 
 pub const NOT_THERE: u64 = 15;
+
+pub const BAD_NUMBER: u64 = 16;
+
+pub const BAD_TEXT: u64 = 17;
 
 pub const FILL_PAST_END: u64 = 21;
 

@@ -11,7 +11,7 @@ use Rattle.text.specs.Answer.{done, refused, answerOf, bufferOf, TextAns
 use Rattle.text.specs.declared.Text.{Text}
 use Rattle.text.proofs.Places.{adv-at, put-placed}
 
-pub refused-21 : (l : Str) (fill : ℕ) (s : Str) → length l < fill → TextAnswered l fill s l (refused 21 0)
+pub refused-21 : (l : Str) (fill : ℕ) (s : Str) → length l < fill → TextAnswered l fill s l (refused 21 0 0)
 unfolding answerOf bufferOf
 refused-21 l fill s h = record { answer = simp (lt-ltb _ _ h); buffer = simp (lt-ltb _ _ h) }
 
@@ -21,7 +21,7 @@ count : {l : Str} {fill : ℕ} {s l₁ : Str} {t₁ : Text} → fill ≤ 2 ^ 64 
 count {fill = fill} {s = s} h w = ap (λ (t : Text). t .at) (w .state ∙ adv-at (stateAt fill) s h)
 
 pub refused-22 : (l : Str) (fill : ℕ) (s l₀ l₁ : Str) (t₁ : Text) → fill ≤ length l → length l < 2 ^ 64
-    → Wrote l₀ (stateAt fill) s l₁ t₁ → length l < t₁ .at → TextAnswered l fill s l (refused 22 0)
+    → Wrote l₀ (stateAt fill) s l₁ t₁ → length l < t₁ .at → TextAnswered l fill s l (refused 22 0 0)
 unfolding answerOf bufferOf
 refused-22 l fill s l₀ l₁ t₁ g b w h =
     let e : length l < fill + length s = omega (arith, count (omega arith) w) in

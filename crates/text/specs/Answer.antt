@@ -7,10 +7,10 @@ use lib.Dec.{ltb}
 use lib.ListN.{length, take, drop}
 use Rattle.text.specs.Bytes.{Str, cond}
 
--- the fill count past the text; or document 01's number of a refusal and its line, 0 where it names none
+-- the fill count past the text; or document 01's number of a refusal, its line and its column, 0 where it names none
 pub data Answer : Type 0 where
   done : ℕ → Answer
-  refused : ℕ → ℕ → Answer
+  refused : ℕ → ℕ → ℕ → Answer
 
 -- s in l from place fill on, and every other byte as it was
 unfoldable pub placed : Str → ℕ → Str → Str
@@ -19,8 +19,8 @@ placed l fill s = take fill l ++ s ++ drop (fill + length s) l
 -- 21, a fill count above the buffer's length; 22, a text that is longer than the free part
 unfoldable pub answerOf : Str → ℕ → Str → Answer
 answerOf l fill s =
-    cond (ltb (length l) fill) (refused 21 0)
-    (cond (ltb (length l) (fill + length s)) (refused 22 0)
+    cond (ltb (length l) fill) (refused 21 0 0)
+    (cond (ltb (length l) (fill + length s)) (refused 22 0 0)
     (done (fill + length s)))
 
 -- the buffer afterwards: a refusal changes no byte

@@ -8,11 +8,11 @@ use native.Mathlib.Omega.{arith}
 use lib.ListN.{length}
 use Rattle.text.specs.Bytes.{Str, cond}
 use Rattle.row.specs.Rows.{restOf}
-use Rattle.row.specs.Line.{Content, lineOf, lineAt, textAt, asField, asGroup}
+use Rattle.row.specs.Line.{fault, misplaced, Content, lineOf, lineAt, textAt, asField, asGroup, faultOf}
 use Rattle.tree.specs.Tree.{Field, slot, group}
-use Rattle.tree.specs.Reader.{Rows, Reading, got, no, Reader, _then_, mapR, onGroup}
+use Rattle.tree.specs.Reader.{Rows, Reading, got, no, Reader, _then_, mapR, orFault, onGroup}
 use Rattle.tree.specs.Read.{readSlot, field, readField, isField, groupId, overlap, fieldsFrom, fieldsUpTo, readFields}
-use Rattle.tree.proofs.TailLaws.{Tail, here, Leaves, left, none, tail-length, leaves-map, leaves-slot}
+use Rattle.tree.proofs.TailLaws.{Tail, here, Leaves, left, none, tail-length, leaves-map, leaves-told, leaves-slot}
 use Rattle.row.specs.Line as line
 
 -- a field has a row of its own
@@ -20,35 +20,41 @@ pub leaves-field : (r : Str) (rs : Rows) → Leaves rs (readField (r ∷ rs))
 unfolding readField lineAt restOf
 leaves-field r rs = by-field (lineOf r)
   where
+    not-group : Leaves rs (orFault {A = Field} 71 (no misplaced) (r ∷ rs))
+    not-group = leaves-told (faultOf 71 (lineOf r)) (no misplaced) (r ∷ rs) none
+
     by-group : (l : Content) → Leaves rs (asGroup {A = Reader Field} l
-        (λ i d rs. got (field (textAt rs) d (group i)) (restOf rs)) (no 2) (r ∷ rs))
-    by-group line.Root = none
-    by-group (line.Node a b c d e f g) = none
-    by-group line.Parameter = none
-    by-group (line.Field a b c d) = none
+        (λ i d rs. got (field (textAt rs) d (group i)) (restOf rs)) (orFault 71 (no misplaced)) (r ∷ rs))
+    by-group line.Root = not-group
+    by-group (line.Node a b c d e f g) = not-group
+    by-group line.Parameter = not-group
+    by-group (line.Field a b c d) = not-group
     by-group (line.Group i d) = left here
-    by-group (line.Typ a b c d) = none
-    by-group (line.Scope a b c) = none
-    by-group line.Unbound = none
-    by-group (line.Value a b) = none
-    by-group (line.Word a) = none
-    by-group line.Bad = none
+    by-group (line.Typ a b c d) = not-group
+    by-group (line.Scope a b c) = not-group
+    by-group line.Unbound = not-group
+    by-group (line.Value a b) = not-group
+    by-group (line.Word a) = not-group
+    by-group (line.Bad x k) = not-group
+
+    not-field : Leaves rs (orFault 70 (onGroup (λ i d name. got (field name d (group i))) (no misplaced)) (r ∷ rs))
+    not-field = leaves-told (faultOf 70 (lineOf r)) _ (r ∷ rs) (by-group (lineOf r))
 
     by-field : (l : Content) → Leaves rs (asField {A = Reader Field} l
         (λ o d e p rs. mapR (λ sl. field (textAt rs) d (slot sl)) (readSlot o e p) (restOf rs))
-        (onGroup (λ i d name. got (field name d (group i))) (no 2))
+        (orFault 70 (onGroup (λ i d name. got (field name d (group i))) (no misplaced)))
         (r ∷ rs))
-    by-field line.Root = by-group (lineOf r)
-    by-field (line.Node a b c d e f g) = by-group (lineOf r)
-    by-field line.Parameter = by-group (lineOf r)
+    by-field line.Root = not-field
+    by-field (line.Node a b c d e f g) = not-field
+    by-field line.Parameter = not-field
     by-field (line.Field o d e p) = leaves-map _ (leaves-slot o e p rs)
-    by-field (line.Group a b) = by-group (lineOf r)
-    by-field (line.Typ a b c d) = by-group (lineOf r)
-    by-field (line.Scope a b c) = by-group (lineOf r)
-    by-field line.Unbound = by-group (lineOf r)
-    by-field (line.Value a b) = by-group (lineOf r)
-    by-field (line.Word a) = by-group (lineOf r)
-    by-field line.Bad = by-group (lineOf r)
+    by-field (line.Group a b) = not-field
+    by-field (line.Typ a b c d) = not-field
+    by-field (line.Scope a b c) = not-field
+    by-field line.Unbound = not-field
+    by-field (line.Value a b) = not-field
+    by-field (line.Word a) = not-field
+    by-field (line.Bad x k) = not-field
 
 -- two readers that agree on the tails agree after a reading
 then-same :
@@ -65,19 +71,19 @@ turn-same :
 turn-same more less seen r rs h = go (isField (lineAt (r ∷ rs)))
   where
     after : (f : Field) (ts : Rows) → Tail ts rs → (b : Bool)
-        → cond {A = Reader (List Field)} b (λ rest. no 3 (r ∷ rs)) (mapR (f ∷_) (more (seen ++ groupId (f .arm)))) ts
-        ≡ cond {A = Reader (List Field)} b (λ rest. no 3 (r ∷ rs)) (mapR (f ∷_) (less (seen ++ groupId (f .arm)))) ts
+        → cond {A = Reader (List Field)} b (λ rest. no (fault 3 2) (r ∷ rs)) (mapR (f ∷_) (more (seen ++ groupId (f .arm)))) ts
+        ≡ cond {A = Reader (List Field)} b (λ rest. no (fault 3 2) (r ∷ rs)) (mapR (f ∷_) (less (seen ++ groupId (f .arm)))) ts
     after f ts t true = refl
     after f ts t false = rw (h (seen ++ groupId (f .arm)) ts (tail-length t))
 
     go : (b : Bool)
         → cond {A = Reader (List Field)} b
         (λ rs. readField rs then λ f.
-        cond (overlap (groupId (f .arm)) seen) (λ rest. no 3 rs) (mapR (f ∷_) (more (seen ++ groupId (f .arm)))))
+        cond (overlap (groupId (f .arm)) seen) (λ rest. no (fault 3 2) rs) (mapR (f ∷_) (more (seen ++ groupId (f .arm)))))
         (got []) (r ∷ rs)
         ≡ cond {A = Reader (List Field)} b
         (λ rs. readField rs then λ f.
-        cond (overlap (groupId (f .arm)) seen) (λ rest. no 3 rs) (mapR (f ∷_) (less (seen ++ groupId (f .arm)))))
+        cond (overlap (groupId (f .arm)) seen) (λ rest. no (fault 3 2) rs) (mapR (f ∷_) (less (seen ++ groupId (f .arm)))))
         (got []) (r ∷ rs)
     go true = then-same _ _ (leaves-field r rs) (λ f ts t. after f ts t (overlap (groupId (f .arm)) seen))
     go false = refl

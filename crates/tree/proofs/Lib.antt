@@ -1,4 +1,5 @@
 pub mod OtherLines
+pub mod EndLaws
 pub mod WalkLaws
 pub mod UnboundLaws
 pub mod SlotLaws

@@ -8,8 +8,9 @@ use native.Mathlib.Omega.{arith}
 use types.Run.{OneOf, miss}
 use denote.Enum.Declared.{tagOf}
 use Rattle.row.proofs.Line.{the-type}
-use Rattle.row.specs.Line.{lineSaid, asRoot, asNode, asParameter, asField, asType, asScope, asUnbound, asValue, asWord}
-use Rattle.tree.specs.Read.{isField}
+use Rattle.text.specs.Bytes.{either}
+use Rattle.row.specs.Line.{lineSaid, asRoot, asNode, asParameter, asField, asType, asScope, asUnbound, asValue, asWord, faultOf}
+use Rattle.tree.specs.Read.{isSome, isField}
 use Rattle.row.specs.declared.Line.{Line}
 use Rattle.row.specs.declared.Line.the-variants.{Root, Node, Parameter, Field, Group, Typ, Scope, Unbound, Value, Word, Bad}
 
@@ -26,7 +27,7 @@ not-root (Scope a b c) y z h = refl
 not-root Unbound y z h = refl
 not-root (Value a b) y z h = refl
 not-root (Word a) y z h = refl
-not-root Bad y z h = refl
+not-root (Bad x k c) y z h = refl
 
 pub not-node : {A : Type 0} (l : Line) (y : (ℕ → ℕ → ℕ → ℕ → ℕ → ℕ → ℕ → A)) (z : A) → OneOf
     (0 ∷ 2 ∷ 3 ∷ 4 ∷ 5 ∷ 6 ∷ 7 ∷ 8 ∷ 9 ∷ 10 ∷ []) (tagOf the-type l) → asNode (lineSaid l) y z ≡ z
@@ -41,7 +42,7 @@ not-node (Scope a b c) y z h = refl
 not-node Unbound y z h = refl
 not-node (Value a b) y z h = refl
 not-node (Word a) y z h = refl
-not-node Bad y z h = refl
+not-node (Bad x k c) y z h = refl
 
 pub not-parameter : {A : Type 0} (l : Line) (y : A) (z : A) → OneOf (0 ∷ 1 ∷ 3 ∷ 4 ∷ 5 ∷ 6 ∷ 7 ∷ 8 ∷ 9 ∷ 10 ∷ [])
     (tagOf the-type l) → asParameter (lineSaid l) y z ≡ z
@@ -56,7 +57,7 @@ not-parameter (Scope a b c) y z h = refl
 not-parameter Unbound y z h = refl
 not-parameter (Value a b) y z h = refl
 not-parameter (Word a) y z h = refl
-not-parameter Bad y z h = refl
+not-parameter (Bad x k c) y z h = refl
 
 pub not-field : {A : Type 0} (l : Line) (y : (ℕ → ℕ → ℕ → ℕ → A)) (z : A) → OneOf
     (0 ∷ 1 ∷ 2 ∷ 4 ∷ 5 ∷ 6 ∷ 7 ∷ 8 ∷ 9 ∷ 10 ∷ []) (tagOf the-type l) → asField (lineSaid l) y z ≡ z
@@ -71,7 +72,7 @@ not-field (Scope a b c) y z h = refl
 not-field Unbound y z h = refl
 not-field (Value a b) y z h = refl
 not-field (Word a) y z h = refl
-not-field Bad y z h = refl
+not-field (Bad x k c) y z h = refl
 
 pub not-type : {A : Type 0} (l : Line) (y : (ℕ → ℕ → ℕ → ℕ → A)) (z : A) → OneOf (0 ∷ 1 ∷ 2 ∷ 3 ∷ 4 ∷ 6 ∷ 7 ∷ 8 ∷ 9 ∷ 10 ∷ [])
     (tagOf the-type l) → asType (lineSaid l) y z ≡ z
@@ -86,7 +87,7 @@ not-type (Scope a b c) y z h = refl
 not-type Unbound y z h = refl
 not-type (Value a b) y z h = refl
 not-type (Word a) y z h = refl
-not-type Bad y z h = refl
+not-type (Bad x k c) y z h = refl
 
 pub not-scope : {A : Type 0} (l : Line) (y : (ℕ → ℕ → ℕ → A)) (z : A) → OneOf (0 ∷ 1 ∷ 2 ∷ 3 ∷ 4 ∷ 5 ∷ 7 ∷ 8 ∷ 9 ∷ 10 ∷ [])
     (tagOf the-type l) → asScope (lineSaid l) y z ≡ z
@@ -101,7 +102,7 @@ not-scope (Scope a b c) y z h = absurd (miss (0 ∷ 1 ∷ 2 ∷ 3 ∷ 4 ∷ 5 �
 not-scope Unbound y z h = refl
 not-scope (Value a b) y z h = refl
 not-scope (Word a) y z h = refl
-not-scope Bad y z h = refl
+not-scope (Bad x k c) y z h = refl
 
 pub not-unbound : {A : Type 0} (l : Line) (y : A) (z : A) → OneOf (0 ∷ 1 ∷ 2 ∷ 3 ∷ 4 ∷ 5 ∷ 6 ∷ 8 ∷ 9 ∷ 10 ∷ [])
     (tagOf the-type l) → asUnbound (lineSaid l) y z ≡ z
@@ -116,7 +117,7 @@ not-unbound (Scope a b c) y z h = refl
 not-unbound Unbound y z h = absurd (miss (0 ∷ 1 ∷ 2 ∷ 3 ∷ 4 ∷ 5 ∷ 6 ∷ 8 ∷ 9 ∷ 10 ∷ []) 7 tt h)
 not-unbound (Value a b) y z h = refl
 not-unbound (Word a) y z h = refl
-not-unbound Bad y z h = refl
+not-unbound (Bad x k c) y z h = refl
 
 pub not-value : {A : Type 0} (l : Line) (y : (ℕ → ℕ → A)) (z : A) → OneOf (0 ∷ 1 ∷ 2 ∷ 3 ∷ 4 ∷ 5 ∷ 6 ∷ 7 ∷ 9 ∷ 10 ∷ [])
     (tagOf the-type l) → asValue (lineSaid l) y z ≡ z
@@ -131,7 +132,7 @@ not-value (Scope a b c) y z h = refl
 not-value Unbound y z h = refl
 not-value (Value a b) y z h = absurd (miss (0 ∷ 1 ∷ 2 ∷ 3 ∷ 4 ∷ 5 ∷ 6 ∷ 7 ∷ 9 ∷ 10 ∷ []) 8 tt h)
 not-value (Word a) y z h = refl
-not-value Bad y z h = refl
+not-value (Bad x k c) y z h = refl
 
 pub not-word : {A : Type 0} (l : Line) (y : (ℕ → A)) (z : A) → OneOf (0 ∷ 1 ∷ 2 ∷ 3 ∷ 4 ∷ 5 ∷ 6 ∷ 7 ∷ 8 ∷ 10 ∷ [])
     (tagOf the-type l) → asWord (lineSaid l) y z ≡ z
@@ -146,10 +147,11 @@ not-word (Scope a b c) y z h = refl
 not-word Unbound y z h = refl
 not-word (Value a b) y z h = refl
 not-word (Word a) y z h = absurd (miss (0 ∷ 1 ∷ 2 ∷ 3 ∷ 4 ∷ 5 ∷ 6 ∷ 7 ∷ 8 ∷ 10 ∷ []) 9 tt h)
-not-word Bad y z h = refl
+not-word (Bad x k c) y z h = refl
 
--- a line that is neither F nor G
-pub not-a-field : (l : Line) → OneOf (0 ∷ 1 ∷ 2 ∷ 5 ∷ 6 ∷ 7 ∷ 8 ∷ 9 ∷ 10 ∷ []) (tagOf the-type l) → isField (lineSaid l) ≡ false
+-- a line that is neither F nor G is no field, but for a bad one with such a letter
+pub not-a-field : (l : Line) → OneOf (0 ∷ 1 ∷ 2 ∷ 5 ∷ 6 ∷ 7 ∷ 8 ∷ 9 ∷ 10 ∷ []) (tagOf the-type l)
+    → isField (lineSaid l) ≡ either (isSome (faultOf 70 (lineSaid l))) (isSome (faultOf 71 (lineSaid l)))
 unfolding lineSaid
 not-a-field Root h = refl
 not-a-field (Node a b c d e f g) h = refl
@@ -161,7 +163,7 @@ not-a-field (Scope a b c) h = refl
 not-a-field Unbound h = refl
 not-a-field (Value a b) h = refl
 not-a-field (Word a) h = refl
-not-a-field Bad h = refl
+not-a-field (Bad x k c) h = refl
 
 -- from two numbers that are not equal, anything
 pub never : {A : Type 0} → _≡_ {A = ℕ} 0 1 → A

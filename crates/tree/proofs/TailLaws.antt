@@ -3,15 +3,17 @@
 use mathlib.Core.Path.{_≡_}
 use mathlib.Core.Bool.{Bool, true, false}
 use mathlib.Core.List.{[], _∷_}
+use mathlib.Core.Option.{Option}
+use mathlib.Core.Option as option
 use Prim.Native.Nat.{ℕ, zero, suc, _≤_}
 use native.Mathlib.Omega.{arith}
 use lib.ListN.{length}
 use lib.Dec.{eqb, ltb}
 use Rattle.text.specs.Bytes.{Str, cond}
 use Rattle.row.specs.Rows.{restOf, size}
-use Rattle.row.specs.Line.{Content, lineAt, cases}
+use Rattle.row.specs.Line.{Fault, fault, misplaced, Content, lineAt, cases, faultOf}
 use Rattle.tree.specs.Tree.{Ty, end, inherit, bind, stop, unbound, bound, Field}
-use Rattle.tree.specs.Reader.{Rows, Reading, got, no, Reader, _then_, mapR, times, onType, onScope}
+use Rattle.tree.specs.Reader.{Rows, Reading, got, no, Reader, _then_, mapR, told, orFault, times, onType, onScope}
 use Rattle.tree.specs.Reader.{onUnbound, onValue, onWord}
 use Rattle.tree.specs.Read.{readBinding, readScope, typeFrom, readType, valueOf, readWordsUpTo, hasWords, readWords}
 use Rattle.tree.specs.Read.{readSlot}
@@ -45,7 +47,7 @@ tail-size (later t) = let h = tail-size t in omega arith
 -- what is left after a reading of the rows is a tail of them
 pub data Leaves {A : Type 0} : Rows → Reading A → Type 0 where
   left : {a : A} {ts rs : Rows} → Tail ts rs → Leaves rs (got a ts)
-  none : {k : ℕ} {ts rs : Rows} → Leaves rs (no k ts)
+  none : {k : Fault} {ts rs : Rows} → Leaves rs (no k ts)
 
 pub leaves-passed : {A : Type 0} {rs : Rows} {g : Reading A} → Leaves rs g → (ts : Rows) → got tt ts ≡ passed g → Tail ts rs
 leaves-passed (left {ts = us} t) ts e = let z : ts ≡ us = cc in rw z t
@@ -78,10 +80,10 @@ leaves-cases :
     {A : Type 0} (rs : Rows)
     (r : Reader A) (n : ℕ → ℕ → ℕ → ℕ → ℕ → ℕ → ℕ → Reader A) (p : Reader A) (f : ℕ → ℕ → ℕ → ℕ → Reader A)
     (g : ℕ → ℕ → Reader A) (t : ℕ → ℕ → ℕ → ℕ → Reader A) (s : ℕ → ℕ → ℕ → Reader A) (u : Reader A) (v : ℕ → ℕ → Reader A)
-    (w : ℕ → Reader A) (z : Reader A)
+    (w : ℕ → Reader A) (z : ℕ → Fault → Reader A)
     → Left rs r → ((i q k x y c o : ℕ) → Left rs (n i q k x y c o)) → Left rs p → ((o d e q : ℕ) → Left rs (f o d e q))
     → ((i d : ℕ) → Left rs (g i d)) → ((k a b c : ℕ) → Left rs (t k a b c)) → ((i b c : ℕ) → Left rs (s i b c)) → Left rs u
-    → ((k b : ℕ) → Left rs (v k b)) → ((x : ℕ) → Left rs (w x)) → Left rs z
+    → ((k b : ℕ) → Left rs (v k b)) → ((x : ℕ) → Left rs (w x)) → ((x : ℕ) (k : Fault) → Left rs (z x k))
     → (l : Content) → Left rs (cases r n p f g t s u v w z l)
 leaves-cases rs _ _ _ _ _ _ _ _ _ _ _ h _ _ _ _ _ _ _ _ _ _ line.Root = h
 leaves-cases rs _ _ _ _ _ _ _ _ _ _ _ _ h _ _ _ _ _ _ _ _ _ (line.Node a b c d e f g) = h a b c d e f g
@@ -93,54 +95,72 @@ leaves-cases rs _ _ _ _ _ _ _ _ _ _ _ _ _ _ _ _ _ h _ _ _ _ (line.Scope a b c) =
 leaves-cases rs _ _ _ _ _ _ _ _ _ _ _ _ _ _ _ _ _ _ h _ _ _ line.Unbound = h
 leaves-cases rs _ _ _ _ _ _ _ _ _ _ _ _ _ _ _ _ _ _ _ h _ _ (line.Value a b) = h a b
 leaves-cases rs _ _ _ _ _ _ _ _ _ _ _ _ _ _ _ _ _ _ _ _ h _ (line.Word a) = h a
-leaves-cases rs _ _ _ _ _ _ _ _ _ _ _ _ _ _ _ _ _ _ _ _ _ h line.Bad = h
+leaves-cases rs _ _ _ _ _ _ _ _ _ _ _ _ _ _ _ _ _ _ _ _ _ h (line.Bad x k) = h x k
 
--- a reader that goes on after a line of its letter, and another for every other line
+pub leaves-told :
+    {A : Type 0} {ts : Rows} (o : Option Fault) (other : Reader A) (rs : Rows) → Leaves ts (other rs)
+    → Leaves ts (told o other rs)
+leaves-told (option.some k) other rs h = none
+leaves-told option.none other rs h = h
+
+-- a reader that goes on after a line of its letter, one that tells the fault of a bad one, and another for every other line
 module _ {A : Type 0} (rs : Rows) (other : Reader A) (o : Left rs other) where
   after : (f : Reader A) → ((ts : Rows) → Left ts f) → Leaves rs (f (restOf rs))
   after f h = leaves-on (tail-rest rs) (h (restOf rs))
 
   on-type : (f : ℕ → ℕ → ℕ → ℕ → Reader A) → ((k a b c : ℕ) (ts : Rows) → Left ts (f k a b c)) → Left rs (onType f other)
   on-type f h =
+      let else : Reader A = orFault 84 other in
+      let bad : Left rs else = leaves-told (faultOf 84 (lineAt rs)) other rs o in
       leaves-cases rs
-      other (λ _ _ _ _ _ _ _. other) other (λ _ _ _ _. other) (λ _ _. other) (λ k a b c rs. f k a b c (restOf rs))
-      (λ _ _ _. other) other (λ _ _. other) (λ _. other) other
-      o (λ _ _ _ _ _ _ _. o) o (λ _ _ _ _. o) (λ _ _. o) (λ k a b c. after (f k a b c) (h k a b c)) (λ _ _ _. o) o (λ _ _. o)
-      (λ _. o) o
+      else (λ _ _ _ _ _ _ _. else) else (λ _ _ _ _. else) (λ _ _. else) (λ k a b c rs. f k a b c (restOf rs)) (λ _ _ _. else)
+      else (λ _ _. else) (λ _. else) (λ _ _. else)
+      bad (λ _ _ _ _ _ _ _. bad) bad (λ _ _ _ _. bad) (λ _ _. bad) (λ k a b c. after (f k a b c) (h k a b c)) (λ _ _ _. bad)
+      bad (λ _ _. bad) (λ _. bad) (λ _ _. bad)
       (lineAt rs)
 
   on-scope : (f : ℕ → ℕ → ℕ → Reader A) → ((i b c : ℕ) (ts : Rows) → Left ts (f i b c)) → Left rs (onScope f other)
   on-scope f h =
+      let else : Reader A = orFault 83 other in
+      let bad : Left rs else = leaves-told (faultOf 83 (lineAt rs)) other rs o in
       leaves-cases rs
-      other (λ _ _ _ _ _ _ _. other) other (λ _ _ _ _. other) (λ _ _. other) (λ _ _ _ _. other)
-      (λ i b c rs. f i b c (restOf rs)) other (λ _ _. other) (λ _. other) other
-      o (λ _ _ _ _ _ _ _. o) o (λ _ _ _ _. o) (λ _ _. o) (λ _ _ _ _. o) (λ i b c. after (f i b c) (h i b c)) o (λ _ _. o)
-      (λ _. o) o
+      else (λ _ _ _ _ _ _ _. else) else (λ _ _ _ _. else) (λ _ _. else) (λ _ _ _ _. else) (λ i b c rs. f i b c (restOf rs))
+      else (λ _ _. else) (λ _. else) (λ _ _. else)
+      bad (λ _ _ _ _ _ _ _. bad) bad (λ _ _ _ _. bad) (λ _ _. bad) (λ _ _ _ _. bad) (λ i b c. after (f i b c) (h i b c)) bad
+      (λ _ _. bad) (λ _. bad) (λ _ _. bad)
       (lineAt rs)
 
   on-unbound : (f : Reader A) → ((ts : Rows) → Left ts f) → Left rs (onUnbound f other)
   on-unbound f h =
+      let else : Reader A = orFault 85 other in
+      let bad : Left rs else = leaves-told (faultOf 85 (lineAt rs)) other rs o in
       leaves-cases rs
-      other (λ _ _ _ _ _ _ _. other) other (λ _ _ _ _. other) (λ _ _. other) (λ _ _ _ _. other) (λ _ _ _. other)
-      (λ rs. f (restOf rs)) (λ _ _. other) (λ _. other) other
-      o (λ _ _ _ _ _ _ _. o) o (λ _ _ _ _. o) (λ _ _. o) (λ _ _ _ _. o) (λ _ _ _. o) (after f h) (λ _ _. o) (λ _. o) o
+      else (λ _ _ _ _ _ _ _. else) else (λ _ _ _ _. else) (λ _ _. else) (λ _ _ _ _. else) (λ _ _ _. else)
+      (λ rs. f (restOf rs)) (λ _ _. else) (λ _. else) (λ _ _. else)
+      bad (λ _ _ _ _ _ _ _. bad) bad (λ _ _ _ _. bad) (λ _ _. bad) (λ _ _ _ _. bad) (λ _ _ _. bad) (after f h) (λ _ _. bad)
+      (λ _. bad) (λ _ _. bad)
       (lineAt rs)
 
   on-value : (f : ℕ → ℕ → Reader A) → ((k b : ℕ) (ts : Rows) → Left ts (f k b)) → Left rs (onValue f other)
   on-value f h =
+      let else : Reader A = orFault 86 other in
+      let bad : Left rs else = leaves-told (faultOf 86 (lineAt rs)) other rs o in
       leaves-cases rs
-      other (λ _ _ _ _ _ _ _. other) other (λ _ _ _ _. other) (λ _ _. other) (λ _ _ _ _. other) (λ _ _ _. other) other
-      (λ k b rs. f k b (restOf rs)) (λ _. other) other
-      o (λ _ _ _ _ _ _ _. o) o (λ _ _ _ _. o) (λ _ _. o) (λ _ _ _ _. o) (λ _ _ _. o) o (λ k b. after (f k b) (h k b))
-      (λ _. o) o
+      else (λ _ _ _ _ _ _ _. else) else (λ _ _ _ _. else) (λ _ _. else) (λ _ _ _ _. else) (λ _ _ _. else) else
+      (λ k b rs. f k b (restOf rs)) (λ _. else) (λ _ _. else)
+      bad (λ _ _ _ _ _ _ _. bad) bad (λ _ _ _ _. bad) (λ _ _. bad) (λ _ _ _ _. bad) (λ _ _ _. bad) bad
+      (λ k b. after (f k b) (h k b)) (λ _. bad) (λ _ _. bad)
       (lineAt rs)
 
   on-word : (f : ℕ → Reader A) → ((x : ℕ) (ts : Rows) → Left ts (f x)) → Left rs (onWord f other)
   on-word f h =
+      let else : Reader A = orFault 87 other in
+      let bad : Left rs else = leaves-told (faultOf 87 (lineAt rs)) other rs o in
       leaves-cases rs
-      other (λ _ _ _ _ _ _ _. other) other (λ _ _ _ _. other) (λ _ _. other) (λ _ _ _ _. other) (λ _ _ _. other) other
-      (λ _ _. other) (λ x rs. f x (restOf rs)) other
-      o (λ _ _ _ _ _ _ _. o) o (λ _ _ _ _. o) (λ _ _. o) (λ _ _ _ _. o) (λ _ _ _. o) o (λ _ _. o) (λ x. after (f x) (h x)) o
+      else (λ _ _ _ _ _ _ _. else) else (λ _ _ _ _. else) (λ _ _. else) (λ _ _ _ _. else) (λ _ _ _. else) else (λ _ _. else)
+      (λ x rs. f x (restOf rs)) (λ _ _. else)
+      bad (λ _ _ _ _ _ _ _. bad) bad (λ _ _ _ _. bad) (λ _ _. bad) (λ _ _ _ _. bad) (λ _ _ _. bad) bad (λ _ _. bad)
+      (λ x. after (f x) (h x)) (λ _ _. bad)
       (lineAt rs)
 
 leaves-times :
@@ -159,7 +179,7 @@ module _ (ty : Reader Ty) (h : (rs : Rows) → Left rs ty) where
   leaves-scope : (rs : Rows) → Left rs (readScope ty)
   unfolding readScope
   leaves-scope rs =
-      on-scope rs (no 2) none
+      on-scope rs (no misplaced) none
       (λ i b n. cond (eqb b 0) (got (λ ss. inherit i ss)) (mapR (λ bs ss. bind i bs ss) (times (readBinding ty) stop n)))
       (λ i b n ts. leaves-cond (eqb b 0) _ _ ts (left here) (leaves-map _ (leaves-times stop leaves-binding n ts)))
 
@@ -172,13 +192,13 @@ module _ (ty : Reader Ty) (h : (rs : Rows) → Left rs ty) where
 
 pub leaves-type : (l : ℕ) (rs : Rows) → Left rs (readType l)
 unfolding readType
-leaves-type zero rs = on-type rs (no 2) none (λ k a b c rest. no 4 rs) (λ k a b c ts. none)
-leaves-type (suc l) rs = let less = leaves-type l in on-type rs (no 2) none (typeFrom (readType l))
+leaves-type zero rs = on-type rs (no misplaced) none (λ k a b c rest. no (fault 4 1) rs) (λ k a b c ts. none)
+leaves-type (suc l) rs = let less = leaves-type l in on-type rs (no misplaced) none (typeFrom (readType l))
     (leaves-from (readType l) less)
 
 leaves-value : (rs : Rows) → Left rs valueOf
 unfolding valueOf
-leaves-value rs = on-value rs (no 2) none (λ k b. got (record { kind = k; bits = b })) (λ k b ts. left here)
+leaves-value rs = on-value rs (no misplaced) none (λ k b. got (record { kind = k; bits = b })) (λ k b ts. left here)
 
 leaves-words-up-to : (n : ℕ) (rs : Rows) → Left rs (readWordsUpTo n)
 unfolding readWordsUpTo
@@ -190,7 +210,7 @@ leaves-words-up-to (suc n) rs =
 leaves-words : (b : Bool) (rs : Rows) → Left rs (readWords b)
 unfolding readWords
 leaves-words true rs =
-    on-word rs (no 2) none (λ w. mapR (w ∷_) (readWordsUpTo 254)) (λ w ts. leaves-map _ (leaves-words-up-to 254 ts))
+    on-word rs (no misplaced) none (λ w. mapR (w ∷_) (readWordsUpTo 254)) (λ w ts. leaves-map _ (leaves-words-up-to 254 ts))
 leaves-words false rs = left here
 
 pub leaves-slot : (o e p : ℕ) (rs : Rows) → Left rs (readSlot o e p)

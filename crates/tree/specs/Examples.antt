@@ -2,7 +2,7 @@
 use mathlib.Core.Path.{_≡_, refl}
 use mathlib.Core.Bool.{true}
 use mathlib.Core.List.{List, [], _∷_, _++_}
-use Prim.Native.Nat.{ℕ, zero, suc, _-_}
+use Prim.Native.Nat.{ℕ, zero, suc, _-_, _^_}
 use lib.ListN.{length, take, drop, replicate}
 use Rattle.text.specs.Bytes.{Str, ascii, unit}
 use Rattle.text.specs.Decimal.{decimal}
@@ -109,8 +109,8 @@ abbrev whole : Sheet → Case
 whole t = when (printed t) (sheet t)
 
 -- a tree that is printed and refused
-abbrev not : Sheet → ℕ → ℕ → Case
-not t k l = when (printed t) (refused k l)
+abbrev not : Sheet → ℕ → ℕ → ℕ → Case
+not t k l c = when (printed t) (refused k l c)
 
 table : List Case
 table =
@@ -118,41 +118,54 @@ table =
     ∷ whole rich
     -- a node without fields; no node; empty; a last line without byte 10; no V line
     ∷ when (joined bed) (sheet (workedSheet (bedWith 7 [] ∷ [])))
-    ∷ not (workedSheet []) 2 2
-    ∷ when [] (refused 2 1)
-    ∷ when (take (length (joined free) - 1) (joined free)) (refused 2 5)
-    ∷ when (joined (take 4 free)) (refused 2 5)
+    ∷ not (workedSheet []) 2 2 1
+    ∷ when [] (refused 2 1 1)
+    ∷ when (take (length (joined free) - 1) (joined free)) (refused 2 5 1)
+    ∷ when (joined (take 4 free)) (refused 2 5 1)
     -- a second R; an empty line; P after F
-    ∷ when (joined (take 1 bed ++ bed)) (refused 2 2)
-    ∷ when (joined bed ++ unit 10) (refused 2 3)
-    ∷ when (joined (free ++ (printParameter (ascii "T") ∷ []))) (refused 2 6)
+    ∷ when (joined (take 1 bed ++ bed)) (refused 2 2 1)
+    ∷ when (joined bed ++ unit 10) (refused 2 3 1)
+    ∷ when (joined (free ++ (printParameter (ascii "T") ∷ []))) (refused 2 6 1)
     -- level 16 and a 17th, of a list's element and of a binding; U at the 17th; a 17th line that is bad in itself
     ∷ whole (typed (lists 15 (plain 12)))
-    ∷ not (typed (lists 16 (plain 12))) 4 20
-    ∷ not (typed (lists 15 (bed7 (bound (plain 12) stop)))) 4 21
+    ∷ not (typed (lists 16 (plain 12))) 4 20 1
+    ∷ not (typed (lists 15 (bed7 (bound (plain 12) stop)))) 4 21 1
     ∷ whole (typed (lists 15 (bed7 (unbound stop))))
-    ∷ not (typed (lists 16 (plain 19))) 2 20
+    ∷ not (typed (lists 16 (plain 19))) 16 20 2
     -- 2 ^ 64 - 1 scopes, or bindings, that do not follow
-    ∷ when (joined (freeAs (printType 16 7 18446744073709551615 0 ∷ []))) (refused 2 5)
-    ∷ when (joined (freeAs (printType 16 7 1 0 ∷ printScope 7 1 18446744073709551615 ∷ printUnbound ∷ []))) (refused 2 7)
+    ∷ when (joined (freeAs (printType 16 7 18446744073709551615 0 ∷ []))) (refused 2 5 1)
+    ∷ when (joined (freeAs (printType 16 7 1 0 ∷ printScope 7 1 18446744073709551615 ∷ printUnbound ∷ []))) (refused 2 7 1)
     -- 0, 1, 255, 256 words; a word where none belongs
-    ∷ not (worded 0) 2 6
+    ∷ not (worded 0) 2 6 1
     ∷ whole (worded 1)
     ∷ whole (worded 255)
-    ∷ not (worded 256) 2 261
-    ∷ when (joined (free ++ (printWord 5 ∷ []))) (refused 2 6)
+    ∷ not (worded 256) 2 261 1
+    ∷ when (joined (free ++ (printWord 5 ∷ []))) (refused 2 6 1)
     -- an id on a second N, on a second G of one node, of another node; an N and a G with one id
-    ∷ not (workedSheet (bedWith 7 [] ∷ bedWith 1 [] ∷ bedWith 7 [] ∷ [])) 3 4
-    ∷ not (workedSheet (bedWith 7 (groups (1 ∷ 2 ∷ 1 ∷ [])) ∷ [])) 3 5
-    ∷ not (workedSheet (bedWith 7 (groups (1 ∷ [])) ∷ bedWith 1 (groups (1 ∷ [])) ∷ [])) 3 5
+    ∷ not (workedSheet (bedWith 7 [] ∷ bedWith 1 [] ∷ bedWith 7 [] ∷ [])) 3 4 2
+    ∷ not (workedSheet (bedWith 7 (groups (1 ∷ 2 ∷ 1 ∷ [])) ∷ [])) 3 5 2
+    ∷ not (workedSheet (bedWith 7 (groups (1 ∷ [])) ∷ bedWith 1 (groups (1 ∷ [])) ∷ [])) 3 5 2
     ∷ whole (workedSheet (bedWith 7 (groups (7 ∷ [])) ∷ []))
     -- 64 nodes and a 65th, also with an id that stands before
     ∷ whole (workedSheet (down 64))
-    ∷ not (workedSheet (down 65)) 2 66
-    ∷ not (workedSheet (down 64 ++ down 1)) 2 66
+    ∷ not (workedSheet (down 65)) 2 66 1
+    ∷ not (workedSheet (down 64 ++ down 1)) 2 66 1
+    -- bad lines where their letter may not stand: a 65th N, a 256th W, a P after an F, a W where none belongs
+    ∷ not (workedSheet (down 64 ++ (bedWith 0 [] ∷ []))) 2 66 1
+    ∷ when (printed (worded 255) ++ printWord (2 ^ 64)) (refused 2 261 1)
+    ∷ when (joined (free ++ (printParameter (ascii "9") ∷ []))) (refused 2 6 1)
+    ∷ when (joined (free ++ (printWord (2 ^ 64) ∷ []))) (refused 2 6 1)
+    -- and where it may: a P after a P, a W after a W, an F and a G after a node, an N after a field
+    ∷ when (joined (bed ++ (printParameter (ascii "T") ∷ printParameter (ascii "9") ∷ []))) (refused 17 4 3)
+    ∷ when (printed (worded 254) ++ printWord (2 ^ 64)) (refused 16 260 2)
+    ∷ not (workedSheet (bedWith 7 (namedField "f" 65536 (slot (slotOf (plain 0) 0 0 0 0 [])) ∷ []) ∷ [])) 16 3 23
+    ∷ not (workedSheet (bedWith 7 (groups (0 ∷ [])) ∷ [])) 16 3 2
+    ∷ when (joined free ++ ascii "N" ++ unit 10) (refused 16 6 2)
+    -- an id that stands before, on a line that is bad further right
+    ∷ not (workedSheet (bedWith 7 [] ∷ node 7 "" 0 0 [] ∷ [])) 17 3 150
     -- the sheet's length
-    ∷ when (replicate 65536 10) (refused 2 1)
-    ∷ when (replicate 65537 10) (refused 1 0)
+    ∷ when (replicate 65536 10) (refused 2 1 1)
+    ∷ when (replicate 65537 10) (refused 1 0 0)
     ∷ []
 
 answers : List Case → List Admitted

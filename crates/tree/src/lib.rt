@@ -1,5 +1,5 @@
 // Walks over the parts of a sheet: a type with its brand, a slot's default and words. Each gives the position after the part,
-// or its refusal and the position of the bad line.
+// or its refusal with the column and the position of the bad line.
 use row::Line;
 use terms::kinds;
 use terms::refusals;
@@ -7,21 +7,67 @@ ghost use mathlib.Core.Path.{_≡_};
 ghost use Prim.Native.Nat.{ℕ};
 ghost use lib.ListN.{drop, length};
 ghost use Rattle.row.specs.Rows.{rows};
+ghost use Rattle.row.specs.Line.{lineSaid};
 ghost use Rattle.tree.specs.Tree.{end, stop};
-ghost use Rattle.tree.specs.Reader.{got, mapR, times};
+ghost use Rattle.tree.specs.Reader.{mapR, times};
 ghost use Rattle.tree.specs.Read.{readType, readScope, readBinding, readWordsUpTo, readWords, hasWords, readSlot};
-ghost use Rattle.tree.specs.Walked.{passed, walked};
+ghost use Rattle.tree.specs.Walked.{passed, walked, walkedWith, endAt, wrongAt};
 
-// Where a walk came to: the next row, or the row that is refused and the number of the refusal.
+// Where a walk came to: the next row, or the row that is refused, with the number of the refusal and its column.
 pub enum Walk {
-    Next { at: usize },
-    Refused { number: u64, at: usize },
+    Next {
+        at: usize,
+    },
+    Refused {
+        number: u64,
+        column: usize,
+        at: usize,
+    },
 }
 
-// How many W rows there are, and where the rows after them begin.
+// A walk over W rows, and how many they are.
 pub struct Counted {
+    pub walk: Walk,
     pub count: u64,
-    pub next: usize,
+}
+
+// Where a line with a letter may stand and this one stands: a bad line with that letter is refused by its fault; at any other the
+// walk ends.
+pub fn end_at(line: Line, letter: u8, at: usize) -> Walk
+    ensures { λ r. ⌜ r ≡ endAt letter (lineSaid line) at ⌝ }
+{
+    match line {
+        Line::Bad {
+            letter: other,
+            number,
+            column,
+        } => {
+            if other == letter {
+                return Walk::Refused { number, column, at };
+            }
+            Walk::Next { at }
+        }
+        _ => Walk::Next { at },
+    }
+}
+
+// Where a line with a letter must stand and this one stands: a bad line with that letter is refused by its fault, any other as one
+// that may not stand there.
+pub fn wrong_at(line: Line, letter: u8, at: usize) -> Walk
+    ensures { λ r. ⌜ r ≡ wrongAt letter (lineSaid line) at ⌝ }
+{
+    match end_at(line, letter, at) {
+        Walk::Next { at: _ } => Walk::Refused {
+            number: refusals::BAD_LINE,
+            column: 1,
+            at,
+        },
+        Walk::Refused {
+            number,
+            column,
+            at: _,
+        } => Walk::Refused { number, column, at },
+    }
 }
 
 // One type with so many levels left: a T row, and what belongs to it.
@@ -41,6 +87,7 @@ fn typ(s: &[u8], at: usize, left: usize) -> Walk
             if left == 0 {
                 return Walk::Refused {
                     number: refusals::TOO_DEEP,
+                    column: 1,
                     at,
                 };
             }
@@ -50,10 +97,7 @@ fn typ(s: &[u8], at: usize, left: usize) -> Walk
                 _ => Walk::Next { at: e },
             }
         }
-        _ => Walk::Refused {
-            number: refusals::BAD_LINE,
-            at,
-        },
+        _ => wrong_at(l, b'T', at),
     }
 }
 
@@ -69,8 +113,16 @@ fn scopes(s: &[u8], from: usize, count: u64, left: usize) -> Walk
             Walk::Next { at: q } => {
                 at = q;
             }
-            Walk::Refused { number, at: q } => {
-                return Walk::Refused { number, at: q };
+            Walk::Refused {
+                number,
+                column,
+                at: q,
+            } => {
+                return Walk::Refused {
+                    number,
+                    column,
+                    at: q,
+                };
             }
         }
         n -= 1;
@@ -92,10 +144,7 @@ fn scope(s: &[u8], at: usize, left: usize) -> Walk
             }
             binds(s, e, count, left)
         }
-        _ => Walk::Refused {
-            number: refusals::BAD_LINE,
-            at,
-        },
+        _ => wrong_at(l, b'S', at),
     }
 }
 
@@ -117,8 +166,16 @@ fn binds(s: &[u8], from: usize, count: u64, left: usize) -> Walk
             Walk::Next { at: q } => {
                 at = q;
             }
-            Walk::Refused { number, at: q } => {
-                return Walk::Refused { number, at: q };
+            Walk::Refused {
+                number,
+                column,
+                at: q,
+            } => {
+                return Walk::Refused {
+                    number,
+                    column,
+                    at: q,
+                };
             }
         }
         n -= 1;
@@ -135,27 +192,42 @@ fn binding(s: &[u8], at: usize, left: usize) -> Walk
     let e = g.next;
     match l {
         Line::Unbound => Walk::Next { at: e },
-        _ => typ(s, at, left),
+        _ => match end_at(l, b'U', at) {
+            Walk::Next { at: q } => typ(s, q, left),
+            Walk::Refused {
+                number,
+                column,
+                at: q,
+            } => Walk::Refused {
+                number,
+                column,
+                at: q,
+            },
+        },
     }
 }
 
 // The W rows that stand there, up to so many.
 pub fn words_up_to(s: &[u8], from: usize, most: u64) -> Counted
-    ensures { λ r. ⌜ got (r .count) (rows (drop (r .next) (now (s .entry))))
+    ensures { λ r. ⌜ walkedWith (now (s .entry)) (r .walk) (r .count)
         ≡ mapR length (readWordsUpTo most) (rows (drop from (now (s .entry)))) ⌝ }
 {
-    let mut next = from;
+    let mut at = from;
     let mut count: u64 = 0;
     while count < most {
-        let g = row::next(s, next);
+        let g = row::next(s, at);
         let line = g.line;
         let Line::Word { value: _ } = line else {
-            return Counted { count, next };
+            let walk = end_at(line, b'W', at);
+            return Counted { walk, count };
         };
-        next = g.next;
+        at = g.next;
         count += 1;
     }
-    Counted { count, next }
+    Counted {
+        walk: Walk::Next { at },
+        count,
+    }
 }
 
 // Whether W rows belong to a slot, by its explicit flag and the kind of its V row.
@@ -180,13 +252,10 @@ fn words(s: &[u8], at: usize, has: bool) -> Walk
         let l = g.line;
         let e = g.next;
         let Line::Word { value: _ } = l else {
-            return Walk::Refused {
-                number: refusals::BAD_LINE,
-                at,
-            };
+            return wrong_at(l, b'W', at);
         };
         let w = words_up_to(s, e, 254);
-        return Walk::Next { at: w.next };
+        return w.walk;
     }
     Walk::Next { at }
 }
@@ -202,13 +271,18 @@ pub fn slot(s: &[u8], at: usize, explicit: u64) -> Walk
             let l = g.line;
             let e = g.next;
             let Line::Value { kind, bits: _ } = l else {
-                return Walk::Refused {
-                    number: refusals::BAD_LINE,
-                    at: v,
-                };
+                return wrong_at(l, b'V', v);
             };
             words(s, e, has_words(explicit, kind))
         }
-        Walk::Refused { number, at: q } => Walk::Refused { number, at: q },
+        Walk::Refused {
+            number,
+            column,
+            at: q,
+        } => Walk::Refused {
+            number,
+            column,
+            at: q,
+        },
     }
 }

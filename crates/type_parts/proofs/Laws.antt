@@ -154,7 +154,7 @@ names-on (r ∷ rs) h = go (lineOf r) h
     go line.Unbound h = let z : ⊥ = omega arith in absurd z
     go (line.Value k b) h = let z : ⊥ = omega arith in absurd z
     go (line.Word x) h = let z : ⊥ = omega arith in absurd z
-    go line.Bad h = let z : ⊥ = omega arith in absurd z
+    go (line.Bad x k) h = let z : ⊥ = omega arith in absurd z
 
 -- rows' texts, one after the other; they are a node's names where they are as many
 pub texts-none : (n : ℕ) (rs : Rows) → n ≤ 0 → textsOf n rs ≡ []

@@ -16,9 +16,10 @@ use denote.Enum.Declared.{tagOf}
 use Rattle.row.proofs.Line.{the-type}
 use Rattle.row.proofs.Laws.{rows-out, rows-length}
 use Rattle.tree.proofs.OtherLines.{not-scope}
+use Rattle.tree.proofs.WalkLaws.{by-told}
 use Rattle.text.specs.Bytes.{Str, cond}
 use Rattle.row.specs.Rows.{rows, restOf, unboundRows}
-use Rattle.row.specs.Line.{lineSaid, lineOf, lineAt, reader, unboundLine, asType, asScope, asUnbound}
+use Rattle.row.specs.Line.{misplaced, lineSaid, lineOf, lineAt, reader, unboundLine, asType, asScope, asUnbound, faultOf}
 use Rattle.row.specs.Line.{Content, Root, Node, Parameter, Field, Group, Typ, Scope, Unbound, Value, Word, Bad}
 use Rattle.row.specs.declared.Line.{Line}
 use Rattle.row.specs.declared.Owing.{Owing}
@@ -45,7 +46,7 @@ as-type P (Scope i b c) this other f g = g
 as-type P Unbound this other f g = g
 as-type P (Value k b) this other f g = g
 as-type P (Word x) this other f g = g
-as-type P Bad this other f g = g
+as-type P (Bad x k) this other f g = g
 
 pub as-scope : {A : Type 0} (P : A → Type 0) (l : Content) (y : (ℕ → ℕ → ℕ → A)) (z : A)
     → ((i b c : ℕ) → l ≡ Scope i b c → P (y i b c)) → P z → P (asScope l y z)
@@ -59,7 +60,7 @@ as-scope P (Scope i b c) this other f g = f i b c refl
 as-scope P Unbound this other f g = g
 as-scope P (Value k b) this other f g = g
 as-scope P (Word x) this other f g = g
-as-scope P Bad this other f g = g
+as-scope P (Bad x k) this other f g = g
 
 pub as-unbound : {A : Type 0} (P : A → Type 0) (l : Content) (y : A) (z : A)
     → (l ≡ Unbound → P y) → P z → P (asUnbound l y z)
@@ -73,13 +74,21 @@ as-unbound P (Scope i b c) this other f g = g
 as-unbound P Unbound this other f g = f refl
 as-unbound P (Value k b) this other f g = g
 as-unbound P (Word x) this other f g = g
-as-unbound P Bad this other f g = g
+as-unbound P (Bad x k) this other f g = g
 
 -- ---- what is read
 
 pub on-map : {A B : Type 0} (f : A → B) (P : B → Type 0) (g : Reading A) → On g (λ a. P (f a)) → On (g then λ a. got (f a)) P
 on-map f P (got a rs) h = h
 on-map f P (no k rs) h = h
+
+-- what is read at a T row
+pub on-type :
+    {A : Type 0} (P : A → Type 0) (rs : Rows) (f : ℕ → ℕ → ℕ → ℕ → Reader A)
+    → ((k a b c : ℕ) → lineAt rs ≡ Typ k a b c → On (f k a b c (restOf rs)) P) → On (onType f (no misplaced) rs) P
+on-type {A} P rs f h =
+    as-type (λ (g : Reader A). On (g rs) P) (lineAt rs) _ _ h
+    (by-told (λ g. On g P) (faultOf 84 (lineAt rs)) (no misplaced) rs (λ k. tt) tt)
 
 pub on-one : {A : Type 0} (P Q : A → Type 0) (g : Reading A) → ((a : A) → P a → Q a) → On g P → On g Q
 on-one P Q (got a rs) f h = f a h
@@ -193,14 +202,15 @@ unfolding readBinding owed
 passes-binding ty h n rs =
     as-unbound (λ (f : Reader (Binds → Binds)). After (f rs) (λ rest. Leads rs (suc n) rest n)) (lineAt rs) _ _
     (λ e. leads-row rs n n (rw e) (rw (e, zero-add)))
-    (after-map (λ t bs. bound t bs) (λ rest. Leads rs (suc n) rest n) (ty rs) (h n rs))
+    (by-told (λ g. After g (λ rest. Leads rs (suc n) rest n)) (faultOf 85 (lineAt rs)) (mapR (λ t bs. bound t bs) ty) rs (λ k. tt)
+    (after-map (λ t bs. bound t bs) (λ rest. Leads rs (suc n) rest n) (ty rs) (h n rs)))
 
 passes-scope : (ty : Reader Ty) → Passes ty → Passes (read.readScope ty)
 unfolding read.readScope owed
 passes-scope ty h n rs =
     as-scope (λ (f : Reader (Scopes → Scopes)). After (f rs) (λ rest. Leads rs (suc n) rest n)) (lineAt rs) _ _
     (λ i b c e. go i b c e (eqb b 0) refl)
-    tt
+    (by-told (λ g. After g (λ rest. Leads rs (suc n) rest n)) (faultOf 83 (lineAt rs)) (no misplaced) rs (λ k. tt) tt)
   where
     go : (i b c : ℕ) → lineAt rs ≡ Scope i b c → (t : Bool) → eqb b 0 ≡ t
         → After {A = Scopes → Scopes} (cond t (got (λ ss. inherit i ss))
@@ -218,7 +228,8 @@ passes-scope ty h n rs =
 passes-type : (left : ℕ) → Passes (readType left)
 unfolding readType typeFrom owed
 passes-type zero n rs =
-    as-type (λ (f : Reader Ty). After (f rs) (λ rest. Leads rs (suc n) rest n)) (lineAt rs) _ _ (λ k a b c e. tt) tt
+    as-type (λ (f : Reader Ty). After (f rs) (λ rest. Leads rs (suc n) rest n)) (lineAt rs) _ _ (λ k a b c e. tt)
+    (by-told (λ g. After g (λ rest. Leads rs (suc n) rest n)) (faultOf 84 (lineAt rs)) (no misplaced) rs (λ k. tt) tt)
 passes-type (suc l) n rs = made (passes-type l)
   where
     go : Passes (readType l) → (k a b c : ℕ) → lineAt rs ≡ Typ k a b c → (x y z : Bool) → ltb k 14 ≡ x → eqb k 14 ≡ y
@@ -240,10 +251,11 @@ passes-type (suc l) n rs = made (passes-type l)
         (passes-times (read.readScope (readType l)) end (passes-scope (readType l) ih) b n (restOf rs)))
     go ih k a b c e false false false p q r = leads-row rs n n (rw e) (rw (e, p, q, r, zero-add))
 
-    made : Passes (readType l) → After (onType (typeFrom (readType l)) (no 2) rs) (λ rest. Leads rs (suc n) rest n)
+    made : Passes (readType l) → After (onType (typeFrom (readType l)) (no misplaced) rs) (λ rest. Leads rs (suc n) rest n)
     made ih =
         as-type (λ (f : Reader Ty). After (f rs) (λ rest. Leads rs (suc n) rest n)) (lineAt rs) _ _
-        (λ k a b c e. go ih k a b c e (ltb k 14) (eqb k 14) (ltb k 18) refl refl refl) tt
+        (λ k a b c e. go ih k a b c e (ltb k 14) (eqb k 14) (ltb k 18) refl refl refl)
+        (by-told (λ g. After g (λ rest. Leads rs (suc n) rest n)) (faultOf 84 (lineAt rs)) (no misplaced) rs (λ k. tt) tt)
 
 -- the rows after what counts as one, and its own rows
 past-one : {A : Type 0} (one : Reader A) → Passes one → (rs : Rows) → After (one rs) (λ rest. pastRows rs 1 ≡ rest)
@@ -364,7 +376,7 @@ one-scope : (left : ℕ) (sheet : Sheet) (rs : Rows) → On (read.readScope (rea
 unfolding read.readScope scopesOf
 one-scope left sheet rs =
     as-scope (λ (f : Reader (Scopes → Scopes)). On (f rs) (OneScope sheet rs)) (lineAt rs) _ _ (λ i b c e. go i b c e (eqb b 0))
-    tt
+    (by-told (λ g. On g (OneScope sheet rs)) (faultOf 83 (lineAt rs)) (no misplaced) rs (λ k. tt) tt)
   where
     go : (i b c : ℕ) → lineAt rs ≡ Scope i b c → (t : Bool)
         → On {A = Scopes → Scopes} (cond t (got (λ ss. inherit i ss))

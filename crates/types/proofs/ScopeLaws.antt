@@ -106,7 +106,7 @@ last-or id (suc n) rs f g h = go (lineAt rs) (λ rest x y. last-or id n rest x y
     go content.Unbound ih = h
     go (content.Value k b) ih = h
     go (content.Word x) ih = h
-    go content.Bad ih = h
+    go (content.Bad x k) ih = h
 
 -- n scopes are left from a position on, and these places are noted, if the rows of all scopes are there
 pub record Passing (s : Str) (from count : ℕ) (ids : List ℕ) (at n : ℕ) (places : List ℕ) : Type 0 where

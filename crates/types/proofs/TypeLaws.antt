@@ -15,7 +15,7 @@ use denote.Enum.Declared.{tagOf}
 use Rattle.row.proofs.Line.{the-type}
 use Rattle.text.specs.Bytes.{Str, cond}
 use Rattle.row.specs.Rows.{rows, restOf}
-use Rattle.row.specs.Line.{Content, Typ, Scope, lineSaid, lineAt}
+use Rattle.row.specs.Line.{fault, misplaced, Content, Typ, Scope, lineSaid, lineAt, faultOf}
 use Rattle.row.specs.declared.Line.{Line}
 use Rattle.row.specs.declared.Line.the-variants as line
 use Rattle.tree.specs.Tree.{Ty, plain, list, enum, struct, interface, parameter, anyPointer, Scopes, end, inherit, bind, Binds}
@@ -24,6 +24,7 @@ use Rattle.tree.specs.Reader.{Rows, Reading, got, no, Reader, _then_, mapR, tim
 use Rattle.tree.specs.Read as read
 use Rattle.tree.specs.Read.{readType, typeFrom, readBinding, pointer, branded}
 use Rattle.tree.proofs.OtherLines.{not-type, not-scope, not-unbound}
+use Rattle.tree.proofs.WalkLaws.{by-told}
 use Rattle.codegen_types.specs.Out.{Out, ok, refused}
 use Rattle.codegen_types.specs.TypeString as typeString
 use Rattle.codegen_types.specs.TypeString.{typeString, scopesOf, bindingsOf, anyOwned, getQualifiedModule, listString}
@@ -32,13 +33,13 @@ use Rattle.codegen_types.specs.declared.Leaf.{Leaf}
 use Rattle.codegen_types.specs.declared.Leaf.the-variants.{Owned}
 use Rattle.types.specs.Find.{After, kindAt, typeRow, TypeRowAt, pastRows, AllParts, Past, firstScope, ScopeHere}
 use Rattle.types.specs.declared.TypeRow.{TypeRow}
-use Rattle.types.proofs.Laws.{on-map, on-one, on-two, on-all, as-type, as-unbound, past-binding, binding-parts}
+use Rattle.types.proofs.Laws.{on-map, on-type, on-one, on-two, on-all, as-unbound, past-binding, binding-parts}
 
 -- ---- a type by its row
 
 pub type-zero : (left : ℕ) (rs : Rows) (P : Ty → Type 0) → left ≡ 0 → On (readType left rs) P
 unfolding readType
-type-zero left rs P z = rw z (as-type (λ (f : Reader Ty). On (f rs) P) (lineAt rs) _ _ (λ k a b c e. tt) tt)
+type-zero left rs P z = rw z (on-type P rs (λ k a b c rest. no (fault 4 1) rs) (λ k a b c e. tt))
 
 -- a type whose row was read, with what belongs to it
 pub type-row : (s : Str) (at : ℕ) (r : TypeRow) (left : ℕ) (P : Ty → Type 0) → TypeRowAt s at r → (left ≡ 0 → ⊥)
@@ -47,8 +48,7 @@ pub type-row : (s : Str) (at : ℕ) (r : TypeRow) (left : ℕ) (P : Ty → Type 
 unfolding readType
 type-row s at r zero P w z h = absurd (z refl)
 type-row s at r (suc l) P w z h =
-    as-type (λ (f : Reader Ty). On (f (rows (drop at s))) P) (lineAt (rows (drop at s))) _ _
-    (λ k a b c e. this k a b c (w .row ∙ rw e refl)) tt
+    on-type P (rows (drop at s)) (typeFrom (readType l)) (λ k a b c e. this k a b c (w .row ∙ rw e refl))
   where
     this : (k a b c : ℕ) → r ≡ typeRow (Typ k a b c) (r .next)
         → On (typeFrom (readType l) k a b c (restOf (rows (drop at s)))) P
@@ -134,10 +134,9 @@ from-kind left k a b c q = go (ltb k 14) (eqb k 14) (ltb k 18) (eqb a 0) refl re
 
 pub type-kind : (left : ℕ) (rs : Rows) → On (readType left rs) (λ ty. kind ty ≡ kindAt rs)
 unfolding readType
-type-kind zero rs = as-type (λ (f : Reader Ty). On (f rs) (λ ty. kind ty ≡ kindAt rs)) (lineAt rs) _ _ (λ k a b c e. tt) tt
+type-kind zero rs = on-type (λ ty. kind ty ≡ kindAt rs) rs (λ k a b c rest. no (fault 4 1) rs) (λ k a b c e. tt)
 type-kind (suc n) rs =
-    as-type (λ (f : Reader Ty). On (f rs) (λ ty. kind ty ≡ kindAt rs)) (lineAt rs) _ _
-    (λ k a b c e. rw e (from-kind n k a b c (restOf rs))) tt
+    on-type (λ ty. kind ty ≡ kindAt rs) rs (typeFrom (readType n)) (λ k a b c e. rw e (from-kind n k a b c (restOf rs)))
 
 -- ---- what `type_string` gives for lists, enums and brands: a claim `Q` of it
 
@@ -227,9 +226,10 @@ unfolding readBinding bindingsOf
 one-bind left rs =
     as-unbound (λ (f : Reader (Binds → Binds)). On (f rs) OneBind) (lineAt rs) _ _
     (λ e. record { text = λ sheet. ok (anyOwned (sheet .root)); first = λ sheet bs. refl })
+    (by-told (λ g. On g OneBind) (faultOf 85 (lineAt rs)) (mapR (λ t bs. bound t bs) (readType left)) rs (λ k. tt)
     (on-map (λ t bs. bound t bs) OneBind (readType left rs)
     (on-all {P = λ t. OneBind (λ bs. bound t bs)} (λ t. record
-    { text = λ sheet. typeString t sheet Owned; first = λ sheet bs. refl }) (readType left rs)))
+    { text = λ sheet. typeString t sheet Owned; first = λ sheet bs. refl }) (readType left rs))))
 
 pub bind-unbound : (left : ℕ) (rs : Rows) (P : (Binds → Binds) → Type 0) (l : Line) → lineSaid l ≡ lineAt rs → l ≡ line.Unbound
     → P (λ bs. unbound bs) → On (readBinding (readType left) rs) P
@@ -240,7 +240,10 @@ pub bind-typed : (left : ℕ) (rs : Rows) (P : (Binds → Binds) → Type 0) (l 
     → OneOf (0 ∷ 1 ∷ 2 ∷ 3 ∷ 4 ∷ 5 ∷ 6 ∷ 8 ∷ 9 ∷ 10 ∷ []) (tagOf the-type l)
     → On (readType left rs) (λ t. P (λ bs. bound t bs)) → On (readBinding (readType left) rs) P
 unfolding readBinding
-bind-typed left rs P l at other h = rw (← at, not-unbound l _ _ other) (on-map (λ t bs. bound t bs) P (readType left rs) h)
+bind-typed left rs P l at other h =
+    rw (← at, not-unbound l _ _ other)
+    (by-told (λ g. On g P) (faultOf 85 (lineAt rs)) (mapR (λ t bs. bound t bs) (readType left)) rs (λ k. tt)
+    (on-map (λ t bs. bound t bs) P (readType left rs) h))
 
 -- one binding, and the others after it
 pub binds-more : (left n : ℕ) (rs rest : Rows) → 0 < n → Past rs 1 rest
@@ -295,7 +298,9 @@ scope-binds left sheet rs rest o l i b m at is next z h =
 pub scope-not : (left : ℕ) (sheet : Sheet) (rs : Rows) (o : Option typeString.Scope) (l : Line) → lineSaid l ≡ lineAt rs
     → OneOf (0 ∷ 1 ∷ 2 ∷ 3 ∷ 4 ∷ 5 ∷ 7 ∷ 8 ∷ 9 ∷ 10 ∷ []) (tagOf the-type l) → ScopeHere left sheet rs o → ⊥
 unfolding ScopeHere read.readScope
-scope-not left sheet rs o l at other h = rw (← at, not-scope l _ _ other) at h
+scope-not left sheet rs o l at other h =
+    by-told {A = Scopes → Scopes} (λ g. Has g (λ f. o ≡ firstScope (scopesOf (f end) sheet)) → ⊥) (faultOf 83 (lineAt rs))
+    (no misplaced) rs (λ k z. z) (λ z. z) (rw (← at, not-scope l _ _ other) at h)
 
 -- as many bindings are read as were announced
 pub binds-length : (left : ℕ) (sheet : Sheet) (n : ℕ) (rs : Rows)

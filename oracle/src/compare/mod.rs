@@ -9,11 +9,12 @@ mod sheets;
 use crate::report::Report;
 
 /// Each comparison, with the random cases so many times.
-const COMPARISONS: [fn(u64) -> Report; 7] = [
+const COMPARISONS: [fn(u64) -> Report; 8] = [
     leaves::names,
     leaves::numbers,
     leaves::lines,
     sheets::admission,
+    sheets::faults,
     requests::types,
     requests::accessors,
     programs::outputs,

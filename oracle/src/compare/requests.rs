@@ -4,7 +4,7 @@ use crate::answer::{put, text, Request};
 use crate::boundary::answer as kitlubas;
 use crate::codegen::GeneratorContext;
 use crate::context::context;
-use crate::generate::{self, corners, damage, hostile};
+use crate::generate::{self, corners, damage, faults, hostile};
 use crate::random::Random;
 use crate::report::{difference, kept, Report};
 use crate::sheet::print::print;
@@ -39,9 +39,10 @@ fn compare(name: &'static str, seed: u64, count: u64, requests: &[Request]) -> R
         let (sheet, bytes) = generate::sheet(random, turn);
         fields(&mut report, random, &sheet, &bytes, requests, usize::MAX);
         nowhere(&mut report, random, &sheet, &bytes, requests);
-        let damaged = damage::damaged(random, &bytes);
-        let (node, place, request) = (sheet.nodes[0].id, random.below(3), *random.pick(requests));
-        one_request(&mut report, random, &Asked { bytes: &damaged, node, place, request });
+        for bytes in [damage::damaged(random, &bytes), faults::random(random, &bytes).bytes] {
+            let (node, place, request) = (sheet.nodes[0].id, random.below(3), *random.pick(requests));
+            one_request(&mut report, random, &Asked { bytes: &bytes, node, place, request });
+        }
     }
     report
 }
@@ -88,7 +89,7 @@ fn one_request(report: &mut Report, random: &mut Random, asked: &Asked) {
 }
 
 fn told(sheet: &Sheet, ctx: &GeneratorContext, asked: &Asked) -> Result<String, Refusal> {
-    text(sheet, ctx, asked.node, asked.place, asked.request).map_err(|number| Refusal { number, line: 0 })
+    text(sheet, ctx, asked.node, asked.place, asked.request).map_err(Refusal::nowhere)
 }
 
 /// The answer at a buffer of exactly its length, and at another one by chance.
@@ -111,7 +112,7 @@ fn one_case(report: &mut Report, asked: &Asked, expected: &Result<String, Refusa
     let before: Vec<u8> = (0..size).map(|at| (at * 37 + 129) as u8).collect();
     let mut buffer = before.clone();
     let answer = match expected {
-        _ if fill > size => Err(Refusal { number: 21, line: 0 }),
+        _ if fill > size => Err(Refusal::nowhere(21)),
         Ok(text) => put(text, fill, &mut buffer),
         Err(refusal) => Err(*refusal),
     };

@@ -1,8 +1,9 @@
 //! Admission: the sheet reader of this package against the static library's.
 
 use crate::boundary::admit::admit;
+use crate::generate::bounds::{self, Bound};
 use crate::generate::corners::{group, node, slot};
-use crate::generate::{self, bounds, damage};
+use crate::generate::{self, damage, faults};
 use crate::random::Random;
 use crate::report::{kept, Report};
 use crate::sheet::print::print;
@@ -13,8 +14,7 @@ use crate::sheet::{Sheet, Type};
 pub fn admission(times: u64) -> Report {
     let mut report = Report::new("admission");
     for bound in bounds::all() {
-        assert_eq!(read(&bound.bytes).err(), bound.expected, "{}", bound.name);
-        one_sheet(&mut report, &bound.bytes, &bound.name);
+        one_bound(&mut report, &bound);
     }
     let bed = node(7, 0, "bed", &[]);
     for named in [bed.clone().slots([slot("??", Type::Plain(1))]), bed.group(group("??", 9))] {
@@ -31,6 +31,20 @@ pub fn admission(times: u64) -> Report {
     report
 }
 
+/// Sheets with faults on one line: every one that there is, and four on lines of each valid sheet.
+pub fn faults(times: u64) -> Report {
+    let mut report = Report::new("faults on a line");
+    faults::each(|bound| one_bound(&mut report, bound));
+    let random = &mut Random::new(23);
+    for turn in 0..4_000 * times {
+        let (_, bytes) = generate::sheet(random, turn);
+        for _ in 0..4 {
+            one_bound(&mut report, &faults::random(random, &bytes));
+        }
+    }
+    report
+}
+
 /// A sheet with any two bytes in place of its name `??`.
 fn two_bytes(report: &mut Report, mut bytes: Vec<u8>) {
     let at = bytes.windows(2).position(|pair| pair == b"??").expect("the sheet has this name");
@@ -38,6 +52,12 @@ fn two_bytes(report: &mut Report, mut bytes: Vec<u8>) {
         bytes[at..at + 2].copy_from_slice(&pair.to_be_bytes());
         one_sheet(report, &bytes, "two bytes as a name");
     }
+}
+
+/// A sheet with its answer, which this package's own reader must give.
+fn one_bound(report: &mut Report, bound: &Bound) {
+    assert_eq!(read(&bound.bytes).err(), bound.expected, "{}: {}", bound.name, kept(&bound.bytes));
+    one_sheet(report, &bound.bytes, &bound.name);
 }
 
 fn one_sheet(report: &mut Report, bytes: &[u8], name: &str) {
@@ -49,6 +69,6 @@ fn one_sheet(report: &mut Report, bytes: &[u8], name: &str) {
 fn said(answer: Result<(), Refusal>) -> String {
     match answer {
         Ok(()) => "admitted".to_string(),
-        Err(Refusal { number, line }) => format!("{number} at line {line}"),
+        Err(Refusal { number, line, column }) => format!("{number} at line {line} column {column}"),
     }
 }

@@ -1,10 +1,12 @@
 //! Sheets at every bound of document 01 and of request N2 and one past it, each with its name and with the answer that
-//! they give it, written down here by hand.
+//! they and request N5 give it, written down here by hand.
 
 mod columns;
 mod letters;
 mod lines;
 mod order;
+
+pub(super) use order::{beginnings, one_line};
 
 use crate::sheet::print::numbers;
 use crate::sheet::read::Refusal;
@@ -37,59 +39,59 @@ impl Bounds {
         self.bytes(name.into(), lines.bytes(), None);
     }
 
-    fn refused(&mut self, name: impl Into<String>, lines: &Lines, number: u64, line: u64) {
-        self.bytes(name.into(), lines.bytes(), Some(Refusal { number, line }));
+    fn refused(&mut self, name: impl Into<String>, lines: &Lines, refusal: Refusal) {
+        self.bytes(name.into(), lines.bytes(), Some(refusal));
     }
 }
 
 /// A sheet as its lines, without their bytes 10.
 #[derive(Clone)]
-struct Lines(Vec<Vec<u8>>);
+pub(super) struct Lines(pub(super) Vec<Vec<u8>>);
 
 impl Lines {
-    fn new() -> Lines {
+    pub(super) fn new() -> Lines {
         Lines(Vec::new())
     }
 
     /// R and one struct node: what every sheet here begins with. Its next line is the third.
-    fn start() -> Lines {
+    pub(super) fn start() -> Lines {
         Lines::new().text('R', &[], "::capnp").text('N', &[7, 0, 0, 1, 0, 0, 0], "bed")
     }
 
     /// The lines of `start` and the F line of a slot, whose type is to follow as line 4.
-    fn slot() -> Lines {
+    pub(super) fn slot() -> Lines {
         Lines::start().text('F', &[3, 65535, 0, 0], "isFree")
     }
 
-    fn plain(mut self, letter: char, values: &[u64]) -> Lines {
+    pub(super) fn plain(mut self, letter: char, values: &[u64]) -> Lines {
         self.0.push(numbers(letter, values).into_bytes());
         self
     }
 
-    fn text(mut self, letter: char, values: &[u64], text: impl AsRef<[u8]>) -> Lines {
+    pub(super) fn text(mut self, letter: char, values: &[u64], text: impl AsRef<[u8]>) -> Lines {
         self.0.push([numbers(letter, values).as_bytes(), b" ", text.as_ref()].concat());
         self
     }
 
-    fn typ(self, columns: [u64; 4]) -> Lines {
+    pub(super) fn typ(self, columns: [u64; 4]) -> Lines {
         self.plain('T', &columns)
     }
 
-    fn void_value(self) -> Lines {
+    pub(super) fn void_value(self) -> Lines {
         self.plain('V', &[0, 0])
     }
 
-    fn and(mut self, more: &Lines) -> Lines {
+    pub(super) fn and(mut self, more: &Lines) -> Lines {
         self.0.extend(more.0.iter().cloned());
         self
     }
 
     /// The line that is added next, from 1.
-    fn next(&self) -> u64 {
+    pub(super) fn next(&self) -> u64 {
         self.0.len() as u64 + 1
     }
 
-    fn bytes(&self) -> Vec<u8> {
+    pub(super) fn bytes(&self) -> Vec<u8> {
         self.0.iter().flat_map(|line| [line, &b"\n"[..]].concat()).collect()
     }
 }

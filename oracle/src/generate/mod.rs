@@ -1,8 +1,10 @@
-//! Sheets to try: valid ones rich in everything, ones at every bound and one past it, and damaged copies.
+//! Sheets to try: valid ones rich in everything, ones at every bound and one past it, ones with faults on one line, and
+//! damaged copies.
 
 pub mod bounds;
 pub mod corners;
 pub mod damage;
+pub mod faults;
 pub mod full;
 pub mod hostile;
 mod types;

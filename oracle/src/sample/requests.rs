@@ -1,7 +1,7 @@
 //! Single requests: a sheet after a line with its length in decimal, and its requests after a line with theirs. A request is the
 //! letter Q and six numbers in 21 columns each: the node's id, the place, the request's number at the boundary, the leaf, the
-//! fill count and the length of a buffer of points. An answer is a line with the refusal's number, its line and the fill count
-//! afterwards, and the whole buffer with a byte 10 after it.
+//! fill count and the length of a buffer of points. An answer is a line with the refusal's number, its line, its column and the
+//! fill count afterwards, and the whole buffer with a byte 10 after it.
 
 use super::Sample;
 use crate::answer::{answer, Request};
@@ -49,11 +49,12 @@ impl Requests {
         self.asked.extend(numbers('Q', &columns).bytes());
         self.asked.push(b'\n');
         let mut buffer = vec![b'.'; length];
-        let (refusal, line, fill) = match answer(&self.sheet, node, place, request, fill, &mut buffer) {
-            Ok(fill) => (0, 0, fill),
-            Err(Refusal { number, line }) => (number, line, fill),
+        let (refusal, fill) = match answer(&self.sheet, node, place, request, fill, &mut buffer) {
+            Ok(fill) => (Refusal::nowhere(0), fill),
+            Err(refusal) => (refusal, fill),
         };
-        self.answers.extend(format!("{refusal} {line} {fill}\n").bytes());
+        let Refusal { number, line, column } = refusal;
+        self.answers.extend(format!("{number} {line} {column} {fill}\n").bytes());
         self.answers.extend(buffer);
         self.answers.push(b'\n');
     }
@@ -224,7 +225,7 @@ fn own_parent() -> Requests {
     requests
 }
 
-/// Bytes that are no sheet: none, a torn one, a byte too many, an id twice, a type with a 17th level, a torn letter.
+/// Bytes that are no sheet: none, a torn one, a byte too many, an id twice, a type with a 17th level, a torn letter, a bad number.
 fn bad() -> Vec<Vec<u8>> {
     let whole = bed().sheet;
     let twice = Sheet::of(vec![node(7, 0, "bed", &[]), node(7, 0, "bed", &[])]);
@@ -233,7 +234,9 @@ fn bad() -> Vec<Vec<u8>> {
     let longer = [&whole[..], b" "].concat();
     let mut torn_letter = print(&Sheet::of(vec![node(7, 0, "bed", &[]).group(group("é", 9))]));
     torn_letter.remove(torn_letter.len() - 2);
-    vec![Vec::new(), whole[..whole.len() - 1].to_vec(), longer, print(&twice), print(&levels), torn_letter]
+    let no_flag = [&whole[..], numbers('N', &[10, 7, 7, 2, 0, 0, 0]).as_bytes(), b" plan\n"].concat();
+    let torn = whole[..whole.len() - 1].to_vec();
+    vec![Vec::new(), torn, longer, print(&twice), print(&levels), torn_letter, no_flag]
 }
 
 /// A sheet's refusal comes before those of its requests, and after 21.

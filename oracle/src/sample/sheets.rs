@@ -1,14 +1,15 @@
-//! Admission: sheets, each after a line with its length in decimal. An answer is a line with the refusal's number and
-//! its line, `0 0` for an admitted sheet.
+//! Admission: sheets, each after a line with its length in decimal. An answer is a line with the refusal's number, its
+//! line and its column, `0 0 0` for an admitted sheet.
 
 use super::{Sample, BYTES};
 use crate::generate::bounds::{self, Bound};
-use crate::generate::{self, damage};
+use crate::generate::{self, damage, faults};
 use crate::random::Random;
 use crate::sheet::read::{read, Refusal};
+use std::collections::BTreeMap;
 
-/// What the sheets at bounds may take of the input.
-const BOUNDS: usize = 55_000;
+/// What the sheets at bounds may take of the input, beside those with faults on a line.
+const BOUNDS: usize = 32_000;
 /// Longer sheets would leave room for too few.
 const LONGEST: usize = 600;
 /// Bounds that are there whatever their length.
@@ -22,6 +23,7 @@ const TOLD: [&str; 5] = [
 
 pub fn sample() -> Sample {
     let mut sample = Sample::default();
+    let random = &mut Random::new(22);
     let bounds = bounds::all();
     let told = |bound: &&Bound| TOLD.contains(&bound.name.as_str()) || bound.name.contains("an id on a");
     bounds.iter().filter(told).for_each(|bound| add(&mut sample, &bound.bytes));
@@ -30,7 +32,7 @@ pub fn sample() -> Sample {
     let all: usize = short.iter().map(|bound| bound.bytes.len() + 4).sum();
     let count = short.len() * (BOUNDS - sample.stdin.len()) / all;
     (0..count).for_each(|at| add(&mut sample, &short[at * short.len() / count].bytes));
-    let random = &mut Random::new(22);
+    faulty(random).iter().for_each(|bytes| add(&mut sample, bytes));
     for turn in 0..400 {
         let (_, whole) = generate::sheet(random, turn);
         let damaged = damage::damaged(random, &whole);
@@ -43,7 +45,21 @@ pub fn sample() -> Sample {
     sample
 }
 
+/// For each letter, and each number and column by which a line that begins with it is told, one of the sheets with faults.
+fn faulty(random: &mut Random) -> Vec<Vec<u8>> {
+    let mut told: BTreeMap<(Option<u8>, u64, u64), Vec<Vec<u8>>> = BTreeMap::new();
+    faults::each(|bound| {
+        let refusal = bound.expected.filter(|_| bound.bytes.len() <= LONGEST);
+        if let Some(Refusal { number, line, column }) = refusal {
+            let row = bound.bytes.split(|&byte| byte == b'\n').nth(line as usize - 1);
+            let letter = row.and_then(|row| row.first().copied());
+            told.entry((letter, number, column)).or_default().push(bound.bytes.clone());
+        }
+    });
+    told.values().map(|sheets| random.pick(sheets).clone()).collect()
+}
+
 fn add(sample: &mut Sample, bytes: &[u8]) {
-    let Refusal { number, line } = read(bytes).err().unwrap_or(Refusal { number: 0, line: 0 });
-    sample.sheet(bytes, format!("{number} {line}\n").as_bytes());
+    let Refusal { number, line, column } = read(bytes).err().unwrap_or(Refusal::nowhere(0));
+    sample.sheet(bytes, format!("{number} {line} {column}\n").as_bytes());
 }

@@ -1,5 +1,5 @@
-//! Schema sheets: the tree of a sheet, read from bytes by `read` and written by `print`. Made from document 01 and request
-//! N2 alone, apart from the Rattle code, so that the two can be held against each other.
+//! Schema sheets: the tree of a sheet, read from bytes by `read` and written by `print`. Made from document 01 and the requests
+//! N2 and N5 alone, apart from the Rattle code, so that the two can be held against each other.
 
 pub mod print;
 pub mod read;

@@ -1,5 +1,5 @@
-//! Sheets read as document 01 says ('The sheet', 'Refusals from the input'), with the readings of its open points, and as
-//! request N2 says of the names of fields.
+//! Sheets read as document 01 says ('The sheet', 'Refusals from the input'), with the readings of its open points, as request N2
+//! says of the names of fields, and as request N5 says of the place of a fault.
 
 use super::{
     has_words, value_width, Binding, Field, Group, Node, Scope, Sheet, Slot, Type, Value, MAX_BYTES, MAX_LEVEL,
@@ -7,17 +7,50 @@ use super::{
 };
 use std::collections::HashSet;
 
-/// A refusal's number, and its line from 1, or 0 where no line is named.
+/// A refusal's number, and its line and its column, in bytes, both from 1, or both 0 where no line is named.
 #[derive(Clone, Copy, Debug, PartialEq, Eq)]
 pub struct Refusal {
     pub number: u64,
     pub line: u64,
+    pub column: u64,
+}
+
+impl Refusal {
+    /// A refusal that names no line.
+    pub fn nowhere(number: u64) -> Refusal {
+        Refusal { number, line: 0, column: 0 }
+    }
+
+    /// A letter that may not stand there, a line without its byte 10, or a sheet that ends too soon.
+    pub fn misplaced(line: u64) -> Refusal {
+        Refusal { number: 2, line, column: 1 }
+    }
+
+    /// An id that an earlier line of the same letter has.
+    pub fn doubled(line: u64) -> Refusal {
+        Refusal { number: 3, line, column: 2 }
+    }
+
+    /// A type of a 17th level.
+    pub fn too_deep(line: u64) -> Refusal {
+        Refusal { number: 4, line, column: 1 }
+    }
+
+    /// A bad number whose 21 columns begin at this one.
+    pub fn bad_number(line: u64, column: u64) -> Refusal {
+        Refusal { number: 16, line, column }
+    }
+
+    /// A bad text, a missing space or surplus bytes.
+    pub fn bad_text(line: u64, column: u64) -> Refusal {
+        Refusal { number: 17, line, column }
+    }
 }
 
 /// The tree of an admitted sheet, or its first bad line.
 pub fn read(bytes: &[u8]) -> Result<Sheet, Refusal> {
     if bytes.len() > MAX_BYTES {
-        return Err(Refusal { number: 1, line: 0 });
+        return Err(Refusal::nowhere(1));
     }
     let mut reader = Reader { rest: bytes, line: 1, node_ids: HashSet::new(), group_ids: HashSet::new() };
     reader.sheet()
@@ -35,11 +68,11 @@ type Read<T> = Result<T, Refusal>;
 
 impl<'a> Reader<'a> {
     fn sheet(&mut self) -> Read<Sheet> {
-        let ([], root) = self.text_line(b'R', is_root)?;
+        let root = self.row(b'R')?.text(is_root)?;
         let mut nodes = vec![self.node()?];
         while !self.rest.is_empty() {
             if nodes.len() == MAX_NODES {
-                return Err(self.bad(2));
+                return Err(Refusal::misplaced(self.line));
             }
             nodes.push(self.node()?);
         }
@@ -47,28 +80,24 @@ impl<'a> Reader<'a> {
     }
 
     fn node(&mut self) -> Read<Node> {
-        let line = self.line;
-        let (numbers, module) = self.text_line(b'N', is_module)?;
-        let [id, parent, scope_id, is_struct, generic, tag_count, tag_offset] = numbers;
-        let bits = Bits { line };
+        let mut row = self.row(b'N')?;
         let mut node = Node {
-            id: bits.id(id)?,
-            parent,
-            scope_id,
-            is_struct: bits.flag(is_struct)?,
-            generic: bits.flag(generic)?,
-            tag_count: bits.narrow(tag_count)?,
-            tag_offset: bits.narrow(tag_offset)?,
-            module,
+            id: row.id()?,
+            parent: row.number()?,
+            scope_id: row.number()?,
+            is_struct: row.flag()?,
+            generic: row.flag()?,
+            tag_count: row.narrow()?,
+            tag_offset: row.narrow()?,
+            module: row.text(is_module)?,
             parameters: Vec::new(),
             fields: Vec::new(),
         };
-        if !self.node_ids.insert(id) {
-            return Err(Refusal { number: 3, line });
+        if !self.node_ids.insert(node.id) {
+            return Err(Refusal::doubled(row.line));
         }
         while self.letter() == Some(b'P') {
-            let ([], name) = self.text_line(b'P', is_name)?;
-            node.parameters.push(name);
+            node.parameters.push(self.row(b'P')?.text(is_name)?);
         }
         loop {
             match self.letter() {
@@ -80,23 +109,21 @@ impl<'a> Reader<'a> {
     }
 
     fn group(&mut self) -> Read<Group> {
-        let line = self.line;
-        let ([id, discriminant], name) = self.text_line(b'G', is_field_name)?;
-        let bits = Bits { line };
-        let group = Group { id: bits.id(id)?, discriminant: bits.narrow(discriminant)?, name };
-        if !self.group_ids.insert(id) {
-            return Err(Refusal { number: 3, line });
+        let mut row = self.row(b'G')?;
+        let group = Group { id: row.id()?, discriminant: row.narrow()?, name: row.text(is_field_name)? };
+        if !self.group_ids.insert(group.id) {
+            return Err(Refusal::doubled(row.line));
         }
         Ok(group)
     }
 
     fn slot(&mut self) -> Read<Slot> {
-        let bits = Bits { line: self.line };
-        let ([offset, discriminant, explicit, option], name) = self.text_line(b'F', is_field_name)?;
-        let offset = bits.narrow(offset)?;
-        let discriminant = bits.narrow(discriminant)?;
-        let explicit = bits.flag(explicit)?;
-        let option = bits.flag(option)?;
+        let mut row = self.row(b'F')?;
+        let offset = row.narrow()?;
+        let discriminant = row.narrow()?;
+        let explicit = row.flag()?;
+        let option = row.flag()?;
+        let name = row.text(is_field_name)?;
         let typ = self.typ(1)?;
         let value = self.value()?;
         let words = if explicit && has_words(value.kind) { self.words()? } else { Vec::new() };
@@ -104,53 +131,53 @@ impl<'a> Reader<'a> {
     }
 
     fn value(&mut self) -> Read<Value> {
-        let line = self.line;
-        let [kind, bits] = self.plain_line(b'V')?;
-        let wide = |width: u32| width < 64 && bits >> width != 0;
-        if kind > 18 || wide(value_width(kind as u8)) {
-            return Err(Refusal { number: 2, line });
-        }
-        Ok(Value { kind: kind as u8, bits })
+        let mut row = self.row(b'V')?;
+        let kind = row.kind()?;
+        let width = value_width(kind);
+        let bits = row.number_if(|bits| width == 64 || bits >> width == 0)?;
+        row.end()?;
+        Ok(Value { kind, bits })
     }
 
     /// One to 255 words; the line after the last belongs to what follows, unless it is a 256th.
     fn words(&mut self) -> Read<Vec<u64>> {
-        let [first] = self.plain_line(b'W')?;
-        let mut words = vec![first];
+        let mut words = vec![self.word()?];
         while self.letter() == Some(b'W') {
             if words.len() == MAX_WORDS {
-                return Err(self.bad(2));
+                return Err(Refusal::misplaced(self.line));
             }
-            let [word] = self.plain_line(b'W')?;
-            words.push(word);
+            words.push(self.word()?);
         }
         Ok(words)
     }
 
+    fn word(&mut self) -> Read<u64> {
+        let mut row = self.row(b'W')?;
+        let word = row.number()?;
+        row.end()?;
+        Ok(word)
+    }
+
     fn typ(&mut self, level: usize) -> Read<Type> {
-        let line = self.line;
-        let [kind, a, b, c] = self.plain_line(b'T')?;
-        let well_formed = match (kind, a) {
-            (0..=14, _) => a == 0 && b == 0 && c == 0,
-            (15..=17, _) => c == 0,
-            (18, 0) => b == 0 && c == 0,
-            (18, 1) => c <= 65_535,
-            _ => false,
-        };
-        if !well_formed {
-            return Err(Refusal { number: 2, line });
-        }
+        let mut row = self.row(b'T')?;
+        let kind = row.kind()?;
+        let is_node = (15..=17).contains(&kind);
+        let a = row.number_if(|a| a == 0 || is_node || (kind == 18 && a == 1))?;
+        let is_parameter = kind == 18 && a == 1;
+        let b = row.number_if(|b| b == 0 || is_node || is_parameter)?;
+        let c = row.number_if(|c| c == 0 || (is_parameter && c <= 65_535))?;
+        row.end()?;
         if level > MAX_LEVEL {
-            return Err(Refusal { number: 4, line });
+            return Err(Refusal::too_deep(row.line));
         }
         Ok(match kind {
             14 => Type::List(Box::new(self.typ(level + 1)?)),
             15 => Type::Enum(a, self.scopes(b, level)?),
             16 => Type::Struct(a, self.scopes(b, level)?),
             17 => Type::Interface(a, self.scopes(b, level)?),
-            18 if a == 0 => Type::AnyPointer,
-            18 => Type::Parameter { scope_id: b, index: c as u16 },
-            _ => Type::Plain(kind as u8),
+            18 if is_parameter => Type::Parameter { scope_id: b, index: c as u16 },
+            18 => Type::AnyPointer,
+            _ => Type::Plain(kind),
         })
     }
 
@@ -164,100 +191,98 @@ impl<'a> Reader<'a> {
     }
 
     fn scope(&mut self, level: usize) -> Read<Scope> {
-        let line = self.line;
-        let [id, binds, count] = self.plain_line(b'S')?;
-        match binds {
-            0 if count == 0 => Ok(Scope { id, bindings: None }),
-            1 => {
-                let mut bindings = Vec::new();
-                for _ in 0..count {
-                    bindings.push(self.binding(level + 1)?);
-                }
-                Ok(Scope { id, bindings: Some(bindings) })
-            }
-            _ => Err(Refusal { number: 2, line }),
+        let mut row = self.row(b'S')?;
+        let id = row.number()?;
+        let binds = row.flag()?;
+        let count = row.number_if(|count| binds || count == 0)?;
+        row.end()?;
+        if !binds {
+            return Ok(Scope { id, bindings: None });
         }
+        let mut bindings = Vec::new();
+        for _ in 0..count {
+            bindings.push(self.binding(level + 1)?);
+        }
+        Ok(Scope { id, bindings: Some(bindings) })
     }
 
     fn binding(&mut self, level: usize) -> Read<Binding> {
         if self.letter() == Some(b'U') {
-            let [] = self.plain_line(b'U')?;
+            self.row(b'U')?.end()?;
             return Ok(Binding::Unbound);
         }
         Ok(Binding::Type(self.typ(level)?))
     }
 
-    /// A line of numbers only.
-    fn plain_line<const N: usize>(&mut self, letter: u8) -> Read<[u64; N]> {
-        let (numbers, rest) = self.numbers(letter)?;
-        if !rest.is_empty() {
-            return Err(self.bad(2));
-        }
-        self.step();
-        Ok(numbers)
-    }
-
-    /// A line of numbers, a space and a text.
-    fn text_line<const N: usize>(&mut self, letter: u8, is_text: fn(&str) -> bool) -> Read<([u64; N], String)> {
-        let (numbers, rest) = self.numbers(letter)?;
-        let text = rest.strip_prefix(b" ").and_then(|text| str::from_utf8(text).ok()).filter(|text| is_text(text));
-        let text = text.ok_or(self.bad(2))?;
-        self.step();
-        Ok((numbers, text.to_string()))
-    }
-
-    /// The numbers of the line that is next, and the rest of that line.
-    fn numbers<const N: usize>(&self, letter: u8) -> Read<([u64; N], &'a [u8])> {
-        let end = self.rest.iter().position(|&byte| byte == b'\n').ok_or(self.bad(2))?;
-        let line = &self.rest[..end];
-        let mut rest = line.strip_prefix(&[letter]).ok_or(self.bad(2))?;
-        let mut numbers = [0; N];
-        for number in &mut numbers {
-            let column = rest.get(..21).ok_or(self.bad(2))?;
-            *number = column_number(column).ok_or(self.bad(2))?;
-            rest = &rest[21..];
-        }
-        Ok((numbers, rest))
-    }
-
-    fn step(&mut self) {
-        let end = self.rest.iter().position(|&byte| byte == b'\n').expect("the line was read");
+    /// The line that is next, which must have this letter and its byte 10; its letter is read.
+    fn row(&mut self, letter: u8) -> Read<Row<'a>> {
+        let misplaced = Refusal::misplaced(self.line);
+        let end = self.rest.iter().position(|&byte| byte == b'\n').ok_or(misplaced)?;
+        let rest = self.rest[..end].strip_prefix(&[letter]).ok_or(misplaced)?;
+        let row = Row { rest, line: self.line, column: 2 };
         self.rest = &self.rest[end + 1..];
         self.line += 1;
+        Ok(row)
     }
 
     fn letter(&self) -> Option<u8> {
         self.rest.first().copied()
     }
-
-    fn bad(&self, number: u64) -> Refusal {
-        Refusal { number, line: self.line }
-    }
 }
 
-/// Bounds of the numbers of one line.
-struct Bits {
+/// A line that is read from left to right: what is left of it, and the column where that begins.
+struct Row<'a> {
+    rest: &'a [u8],
     line: u64,
+    column: u64,
 }
 
-impl Bits {
-    fn narrow<T: TryFrom<u64>>(&self, number: u64) -> Read<T> {
-        T::try_from(number).map_err(|_| Refusal { number: 2, line: self.line })
+impl Row<'_> {
+    fn number(&mut self) -> Read<u64> {
+        self.number_if(|_| true)
     }
 
-    fn flag(&self, number: u64) -> Read<bool> {
-        match number {
-            0 => Ok(false),
-            1 => Ok(true),
-            _ => Err(Refusal { number: 2, line: self.line }),
-        }
-    }
-
-    fn id(&self, number: u64) -> Read<u64> {
-        if number == 0 {
-            return Err(Refusal { number: 2, line: self.line });
-        }
+    /// The number in the next 21 columns, where it may be this one.
+    fn number_if(&mut self, may_be: impl Fn(u64) -> bool) -> Read<u64> {
+        let number = self.rest.get(..21).and_then(column_number).filter(|&number| may_be(number));
+        let number = number.ok_or(Refusal::bad_number(self.line, self.column))?;
+        self.rest = &self.rest[21..];
+        self.column += 21;
         Ok(number)
+    }
+
+    fn id(&mut self) -> Read<u64> {
+        self.number_if(|id| id != 0)
+    }
+
+    fn flag(&mut self) -> Read<bool> {
+        Ok(self.number_if(|flag| flag <= 1)? == 1)
+    }
+
+    fn kind(&mut self) -> Read<u8> {
+        Ok(self.number_if(|kind| kind <= 18)? as u8)
+    }
+
+    /// A number of 16 or 32 bits.
+    fn narrow<T: TryFrom<u64>>(&mut self) -> Read<T> {
+        let refusal = Refusal::bad_number(self.line, self.column);
+        T::try_from(self.number()?).map_err(|_| refusal)
+    }
+
+    /// One space and the text, which is the rest of the line.
+    fn text(&mut self, is_text: fn(&str) -> bool) -> Read<String> {
+        let text = self.rest.strip_prefix(b" ").ok_or(Refusal::bad_text(self.line, self.column))?;
+        let text = str::from_utf8(text).ok().filter(|text| is_text(text));
+        Ok(text.ok_or(Refusal::bad_text(self.line, self.column + 1))?.to_string())
+    }
+
+    /// Nothing more stands on the line.
+    fn end(&self) -> Read<()> {
+        if self.rest.is_empty() {
+            Ok(())
+        } else {
+            Err(Refusal::bad_text(self.line, self.column))
+        }
     }
 }
 

@@ -17,7 +17,7 @@ extern "C" {
     pub fn kitlubas_snake(at: usize, buf: *mut u8, buf_len: usize, name: *const u8, name_len: usize) -> usize;
     pub fn kitlubas_default_name(at: usize, buf: *mut u8, buf_len: usize, name: *const u8, name_len: usize) -> usize;
     pub fn kitlubas_module_name(at: usize, buf: *mut u8, buf_len: usize, name: *const u8, name_len: usize) -> usize;
-    pub fn kitlubas_admit(s: *const u8, s_len: usize, line: *mut usize) -> u64;
+    pub fn kitlubas_admit(s: *const u8, s_len: usize, line: *mut usize, column: *mut usize) -> u64;
     pub fn kitlubas_answer(
         s: *const u8,
         s_len: usize,
@@ -27,11 +27,19 @@ extern "C" {
         leaf: u64,
         fill: *mut usize,
         line: *mut usize,
+        column: *mut usize,
         buf: *mut u8,
         buf_len: usize,
     ) -> u64;
     pub fn kitlubas_index_size(size: usize) -> usize;
-    pub fn kitlubas_index(s: *const u8, s_len: usize, index: *mut u64, index_len: usize, line: *mut usize) -> u64;
+    pub fn kitlubas_index(
+        s: *const u8,
+        s_len: usize,
+        index: *mut u64,
+        index_len: usize,
+        line: *mut usize,
+        column: *mut usize,
+    ) -> u64;
     pub fn kitlubas_answer_in(
         s: *const u8,
         s_len: usize,
@@ -43,6 +51,7 @@ extern "C" {
         leaf: u64,
         fill: *mut usize,
         line: *mut usize,
+        column: *mut usize,
         buf: *mut u8,
         buf_len: usize,
     ) -> u64;

@@ -1,6 +1,6 @@
 //! Names with letters that have accents: from the sheet to the texts and to the name helpers, and what is no such name.
 
-use crate::common::{ask, file, sheet, told};
+use crate::common::{ask, file, sheet, told, Told};
 use crate::raw::{default_name, module_name, snake};
 use kitlubas::{admit, Form, NodeId, Place, Request, Sheet, Side};
 use std::fs;
@@ -44,6 +44,9 @@ const NO_LETTERS: [&[u8]; 14] = [
     b"A\xcc\x88",
     b"\xc3\x84\xcc\x80",
 ];
+
+/// The answers to the sheets of a name that is none, for a slot and for a group.
+const AT_THE_NAME: [Result<(), Told>; 2] = [Err((17, Some((3, 87)))), Err((17, Some((3, 45))))];
 
 /// A sheet whose field on line 3 has a name of any bytes: a slot's, or a group's.
 fn named(name: &[u8]) -> [Vec<u8>; 2] {
@@ -107,22 +110,21 @@ fn names_of_64_bytes() {
         }
     }
     for name in ["é".repeat(33), ascii(63) + "é", "Ä".to_string() + &ascii(63), ascii(1) + SMALL] {
-        assert!(named(name.as_bytes()).iter().all(|bytes| admit(bytes).map_err(told) == Err((2, Some(3)))));
+        assert_eq!(named(name.as_bytes()).map(|bytes| admit(&bytes).map_err(told)), AT_THE_NAME);
     }
 }
 
 #[test]
-fn no_letters_are_refused_at_their_line() {
+fn no_letters_are_refused_where_the_name_begins() {
     for bytes in NO_LETTERS {
         for name in [bytes.to_vec(), [b"a", bytes].concat(), [bytes, b"a"].concat(), [b"\xc3\xa9", bytes].concat()] {
-            for sheet in named(&name) {
-                assert_eq!(admit(&sheet).map_err(told), Err((2, Some(3))), "{}", name.escape_ascii());
-            }
+            let answers = named(&name).map(|bytes| admit(&bytes).map_err(told));
+            assert_eq!(answers, AT_THE_NAME, "{}", name.escape_ascii());
         }
     }
     // A letter in front of a digit passes, and a digit in front of a letter does not.
     assert!(named("Ä9".as_bytes()).iter().all(|bytes| admit(bytes).is_ok()));
-    assert!(named("9Ä".as_bytes()).iter().all(|bytes| admit(bytes).map_err(told) == Err((2, Some(3)))));
+    assert_eq!(named("9Ä".as_bytes()).map(|bytes| admit(&bytes).map_err(told)), AT_THE_NAME);
 }
 
 /// Cut off after each of its bytes, in the middle of letters too, the sheet is whole only behind its node and its fields.
@@ -133,7 +135,7 @@ fn torn_at_every_byte() {
     for end in 0..=bytes.len() {
         match admit(&bytes[..end]).map_err(told) {
             Ok(()) => whole.push(bytes[..end].iter().filter(|&&byte| byte == b'\n').count()),
-            Err((number, line)) => assert_eq!((number, line.is_some()), (2, true)),
+            Err((number, spot)) => assert_eq!((number, spot.map(|spot| spot.1)), (2, Some(1))),
         }
     }
     // A Text's default may have one word or both.
@@ -143,20 +145,20 @@ fn torn_at_every_byte() {
 #[test]
 fn other_texts_keep_to_ascii() {
     let refused = |short: &str| admit(&sheet(short)).map_err(told);
-    assert_eq!(refused("R ::cäpnp\nN 7 0 0 1 0 0 0 bed\n"), Err((2, Some(1))));
-    assert_eq!(refused("R ::capnp\nN 7 0 0 1 0 0 0 bäd\n"), Err((2, Some(2))));
-    assert_eq!(refused("R ::capnp\nN 7 0 0 1 0 0 0 bed\nP Gäste\n"), Err((2, Some(3))));
+    assert_eq!(refused("R ::cäpnp\nN 7 0 0 1 0 0 0 bed\n"), Err((17, Some((1, 3)))));
+    assert_eq!(refused("R ::capnp\nN 7 0 0 1 0 0 0 bäd\n"), Err((17, Some((2, 150)))));
+    assert_eq!(refused("R ::capnp\nN 7 0 0 1 0 0 0 bed\nP Gäste\n"), Err((17, Some((3, 3)))));
 }
 
 /// A bad name comes before an id that an earlier line has.
 #[test]
-fn two_comes_before_three() {
+fn a_bad_name_comes_before_a_doubled_id() {
     let twice = |name: &[u8]| {
         let [_, bytes] = named("é".as_bytes());
         [&bytes[..], &sheet("G 8 65535 "), name, b"\n"].concat()
     };
-    assert_eq!(admit(&twice("ä".as_bytes())).map_err(told), Err((3, Some(4))));
-    assert_eq!(admit(&twice(b"\xc3")).map_err(told), Err((2, Some(4))));
+    assert_eq!(admit(&twice("ä".as_bytes())).map_err(told), Err((3, Some((4, 2)))));
+    assert_eq!(admit(&twice(b"\xc3")).map_err(told), Err((17, Some((4, 45)))));
 }
 
 #[test]

@@ -53,11 +53,12 @@ pub fn file(path: &str) -> PathBuf {
     PathBuf::from(env!("CARGO_MANIFEST_DIR")).join("..").join(path)
 }
 
-/// A refusal by its number and its line.
-pub type Told = (u64, Option<usize>);
+/// A refusal by its number, and by its line and its column, which come together.
+pub type Told = (u64, Option<(usize, usize)>);
 
 pub fn told(refusal: Refusal) -> Told {
-    (refusal.number, refusal.line)
+    assert_eq!(refusal.line.is_some(), refusal.column.is_some(), "{refusal:?}");
+    (refusal.number, refusal.line.zip(refusal.column))
 }
 
 /// The text of a request, straight from bytes.

@@ -22,6 +22,10 @@ fn ask_anything(sheet: &[u8], random: &mut Random) {
     }
 }
 
+fn newlines(bytes: &[u8]) -> usize {
+    bytes.iter().filter(|&&byte| byte == b'\n').count()
+}
+
 /// Cut off after each of its bytes, a sheet is whole only where a node or a slot ends.
 #[test]
 fn torn_sheets() {
@@ -32,7 +36,8 @@ fn torn_sheets() {
         let torn = &ward[..cut];
         match admit(torn) {
             Ok(()) => whole += 1,
-            Err(refusal) => assert_eq!((refusal.number, refusal.line.is_some()), (2, true)),
+            // The line that is torn, or the one that is missing.
+            Err(refusal) => assert_eq!(told(refusal), (2, Some((1 + newlines(torn), 1)))),
         }
         for _ in 0..4 {
             ask_anything(torn, &mut random);

@@ -36,7 +36,7 @@ fn the_headers_are_c_and_cpp() {
     }
 }
 
-/// The example in C, over the first example's sheet and over one that is refused.
+/// The example in C, over the first example's sheet and over two that are refused.
 #[test]
 fn a_setter_printed_by_c() {
     let Some(mut compiler) = compiler("cc") else { return };
@@ -51,7 +51,9 @@ fn a_setter_printed_by_c() {
     let setter = "#[inline]\npub fn set_is_free(&mut self, value: bool)  {\n    \
         self.builder.set_bool_field_mask(3, value, true);\n}\n";
     assert_eq!(String::from_utf8_lossy(&output(&mut run("examples/is_free.sheet")).stdout), setter);
-    let torn = run("examples/torn.sheet").output().expect("the program can be run");
-    assert!(!torn.status.success() && torn.stdout.is_empty());
-    assert_eq!(String::from_utf8_lossy(&torn.stderr), "the sheet: refused 2 line 5\n");
+    for (name, said) in [("torn", "refused 2 line 5 column 1\n"), ("shifted", "refused 16 line 6 column 23\n")] {
+        let refused = run(&format!("examples/{name}.sheet")).output().expect("the program can be run");
+        assert!(!refused.status.success() && refused.stdout.is_empty());
+        assert_eq!(String::from_utf8_lossy(&refused.stderr), format!("the sheet: {said}"));
+    }
 }

@@ -1,6 +1,7 @@
 //! The tests of the crate.
 
 mod accents;
+mod columns;
 mod common;
 mod examples;
 mod fill;

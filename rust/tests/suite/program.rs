@@ -29,8 +29,10 @@ fn every_example_sheet() {
 
 #[test]
 fn a_refused_sheet_is_one_line() {
-    assert_eq!(written(&[0; 65_537]), "refused 1 line 0\n");
-    assert_eq!(written(b"R ::capnp\n"), "refused 2 line 2\n");
+    assert_eq!(written(&[0; 65_537]), "refused 1 line 0 column 0\n");
+    assert_eq!(written(b"R ::capnp\n"), "refused 2 line 2 column 1\n");
+    assert_eq!(written(b"R ::capnp\nN\n"), "refused 16 line 2 column 2\n");
+    assert_eq!(written(b"R\n"), "refused 17 line 1 column 2\n");
 }
 
 /// A text of more than 65,536 bytes is refused by 22: a type with thousands of parameters that nothing is bound to.

@@ -17,7 +17,7 @@ pub const FIELD_SIZE: usize = 14;
 /// The text of a request by its numbers, or the number of the refusal.
 pub fn text(sheet: &[u8], (id, place): (u64, u64), request: u64, leaf: u64) -> Result<String, u64> {
     let mut buf = vec![0; 65_536];
-    let (mut fill, mut line) = (0, 0);
+    let (mut fill, mut line, mut column) = (0, 0, 0);
     let number = unsafe {
         declarations::kitlubas_answer(
             sheet.as_ptr(),
@@ -28,6 +28,7 @@ pub fn text(sheet: &[u8], (id, place): (u64, u64), request: u64, leaf: u64) -> R
             leaf,
             &mut fill,
             &mut line,
+            &mut column,
             buf.as_mut_ptr(),
             buf.len(),
         )
@@ -64,22 +65,28 @@ pub fn module_name(name: &[u8]) -> Option<String> {
     helped(declarations::kitlubas_module_name, name)
 }
 
+/// What a sheet is answered by: a number, a line and a column.
+type Answer = (u64, usize, usize);
+
+/// The answer of a sheet that is admitted.
+const ADMITTED: Answer = (0, 0, 0);
+
 /// The index of a sheet, with so many numbers, and what was answered; nothing behind the numbers is written.
-fn index(bytes: &[u8], length: usize) -> ((u64, usize), Vec<u64>) {
+fn index(bytes: &[u8], length: usize) -> (Answer, Vec<u64>) {
     let guard = u64::from(GUARD);
     let mut index = vec![guard; length + ROOM];
-    let mut line = usize::MAX;
-    let number =
-        unsafe { declarations::kitlubas_index(bytes.as_ptr(), bytes.len(), index.as_mut_ptr(), length, &mut line) };
+    let (mut line, mut column) = (usize::MAX, usize::MAX);
+    let (s, s_len, index_at) = (bytes.as_ptr(), bytes.len(), index.as_mut_ptr());
+    let number = unsafe { declarations::kitlubas_index(s, s_len, index_at, length, &mut line, &mut column) };
     assert!(index[length..].iter().all(|number| *number == guard), "a number behind the index was written");
     index.truncate(length);
-    ((number, line), index)
+    ((number, line, column), index)
 }
 
-fn admit(bytes: &[u8]) -> (u64, usize) {
-    let mut line = usize::MAX;
-    let number = unsafe { declarations::kitlubas_admit(bytes.as_ptr(), bytes.len(), &mut line) };
-    (number, line)
+fn admit(bytes: &[u8]) -> Answer {
+    let (mut line, mut column) = (usize::MAX, usize::MAX);
+    let number = unsafe { declarations::kitlubas_admit(bytes.as_ptr(), bytes.len(), &mut line, &mut column) };
+    (number, line, column)
 }
 
 fn index_size(length: usize) -> usize {
@@ -121,7 +128,7 @@ fn any(random: &mut Random, bound: usize) -> u64 {
 fn answer_anything(bytes: &[u8], index: &[u64], random: &mut Random) {
     let length = [0, 1, 50, 1000][random.below(4)];
     let kept = random.below(length + 2);
-    let (mut fill, mut line, mut lent) = (kept, 0, Lent::new(length));
+    let (mut fill, mut line, mut column, mut lent) = (kept, 0, 0, Lent::new(length));
     let number = unsafe {
         declarations::kitlubas_answer_in(
             bytes.as_ptr(),
@@ -134,6 +141,7 @@ fn answer_anything(bytes: &[u8], index: &[u64], random: &mut Random) {
             any(random, 11),
             &mut fill,
             &mut line,
+            &mut column,
             lent.start(),
             length,
         )
@@ -269,11 +277,13 @@ fn an_index_of_any_length() {
     let ward = sheet(WARD);
     let size = index_size(ward.len());
     for length in (0..size + 3).step_by(1 + size / 200) {
-        assert_eq!(index(&ward, length).0, (0, 0));
+        assert_eq!(index(&ward, length).0, ADMITTED);
         assert_eq!(index(&ward[..ward.len() - 1], length).0, admit(&ward[..ward.len() - 1]));
     }
+    assert_eq!(admit(&ward), ADMITTED);
+    assert_eq!(admit(&ward[..ward.len() - 1]), (2, 33, 1));
     let (answer, whole) = index(&ward, size);
-    assert_eq!(answer, (0, 0));
+    assert_eq!(answer, ADMITTED);
     assert_eq!(node(&ward, &whole, 0).map(|node| node.0), Some(7));
     assert_eq!(node(&ward, &whole, 1).map(|node| node.0), Some(9));
     assert_eq!([2, 63, 64, usize::MAX].map(|number| node(&ward, &whole, number)), [None; 4]);

@@ -1,4 +1,4 @@
-//! Every refusal, from a smallest sheet that is refused by it, and its sentence.
+//! Every refusal, from a smallest sheet that is refused by it, with its line and column, and its sentence.
 
 use crate::common::{ask, requests, sheet, told, Told};
 use kitlubas::{Form, Leaf, NodeId, Place, Request, Side};
@@ -10,8 +10,8 @@ fn refused(number: u64) -> Told {
     (number, None)
 }
 
-fn at_line(number: u64, line: usize) -> Told {
-    (number, Some(line))
+fn at(number: u64, line: usize, column: usize) -> Told {
+    (number, Some((line, column)))
 }
 
 fn admit(sheet: &[u8]) -> Result<(), Told> {
@@ -31,30 +31,30 @@ fn refusal(sheet: &[u8], request: Request) -> Told {
 #[test]
 fn number_1_a_sheet_over_65536_bytes() {
     assert_eq!(admit(&[0; 65_537]), Err(refused(1)));
-    assert_eq!(admit(&[0; 65_536]), Err(at_line(2, 1)));
+    assert_eq!(admit(&[0; 65_536]), Err(at(2, 1, 1)));
     assert_eq!(refusal(&[0; 65_537], OWNED), refused(1));
 }
 
 #[test]
-fn number_2_a_line_or_order() {
-    assert_eq!(admit(b""), Err(at_line(2, 1)));
-    assert_eq!(admit(b"R ::capnp\n"), Err(at_line(2, 2)));
-    assert_eq!(admit(&slot("F 3 65535 1 0 isFree\nT 1 0 0 0\n")), Err(at_line(2, 5)));
-    assert_eq!(admit(&slot("U")), Err(at_line(2, 3)));
-    assert_eq!(refusal(b"", OWNED), at_line(2, 1));
+fn number_2_a_letter_order_or_end() {
+    assert_eq!(admit(b""), Err(at(2, 1, 1)));
+    assert_eq!(admit(b"R ::capnp\n"), Err(at(2, 2, 1)));
+    assert_eq!(admit(&slot("F 3 65535 1 0 isFree\nT 1 0 0 0\n")), Err(at(2, 5, 1)));
+    assert_eq!(admit(&slot("U")), Err(at(2, 3, 1)));
+    assert_eq!(refusal(b"", OWNED), at(2, 1, 1));
 }
 
 #[test]
 fn number_3_an_id_on_a_second_node() {
-    assert_eq!(admit(&slot("N 7 0 0 1 0 0 0 bed\n")), Err(at_line(3, 3)));
-    assert_eq!(admit(&slot("G 9 65535 plan\nG 9 65535 plan\n")), Err(at_line(3, 4)));
+    assert_eq!(admit(&slot("N 7 0 0 1 0 0 0 bed\n")), Err(at(3, 3, 2)));
+    assert_eq!(admit(&slot("G 9 65535 plan\nG 9 65535 plan\n")), Err(at(3, 4, 2)));
 }
 
 #[test]
 fn number_4_a_17th_level() {
     let lists = |count| format!("F 0 65535 0 0 plan\n{}T 1 0 0 0\nV 14 0\n", "T 14 0 0 0\n".repeat(count));
     assert_eq!(admit(&slot(&lists(15))), Ok(()));
-    assert_eq!(admit(&slot(&lists(16))), Err(at_line(4, 20)));
+    assert_eq!(admit(&slot(&lists(16))), Err(at(4, 20, 1)));
     let own_parent = sheet("R ::capnp\nN 7 7 7 1 0 0 0 bed\nF 0 65535 0 0 plan\nT 16 7 0 0\nV 16 0\n");
     assert_eq!(refusal(&own_parent, OWNED), refused(4));
 }
@@ -133,6 +133,20 @@ fn number_15_no_such_node_or_field() {
 }
 
 #[test]
+fn number_16_a_number() {
+    assert_eq!(admit(&slot("F 3 65536 1 0 isFree\nT 1 0 0 0\nV 1 1\n")), Err(at(16, 3, 23)));
+    assert_eq!(admit(&slot("F 3 65535 1 0 isFree\nT 18 0 7 0\nV 18 0\n")), Err(at(16, 4, 44)));
+    assert_eq!(refusal(&slot("F 3 65535 1 0 isFree\nT 1 0 0 0\nV 1 2\n"), OWNED), at(16, 5, 23));
+}
+
+#[test]
+fn number_17_a_text_or_surplus_bytes() {
+    assert_eq!(admit(&slot("F 3 65535 1 0 9Free\nT 1 0 0 0\nV 1 1\n")), Err(at(17, 3, 87)));
+    assert_eq!(admit(&slot("F 3 65535 1 0 isFree\nT 1 0 0 0 0\nV 1 1\n")), Err(at(17, 4, 86)));
+    assert_eq!(refusal(&slot("P\n"), OWNED), at(17, 3, 2));
+}
+
+#[test]
 fn number_21_a_fill_count_above_the_length() {
     let flag = slot("F 3 65535 0 0 isFree\nT 1 0 0 0\nV 1 0\n");
     assert_eq!(ask(&flag, (7, 0), OWNED, 100, 101), Err(refused(21)));
@@ -150,11 +164,11 @@ fn number_22_no_room() {
     assert_eq!(ask(&flag, (8, 0), OWNED, 0, 0), Err(refused(15)));
 }
 
-const SENTENCES: [(u64, &str); 17] = [
+const SENTENCES: [(u64, &str); 19] = [
     (1, "the sheet has more than 65,536 bytes (refusal 1)"),
-    (2, "the line is not written as a sheet's line, or it stands where it may not stand (refusal 2, line 1)"),
-    (3, "the line gives an id that an earlier line of the same letter has (refusal 3, line 3)"),
-    (4, "a type, a chain of parents or the groups inside each other have a 17th level (refusal 4, line 20)"),
+    (2, "line 1, column 1: a line with a letter that may stand there, and a newline at its end (refusal 2)"),
+    (3, "line 3, column 2: an id that no earlier line of the same letter has (refusal 3)"),
+    (4, "line 20, column 1: a type of at most 16 levels (refusal 4)"),
     (5, "a node that the field refers to is not in the sheet (refusal 5)"),
     (6, "a list of AnyPointer has no text (refusal 6)"),
     (7, "a type parameter has no client, server, dispatch or get_type (refusal 7)"),
@@ -166,6 +180,8 @@ const SENTENCES: [(u64, &str); 17] = [
     (13, "a type parameter's index is past the parameters of its node (refusal 13)"),
     (14, "the node of a group is not a struct (refusal 14)"),
     (15, "the sheet has no such node or field, or such a request is not for such a field (refusal 15)"),
+    (16, "line 3, column 2: the offset, a number of 32 bits, right-justified in 21 columns (refusal 16)"),
+    (17, "line 3, column 2: one space before the parameter's name (refusal 17)"),
     (21, "the fill count is above the buffer's length (refusal 21)"),
     (22, "the text is longer than the free part of the buffer (refusal 22)"),
 ];
@@ -190,14 +206,16 @@ fn met(number: u64) -> (Vec<u8>, Request) {
         13 => (plan("T 18 1 7 0\n", 18), OWNED),
         14 => (slot("G 9 65535 plan\nN 9 7 7 0 0 0 0 plan\n"), Request::Zeroing),
         15 => (slot(""), OWNED),
+        16 => (slot("F 4294967296 65535 0 0 plan\n"), OWNED),
+        17 => (slot("P\n"), OWNED),
         _ => (plan("T 1 0 0 0\n", 1), OWNED),
     }
 }
 
-/// Each number is met, straight from bytes, and says its own sentence, with the line where it has one.
+/// Each number is met, straight from bytes, and says its own sentence, or what is expected at the spot where it has one.
 #[test]
 fn each_number_says_its_sentence() {
-    assert!(SENTENCES.iter().map(|row| row.0).eq((1..=15).chain([21, 22])));
+    assert!(SENTENCES.iter().map(|row| row.0).eq((1..=17).chain([21, 22])));
     for (number, sentence) in SENTENCES {
         let (sheet, request) = met(number);
         let (length, fill) = match number {
@@ -208,14 +226,23 @@ fn each_number_says_its_sentence() {
         let answer = kitlubas::answer(&sheet, NodeId(7), Place(0), request, &mut vec![0; length], fill);
         let refusal = answer.expect_err(sentence);
         assert_eq!((refusal.number, refusal.to_string().as_str()), (number, sentence));
-        assert!(sentence.starts_with(refusal.sentence()));
+        assert_eq!(sentence.starts_with(refusal.sentence()), refusal.line.is_none());
     }
+}
+
+/// A chain of parents has a 17th level too, and no line.
+#[test]
+fn number_4_says_its_sentence_where_it_has_no_line() {
+    let own_parent = sheet("R ::capnp\nN 7 7 7 1 0 0 0 bed\nF 0 65535 0 0 plan\nT 16 7 0 0\nV 16 0\n");
+    let refusal = kitlubas::text(&own_parent, NodeId(7), Place(0), OWNED).expect_err("the request is refused");
+    let sentence = "a type, a chain of parents or the groups inside each other have a 17th level (refusal 4)";
+    assert_eq!(refusal.to_string(), sentence);
 }
 
 /// The refusals of texts are met by a text with as much room as it takes, too.
 #[test]
 fn each_number_of_a_text() {
-    for number in 1..=15 {
+    for number in 1..=17 {
         let (sheet, request) = met(number);
         let refusal = kitlubas::text(&sheet, NodeId(7), Place(0), request).expect_err("the request is refused");
         assert_eq!(refusal.number, number);

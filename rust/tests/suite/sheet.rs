@@ -17,7 +17,7 @@ fn the_nodes_of_a_sheet() {
     let ward = sheet(WARD);
     let expected = [(NodeId(7), "ward_capnp::bed"), (NodeId(9), "ward_capnp::Status")];
     assert_eq!(modules(&ward), Ok(expected.to_vec()));
-    assert_eq!(modules(b"").map_err(told), Err((2, Some(1))));
+    assert_eq!(modules(b"").map_err(told), Err((2, Some((1, 1)))));
     let admitted = Sheet::admit(&ward).expect("it is a sheet");
     assert_eq!(admitted.bytes(), ward);
     assert_eq!(admitted.node(NodeId(9)).map(|node| node.module()), Some("ward_capnp::Status"));

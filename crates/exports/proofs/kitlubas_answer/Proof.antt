@@ -6,12 +6,12 @@ use Rattle.exports.proofs.kitlubas_answer.Tie as tie
 
 returns : tie.Need-returns
 returns c =
-    let at-answer-request = c .before .before .before .before .before in
+    let at-answer-request = c .before .before .before .before .before .before in
     let at-at = at-answer-request .before .before in
     let at-request-of = at-at .before .before in
     let start = at-request-of .before .before .before in
     rw (← at-request-of .request-of .ensures) (asked (start .args .buf .now) _ _ _ _ _ (at-at .at .ensures)
-    (at-answer-request .answer-request .ensures) _ _ _ (c .say .ensures))
+    (at-answer-request .answer-request .ensures) _ _ _ _ (c .say .ensures))
 
 pub kitlubas-answer-spec : {M : Type 1} → statement M
 kitlubas-answer-spec =

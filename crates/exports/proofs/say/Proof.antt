@@ -12,7 +12,7 @@ returns c =
 returns-2 : tie.Need-returns-2
 returns-2 c =
     let at-answer2 = c .before in
-    said-refused _ _ _ _ (at-answer2 .answer2 .given .1)
+    said-refused _ _ _ _ _ (at-answer2 .answer2 .given .1)
 
 pub say-spec : {M : Type 1} → statement M
 say-spec =

@@ -37,7 +37,7 @@ returns-3 c =
     let start = at-fill .before .before .before .before in
     let a = start .args in
     rw (c .refused2 .ensures, at-enum-told .enum-told .given .1) (
-      λ nodes x. refuses-so (a .buf .now) (a .t) (omega (arith, at-fill .fill .ensures, at-if1 .if1 .left)) 15 0,
+      λ nodes x. refuses-so (a .buf .now) (a .t) (omega (arith, at-fill .fill .ensures, at-if1 .if1 .left)) 15 0 0,
       refl,
     )
 

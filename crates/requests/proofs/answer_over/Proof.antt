@@ -19,7 +19,7 @@ returns-2 c =
     let at-verdict = c .before in
     let at-admit = at-verdict .before .before .before .before in
     let start = at-admit .before .before .before .before .before in
-    sheet-refused (start .args .s .now) _ (at-admit .admit .last .1 .0) (at-admit .admit .ensures .0) _ _ _ (start .args .t) _
+    sheet-refused (start .args .s .now) _ (at-admit .admit .last .1 .0) (at-admit .admit .ensures .0) _ _ _ (start .args .t) _ _
     _ (start .pre .0) (at-verdict .verdict .given .1)
 
 pub answer-over-spec : {M : Type 1} → statement M

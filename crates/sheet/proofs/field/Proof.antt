@@ -7,11 +7,12 @@ use native.Mathlib.Omega.{arith}
 use lib.ListN.{take, drop, length-set}
 use borrow.Author.Needs.{needs}
 use Rattle.sheet.proofs.FieldsLaws.{group-less, group-fits, pushed, groups-stop, groups-slot, groups-slot-no, slot-less}
-use Rattle.sheet.proofs.FieldsLaws.{slot-room, groups-double, groups-group}
+use Rattle.sheet.proofs.FieldsLaws.{slot-room, groups-double, groups-group, walked-ends, ends-left}
 use Rattle.sheet.proofs.FlagsLaws.{flagged-more}
 use Rattle.sheet.specs.Steps.{groupsAfter}
 use Rattle.tree.proofs.WalkLaws.{came, refused}
 use Rattle.row.specs.Rows.{rows}
+use Rattle.row.specs.Line.{lineSaid, faultOf}
 use Rattle.sheet.proofs.field.Statement.{statement}
 use Rattle.sheet.proofs.field.Tie as tie
 
@@ -60,7 +61,7 @@ returns-3 c =
     let r = t .before .before .before .before in
     let p = r .before .before .before .before .pre in (
       groups-slot-no _ _ _ (r .next .ensures .0) (r .next .ensures .1) _ _ _ _ (t .before .before .l .given .1) _ _ _
-          (refused _ _ _ (t .slot .ensures _ _) _ _ (c .before .number .given .1)),
+          (refused _ _ _ (t .slot .ensures _ _) _ _ _ (c .before .number .given .1)),
       omega (arith, p .1),
       p .2,
     )
@@ -88,9 +89,16 @@ returns-4 c =
 
 returns-5 : tie.Need-returns-5
 returns-5 c =
-    let r = c .before in
-    let p = r .before .before .before .before .pre in
-    (groups-stop _ _ _ (r .next .ensures .0) (r .next .ensures .1) _ (c .match .keys3), p .1, p .2)
+    let r = c .before .before in
+    let start = r .before .before .before .before in
+    let p = start .pre in
+    let line = lineSaid (r .next .result .line) in
+    let ends = c .no-field .ensures in (
+      walked-ends (start .args .s .now) _ (faultOf 70 line) (faultOf 71 line) _ ends _
+          ∙ groups-stop _ _ _ (r .next .ensures .0) (r .next .ensures .1) _ (c .before .match .keys3),
+      omega (arith, p .1, ends-left (start .args .s .now) _ (faultOf 70 line) (faultOf 71 line) _ ends),
+      p .2,
+    )
 
 pub field-spec : {M : Type 1} → statement M
 field-spec =
@@ -110,6 +118,7 @@ field-spec =
     slice-write-groups
     (λ c κs. search needs)
     (λ c. search needs)
+    (λ c κs. search needs)
     returns-2
     returns-3
     (λ c. search needs)

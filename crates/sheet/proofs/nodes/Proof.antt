@@ -71,7 +71,7 @@ returns-2 c =
     let at-loop = at-test .before in
     standing-no _ _ _ _ _ _ _ _ _ _ (at-loop .loop .inv .2) (at-test .loop-test .taken) (at-node .node .last .1 .0)
     (at-node .node .last .1 .1 .1 .1 .0) (at-node .node .last .1 .1 .1 .1 .1 .0) (at-node .node .result) (at-node .node .ensures)
-    _ _ (at-w .w2 .given .1) _
+    _ _ _ (at-w .w2 .given .1) _
 
 returns-3 : tie.Need-returns-3 Inv-loop μ-loop
 returns-3 c =

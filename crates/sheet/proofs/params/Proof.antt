@@ -27,10 +27,10 @@ enum-told c = search needs
 
 returns : tie.Need-returns Inv-loop μ-loop
 returns c =
-    let at-next = c .before in
+    let at-next = c .before .before in
     let at-loop = at-next .before in
-    passing-done _ _ _ _ _ _ _ _ (at-loop .loop .inv .1) _ (at-next .next .ensures .0) (c .match .keys2)
-    (at-loop .before .before .before .pre)
+    passing-done _ _ _ _ _ _ _ _ (at-loop .loop .inv .1) _ (at-next .next .ensures .0) (c .before .match .keys2) _
+    (c .end-at .ensures) (at-loop .before .before .before .pre)
 
 mark-requires : tie.Need-mark-requires Inv-loop μ-loop
 mark-requires c κs =
@@ -75,6 +75,7 @@ params-spec =
     loop-holds
     (λ c κs. search needs)
     enum-told
+    (λ c κs. search needs)
     (λ c. search needs)
     returns
     mark-requires

@@ -9,14 +9,15 @@ use borrow.Author.Needs.{needs}
 use borrow.Fn.Kinds.{In}
 use borrow.Fn.PlainCycle.{Measures, is, falls, and}
 use Rattle.tree.proofs.WalkLaws.{type-other, type-deep, type-plain, type-list, type-branded, type-pointer, times-none}
-use Rattle.tree.proofs.WalkLaws.{times-on, times-stop, binding-unbound, binding-type, scope-inherit, scope-bind}
-use Rattle.tree.proofs.WalkLaws.{scope-other}
+use Rattle.tree.proofs.WalkLaws.{times-on, times-stop, binding-unbound, binding-other, scope-inherit, scope-bind}
+use Rattle.tree.proofs.WalkLaws.{scope-other, walked-wrong, told-next, told-refused}
 use Rattle.tree.proofs.UnboundLaws.{passed-unbound}
 use Rattle.tree.specs.Walked.{passed}
 use Rattle.tree.specs.Read.{readType, readScope, readBinding}
 use Rattle.tree.specs.Reader.{times}
 use Rattle.tree.specs.Tree.{end, stop}
 use Rattle.row.specs.Rows.{rows}
+use Rattle.row.specs.Line.{lineSaid, faultOf}
 use Rattle.tree.proofs.+binding+binds+scope+scopes+typ.{statement}
 use Rattle.tree.proofs.+binding+binds+scope+scopes+typ.Tie.{close}
 use Rattle.tree.proofs.binding.Reads as binding
@@ -36,6 +37,8 @@ use Rattle.tree.proofs.typ.Kinds as typ-kinds
 use Rattle.tree.proofs.+binding+binds+scope+scopes+typ.Lts-typ as typ-lts
 use Rattle.row.proofs.next.Reads as next-reads
 use Rattle.row.proofs.unbound_run.Reads as unbound-run-reads
+use Rattle.tree.proofs.end_at.Reads as end-at-reads
+use Rattle.tree.proofs.wrong_at.Reads as wrong-at-reads
 
 abbrev μ-binding : Measures 1 binding-kinds.ps ℕ
 μ-binding κs a = 5 * a .1 .1 .0 + 1
@@ -82,25 +85,33 @@ typ-at t = and 1 typ-kinds.ps (is 1 typ-kinds.ps μ-typ t) typ.Pre
 abbrev typ-below : ℕ → In 1 typ-kinds.ps
 typ-below t = and 1 typ-kinds.ps (falls 1 typ-kinds.ps _<_ μ-typ t) typ.Pre
 
-binding-returns : (t : ℕ) → binding-lts.Need-returns (
-  next-reads.Asked,
-  next-reads.Learnt,
-  typ-below t,
-  typ.Post,
-) (binding-at t) binding.Post
+abbrev binding-calls : ℕ → binding-lts.Claims
+binding-calls t =
+    (next-reads.Asked, next-reads.Learnt, end-at-reads.Asked, end-at-reads.Learnt, typ-below t, typ.Post)
+
+binding-returns : (t : ℕ) → binding-lts.Need-returns (binding-calls t) (binding-at t) binding.Post
 binding-returns t c =
     binding-unbound _ _ _ (c .before .before .next .ensures .0) (c .before .before .next .ensures .1) _
     (c .enum-told .given .1)
 
-binding-returns-2 : (t : ℕ) → binding-lts.Need-returns-2 (
-  next-reads.Asked,
-  next-reads.Learnt,
-  typ-below t,
-  typ.Post,
-) (binding-at t) binding.Post
+binding-returns-2 : (t : ℕ) → binding-lts.Need-returns-2 (binding-calls t) (binding-at t) binding.Post
 binding-returns-2 t c =
-    binding-type _ _ _ (c .before .before .next .ensures .0) (c .before .before .next .ensures .1) _ _
-    (c .before .match .keys2) (c .typ .ensures)
+    let at-end = c .before .before .before .before in
+    let at-next = at-end .before .before in
+    let a = at-next .before .before .args in
+    let l = at-next .next .result .line in
+    c .typ .ensures
+    ∙ sym (binding-other _ _ _ (at-next .next .ensures .0) (at-next .next .ensures .1) _ (at-end .before .match .keys2)
+    ∙ told-next (a .s .now) (a .at) (faultOf 85 (lineSaid l)) _ (at-end .end-at .ensures) _ _ (c .before .before .q .given .1))
+
+binding-returns-3 : (t : ℕ) → binding-lts.Need-returns-3 (binding-calls t) (binding-at t) binding.Post
+binding-returns-3 t c =
+    let at-end = c .before .before .before in
+    let at-next = at-end .before .before in
+    let a = at-next .before .before .args in
+    let l = at-next .next .result .line in
+    sym (binding-other _ _ _ (at-next .next .ensures .0) (at-next .next .ensures .1) _ (at-end .before .match .keys2)
+    ∙ told-refused (a .s .now) (a .at) (faultOf 85 (lineSaid l)) _ (at-end .end-at .ensures) _ _ _ _ (c .before .number .given .1))
 
 abbrev binds-calls : ℕ → binds-lts.Claims
 binds-calls t = (unbound-run-reads.Asked, unbound-run-reads.Learnt, binding-below t, binding.Post)
@@ -127,7 +138,7 @@ binds-loop-again t c =
 binds-returns : (t : ℕ) → binds-lts.Need-returns (binds-calls t) (binds-at t) binds.Post binds-Inv-loop binds-μ-loop
 binds-returns t c =
     let at-loop = c .before .before .before .before .before .before .before in
-    sym (at-loop .loop .inv ∙ times-stop _ _ (at-loop .before .before .args .s .now) (at-loop .loop .n) (at-loop .loop .at) _ _ _
+    sym (at-loop .loop .inv ∙ times-stop _ _ (at-loop .before .before .args .s .now) (at-loop .loop .n) (at-loop .loop .at) _ _ _ _
     (omega arith) (c .before .before .before .binding .ensures) (c .before .number .given .1))
 
 binds-loop-again-2 : (t : ℕ) → binds-lts.Need-loop-again-2 (binds-calls t) (binds-at t) binds.Post binds-Inv-loop binds-μ-loop
@@ -141,35 +152,26 @@ binds-returns-2 t c =
     sym ((c .before .loop .inv) ∙ times-none _ _ (c .before .before .before .args .s .now) (c .before .loop .n)
     (c .before .loop .at) (c .loop-test .left))
 
-scope-returns : (t : ℕ) → scope-lts.Need-returns (
-  next-reads.Asked,
-  next-reads.Learnt,
-  binds-below t,
-  binds.Post,
-) (scope-at t) scope.Post
+abbrev scope-calls : ℕ → scope-lts.Claims
+scope-calls t = (next-reads.Asked, next-reads.Learnt, binds-below t, binds.Post, wrong-at-reads.Asked, wrong-at-reads.Learnt)
+
+scope-returns : (t : ℕ) → scope-lts.Need-returns (scope-calls t) (scope-at t) scope.Post
 scope-returns t c =
     scope-inherit _ _ _ (c .before .before .before .before .next .ensures .0)
     (c .before .before .before .before .next .ensures .1) _ _ _ _ (c .before .before .l .given .1) (c .if1 .taken)
 
-scope-returns-2 : (t : ℕ) → scope-lts.Need-returns-2 (
-  next-reads.Asked,
-  next-reads.Learnt,
-  binds-below t,
-  binds.Post,
-) (scope-at t) scope.Post
+scope-returns-2 : (t : ℕ) → scope-lts.Need-returns-2 (scope-calls t) (scope-at t) scope.Post
 scope-returns-2 t c =
     scope-bind _ _ _ (c .before .before .before .before .before .next .ensures .0)
     (c .before .before .before .before .before .next .ensures .1) _ _ _ _ (c .before .before .before .l .given .1) _
     (c .before .if1 .left) (c .binds .ensures)
 
-scope-returns-3 : (t : ℕ) → scope-lts.Need-returns-3 (
-  next-reads.Asked,
-  next-reads.Learnt,
-  binds-below t,
-  binds.Post,
-) (scope-at t) scope.Post
+scope-returns-3 : (t : ℕ) → scope-lts.Need-returns-3 (scope-calls t) (scope-at t) scope.Post
 scope-returns-3 t c =
-    scope-other _ _ _ (c .before .next .ensures .0) (c .before .next .ensures .1) _ (c .match .keys2)
+    let at-next = c .before .before in
+    let a = at-next .before .before .args in
+    walked-wrong (a .s .now) (a .at) (faultOf 83 (lineSaid (at-next .next .result .line))) _ (c .wrong-at .ensures)
+    ∙ scope-other _ _ _ (at-next .next .ensures .0) (at-next .next .ensures .1) _ (c .before .match .keys2)
 
 abbrev scopes-Inv-loop : scopes-lts.InvT-loop
 scopes-Inv-loop s from count left at₀ n₀ at n =
@@ -190,7 +192,7 @@ scopes-returns :
 scopes-returns t c =
     sym ((c .before .before .before .before .before .loop .inv) ∙ times-stop _ _
     (c .before .before .before .before .before .before .before .args .s .now)
-    (c .before .before .before .before .before .loop .n) (c .before .before .before .before .before .loop .at) _ _ _
+    (c .before .before .before .before .before .loop .n) (c .before .before .before .before .before .loop .at) _ _ _ _
     (c .before .before .before .before .loop-test .taken) (c .before .before .before .scope .ensures)
     (c .before .number .given .1))
 
@@ -220,26 +222,24 @@ scopes-returns-2 t c =
     sym ((c .before .loop .inv) ∙ times-none _ _ (c .before .before .before .args .s .now) (c .before .loop .n)
     (c .before .loop .at) (c .loop-test .left))
 
-typ-returns : (t : ℕ) → typ-lts.Need-returns (
+abbrev typ-calls : ℕ → typ-lts.Claims
+typ-calls t = (
   next-reads.Asked,
   next-reads.Learnt,
   typ-below t,
   typ.Post,
   scopes-below t,
   scopes.Post,
-) (typ-at t) typ.Post
+  wrong-at-reads.Asked,
+  wrong-at-reads.Learnt,
+)
+
+typ-returns : (t : ℕ) → typ-lts.Need-returns (typ-calls t) (typ-at t) typ.Post
 typ-returns t c =
     type-deep _ _ _ (c .before .before .before .before .next .ensures .0)
     (c .before .before .before .before .next .ensures .1) _ _ _ _ _ (c .before .before .l .given .1) (c .if1 .taken)
 
-typ-returns-2 : (t : ℕ) → typ-lts.Need-returns-2 (
-  next-reads.Asked,
-  next-reads.Learnt,
-  typ-below t,
-  typ.Post,
-  scopes-below t,
-  scopes.Post,
-) (typ-at t) typ.Post
+typ-returns-2 : (t : ℕ) → typ-lts.Need-returns-2 (typ-calls t) (typ-at t) typ.Post
 typ-returns-2 t c =
     let at-left = c .before .before in
     let at-line = at-left .before .before in
@@ -247,14 +247,7 @@ typ-returns-2 t c =
     type-list _ _ _ (g .0) (g .1) _ _ _ _ _ (at-line .l .given .1) _ (at-left .if1 .left) (c .before .match2 .keys1)
     (c .typ .ensures)
 
-typ-returns-3 : (t : ℕ) → typ-lts.Need-returns-3 (
-  next-reads.Asked,
-  next-reads.Learnt,
-  typ-below t,
-  typ.Post,
-  scopes-below t,
-  scopes.Post,
-) (typ-at t) typ.Post
+typ-returns-3 : (t : ℕ) → typ-lts.Need-returns-3 (typ-calls t) (typ-at t) typ.Post
 typ-returns-3 t c =
     let at-left = c .before .before .before .before in
     let at-line = at-left .before .before in
@@ -262,60 +255,43 @@ typ-returns-3 t c =
     type-branded _ _ _ (g .0) (g .1) _ _ _ _ _ (at-line .l .given .1) _ (at-left .if1 .left) (c .before .before .if2 .left)
     (c .before .before .before .match2 .rest .1) (c .before .if3 .taken) (c .scopes .ensures)
 
-typ-returns-4 : (t : ℕ) → typ-lts.Need-returns-4 (
-  next-reads.Asked,
-  next-reads.Learnt,
-  typ-below t,
-  typ.Post,
-  scopes-below t,
-  scopes.Post,
-) (typ-at t) typ.Post
+typ-returns-4 : (t : ℕ) → typ-lts.Need-returns-4 (typ-calls t) (typ-at t) typ.Post
 typ-returns-4 t c =
     let at-left = c .before .before in
     let at-line = at-left .before .before in
     let g = at-line .before .before .next .ensures in
     type-plain _ _ _ (g .0) (g .1) _ _ _ _ _ (at-line .l .given .1) (at-left .if1 .left) (c .if2 .taken)
 
-typ-returns-5 : (t : ℕ) → typ-lts.Need-returns-5 (
-  next-reads.Asked,
-  next-reads.Learnt,
-  typ-below t,
-  typ.Post,
-  scopes-below t,
-  scopes.Post,
-) (typ-at t) typ.Post
+typ-returns-5 : (t : ℕ) → typ-lts.Need-returns-5 (typ-calls t) (typ-at t) typ.Post
 typ-returns-5 t c =
     let at-left = c .before .before .before in
     let at-line = at-left .before .before in
     let g = at-line .before .before .next .ensures in
     type-pointer _ _ _ (g .0) (g .1) _ _ _ _ _ (at-line .l .given .1) (at-left .if1 .left) (c .if3 .left)
 
-typ-returns-6 : (t : ℕ) → typ-lts.Need-returns-6 (
-  next-reads.Asked,
-  next-reads.Learnt,
-  typ-below t,
-  typ.Post,
-  scopes-below t,
-  scopes.Post,
-) (typ-at t) typ.Post
+typ-returns-6 : (t : ℕ) → typ-lts.Need-returns-6 (typ-calls t) (typ-at t) typ.Post
 typ-returns-6 t c =
-    type-other _ _ _ (c .before .next .ensures .0) (c .before .next .ensures .1) _ (c .match .keys2)
+    let at-next = c .before .before in
+    let a = at-next .before .before .args in
+    walked-wrong (a .s .now) (a .at) (faultOf 84 (lineSaid (at-next .next .result .line))) _ (c .wrong-at .ensures)
+    ∙ type-other _ _ _ (at-next .next .ensures .0) (at-next .next .ensures .1) _ (c .before .match .keys2)
 
 pub +binding+binds+scope+scopes+typ-spec : {M : Type 1} → statement M
 +binding+binds+scope+scopes+typ-spec =
-    close μ-binding μ-binds μ-scope μ-scopes μ-typ (λ t. binding-lts.spec (
-      next-reads.Asked,
-      next-reads.Learnt,
-      typ-below t,
-      typ.Post,
-    )
+    close μ-binding μ-binds μ-scope μ-scopes μ-typ
+    (λ t. binding-lts.spec
+    (binding-calls t)
     (binding-at t)
     binding.Post
     (λ c κs. search needs)
     (λ c. search needs)
     (λ c κs. search needs)
+    (λ c. search needs)
+    (λ c κs. search needs)
+    (λ c. search needs)
     (binding-returns t)
-    (binding-returns-2 t))
+    (binding-returns-2 t)
+    (binding-returns-3 t))
     (λ t. binds-lts.spec
     (binds-calls t)
     (binds-at t)
@@ -338,12 +314,13 @@ pub +binding+binds+scope+scopes+typ-spec : {M : Type 1} → statement M
     (binds-loop-again-2 t)
     (binds-returns-2 t))
     (λ t. scope-lts.spec
-    (next-reads.Asked, next-reads.Learnt, binds-below t, binds.Post)
+    (scope-calls t)
     (scope-at t)
     scope.Post
     (λ c κs. search needs)
     (λ c. search needs)
     (scope-returns t)
+    (λ c κs. search needs)
     (λ c κs. search needs)
     (scope-returns-2 t)
     (scope-returns-3 t))
@@ -363,7 +340,7 @@ pub +binding+binds+scope+scopes+typ-spec : {M : Type 1} → statement M
     (scopes-loop-again t)
     (scopes-returns-2 t))
     λ t. typ-lts.spec
-    (next-reads.Asked, next-reads.Learnt, typ-below t, typ.Post, scopes-below t, scopes.Post)
+    (typ-calls t)
     (typ-at t)
     typ.Post
     (λ c κs. search needs)
@@ -372,6 +349,7 @@ pub +binding+binds+scope+scopes+typ-spec : {M : Type 1} → statement M
     (λ c. search needs)
     (λ c κs. search needs)
     (λ c. search needs)
+    (λ c κs. search needs)
     (λ c κs. search needs)
     (typ-returns-2 t)
     (typ-returns-3 t)

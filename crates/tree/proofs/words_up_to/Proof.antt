@@ -8,16 +8,18 @@ use borrow.Author.Needs.{needs}
 use Rattle.row.specs.Rows.{rows}
 use Rattle.tree.specs.Reader.{mapR}
 use Rattle.tree.specs.Read.{readWordsUpTo}
+use Rattle.row.specs.Line.{lineSaid, faultOf}
+use Rattle.tree.proofs.WalkLaws.{walked-end}
 use Rattle.tree.proofs.SlotLaws.{counting, count-start, count-full, count-on, count-stop}
 use Rattle.tree.proofs.words_up_to.Statement.{statement}
 use Rattle.tree.proofs.words_up_to.Tie as tie
 
 abbrev Inv-loop : tie.InvT-loop
-Inv-loop s from most next₀ count₀ next count =
-    (count ≤ most) × (counting most count (rows (drop next s)) ≡ mapR length (readWordsUpTo most) (rows (drop from s)))
+Inv-loop s from most at₀ count₀ at count =
+    (count ≤ most) × (counting most count (rows (drop at s)) ≡ mapR length (readWordsUpTo most) (rows (drop from s)))
 
 abbrev μ-loop : tie.MeasureT-loop
-μ-loop s from most next₀ count₀ next count = most - count
+μ-loop s from most at₀ count₀ at count = most - count
 
 loop-holds : tie.Need-loop-holds Inv-loop μ-loop
 loop-holds c = (omega arith, count-start _ _)
@@ -27,11 +29,13 @@ enum-told c = search needs
 
 returns : tie.Need-returns Inv-loop μ-loop
 returns c =
-    let at-next = c .before in
+    let at-next = c .before .before in
     let at-test = at-next .before in
     let at-loop = at-test .before in
-    sym (count-stop _ _ _ (at-next .next .ensures .0) (at-next .next .ensures .1) _ _ (at-test .loop-test .taken)
-    (c .match .keys2)) ∙ at-loop .loop .inv .1
+    walked-end (at-loop .before .before .args .s .now) (at-loop .loop .at) (faultOf 87 (lineSaid (at-next .next .result .line))) _
+    (c .end-at .ensures) (at-loop .loop .count)
+    ∙ sym (count-stop _ _ _ (at-next .next .ensures .0) (at-next .next .ensures .1) _ _ (at-test .loop-test .taken)
+    (c .before .match .keys2)) ∙ at-loop .loop .inv .1
 
 loop-again : tie.Need-loop-again Inv-loop μ-loop
 loop-again c =
@@ -55,6 +59,7 @@ words-up-to-spec =
     loop-holds
     (λ c κs. search needs)
     enum-told
+    (λ c κs. search needs)
     returns
     (λ c. omega arith)
     (λ c. omega arith)

@@ -1,6 +1,7 @@
-//! Numbers: each column of each letter at its limits, and each way in which a number can be badly written.
+//! Numbers: each number of each letter at its limits, and each way in which a number can be badly written.
 
 use super::{Bounds, Lines};
+use crate::sheet::read::Refusal;
 use crate::sheet::value_width;
 
 const U16: &str = "65535";
@@ -9,6 +10,9 @@ const U32: &str = "4294967295";
 const PAST_32: &str = "4294967296";
 const U64: &str = "18446744073709551615";
 const PAST_64: &str = "18446744073709551616";
+
+/// Where the numbers of a line begin.
+const COLUMNS: [u64; 7] = [2, 23, 44, 65, 86, 107, 128];
 
 pub fn add(bounds: &mut Bounds) {
     nodes(bounds);
@@ -19,7 +23,7 @@ pub fn add(bounds: &mut Bounds) {
     badly_written(bounds);
 }
 
-/// A sheet with one line whose columns are tried, and which of its lines that is, from 1.
+/// A sheet with one line whose numbers are tried, and which of its lines that is, from 1.
 struct Tried {
     name: &'static str,
     lines: Lines,
@@ -27,24 +31,24 @@ struct Tried {
 }
 
 impl Tried {
-    /// The sheet with `text` right-justified in a column, from 0.
-    fn with(&self, column: usize, text: &str) -> Lines {
+    /// The sheet with `text` right-justified in place of a number, from 0.
+    fn with(&self, place: usize, text: &str) -> Lines {
         let mut lines = self.lines.clone();
-        let start = 1 + 21 * column;
+        let start = 1 + 21 * place;
         lines.0[self.line - 1].splice(start..start + 21, format!("{text:>21}").into_bytes());
         lines
     }
 
-    fn passes(&self, bounds: &mut Bounds, column: usize, texts: &[&str]) {
+    fn passes(&self, bounds: &mut Bounds, place: usize, texts: &[&str]) {
         for text in texts {
-            bounds.passes(format!("{} column {column} {text}", self.name), &self.with(column, text));
+            bounds.passes(format!("{} number {place} {text}", self.name), &self.with(place, text));
         }
     }
 
-    fn refused(&self, bounds: &mut Bounds, column: usize, texts: &[&str]) {
+    fn refused(&self, bounds: &mut Bounds, place: usize, texts: &[&str]) {
         for text in texts {
-            let name = format!("{} column {column} {text}", self.name);
-            bounds.refused(name, &self.with(column, text), 2, self.line as u64);
+            let name = format!("{} number {place} {text}", self.name);
+            bounds.refused(name, &self.with(place, text), Refusal::bad_number(self.line as u64, COLUMNS[place]));
         }
     }
 }
@@ -53,13 +57,13 @@ fn nodes(bounds: &mut Bounds) {
     let node = Tried { name: "N", lines: Lines::start(), line: 2 };
     node.passes(bounds, 0, &["1", U64]);
     node.refused(bounds, 0, &["0", PAST_64]);
-    for column in [1, 2] {
-        node.passes(bounds, column, &["0", "7", U64]);
-        node.refused(bounds, column, &[PAST_64]);
+    for place in [1, 2] {
+        node.passes(bounds, place, &["0", "7", U64]);
+        node.refused(bounds, place, &[PAST_64]);
     }
-    for column in [3, 4] {
-        node.passes(bounds, column, &["0", "1"]);
-        node.refused(bounds, column, &["2", U64, PAST_64]);
+    for place in [3, 4] {
+        node.passes(bounds, place, &["0", "1"]);
+        node.refused(bounds, place, &["2", U64, PAST_64]);
     }
     node.passes(bounds, 5, &["0", U16]);
     node.refused(bounds, 5, &[PAST_16, PAST_64]);
@@ -73,9 +77,9 @@ fn fields(bounds: &mut Bounds) {
     slot.refused(bounds, 0, &[PAST_32, PAST_64]);
     slot.passes(bounds, 1, &["0", "65534", U16]);
     slot.refused(bounds, 1, &[PAST_16, PAST_64]);
-    for column in [2, 3] {
-        slot.passes(bounds, column, &["0", "1"]);
-        slot.refused(bounds, column, &["2", PAST_64]);
+    for place in [2, 3] {
+        slot.passes(bounds, place, &["0", "1"]);
+        slot.refused(bounds, place, &["2", PAST_64]);
     }
     let group = Tried { name: "G", lines: Lines::start().text('G', &[9, 65535], "place"), line: 3 };
     group.passes(bounds, 0, &["1", U64]);
@@ -90,14 +94,15 @@ fn types(bounds: &mut Bounds) {
     for kind in 0..14u64 {
         let plain = Tried { name: "T plain", lines: Lines::slot().typ([kind, 0, 0, 0]).void_value(), line: 4 };
         bounds.passes(format!("T kind {kind}"), &plain.lines);
-        for column in 1..=3 {
-            bounds.refused(format!("T kind {kind} column {column} 1"), &plain.with(column, "1"), 2, 4);
+        for (place, column) in [(1, 23), (2, 44), (3, 65)] {
+            let refusal = Refusal::bad_number(4, column);
+            bounds.refused(format!("T kind {kind} number {place} 1"), &plain.with(place, "1"), refusal);
         }
     }
     let list = Lines::slot().typ([14, 0, 0, 0]).typ([0, 0, 0, 0]).void_value();
     let list = Tried { name: "T of List", lines: list, line: 4 };
     list.passes(bounds, 0, &["14"]);
-    (1..=3).for_each(|column| list.refused(bounds, column, &["1", PAST_64]));
+    (1..=3).for_each(|place| list.refused(bounds, place, &["1", PAST_64]));
     for (name, kind) in [("T of Enum", 15), ("T of Struct", 16), ("T of Interface", 17)] {
         let node = Tried { name, lines: Lines::slot().typ([kind, 7, 0, 0]).void_value(), line: 4 };
         node.passes(bounds, 1, &["0", "7", U64]);
@@ -105,8 +110,8 @@ fn types(bounds: &mut Bounds) {
         node.refused(bounds, 2, &[PAST_64]);
         node.refused(bounds, 3, &["1", U64]);
         // A count that fits is free: the line after it is the bad one.
-        bounds.refused(format!("{name} column 2 {U64}"), &node.with(2, U64), 2, 5);
-        bounds.refused(format!("{name} column 2 1"), &node.with(2, "1"), 2, 5);
+        bounds.refused(format!("{name} number 2 {U64}"), &node.with(2, U64), Refusal::misplaced(5));
+        bounds.refused(format!("{name} number 2 1"), &node.with(2, "1"), Refusal::misplaced(5));
     }
     any_pointers(bounds);
 }
@@ -136,9 +141,9 @@ fn scopes(bounds: &mut Bounds) {
     let bind = Tried { name: "S that binds", lines: bind, line: 5 };
     bind.passes(bounds, 2, &["1"]);
     bind.refused(bounds, 2, &[PAST_64]);
-    bounds.refused("S that binds column 2 0", &bind.with(2, "0"), 2, 6);
-    bounds.refused("S that binds column 2 2", &bind.with(2, "2"), 2, 7);
-    bounds.refused(format!("S that binds column 2 {U64}"), &bind.with(2, U64), 2, 7);
+    bounds.refused("S that binds number 2 0", &bind.with(2, "0"), Refusal::misplaced(6));
+    bounds.refused("S that binds number 2 2", &bind.with(2, "2"), Refusal::misplaced(7));
+    bounds.refused(format!("S that binds number 2 {U64}"), &bind.with(2, U64), Refusal::misplaced(7));
 }
 
 fn values(bounds: &mut Bounds) {
@@ -148,7 +153,7 @@ fn values(bounds: &mut Bounds) {
         let largest = (1u128 << width) - 1;
         bounds.passes(format!("V kind {kind} bits {largest}"), &value.with(1, &largest.to_string()));
         let past = (largest + 1).to_string();
-        bounds.refused(format!("V kind {kind} bits {past}"), &value.with(1, &past), 2, 5);
+        bounds.refused(format!("V kind {kind} bits {past}"), &value.with(1, &past), Refusal::bad_number(5, 23));
     }
     let value = Tried { name: "V", lines: Lines::slot().typ([0, 0, 0, 0]).plain('V', &[0, 0]), line: 5 };
     value.refused(bounds, 0, &["19", PAST_64]);
@@ -158,7 +163,7 @@ fn values(bounds: &mut Bounds) {
     word.refused(bounds, 0, &[PAST_64]);
 }
 
-/// What no column takes, tried in the first and the last column of each letter that has numbers.
+/// What is no number, tried in place of the first and the last of each letter that has numbers.
 fn badly_written(bounds: &mut Bounds) {
     let list = Lines::slot().typ([16, 7, 1, 0]).plain('S', &[7, 1, 1]).typ([0, 0, 0, 0]).plain('V', &[16, 0]);
     let word = Lines::start().text('F', &[0, 65535, 1, 0], "ward").typ([12, 0, 0, 0]).plain('V', &[12, 0]);

@@ -11,8 +11,8 @@ use crate::sheet::read::Refusal;
 type Named = fn(&[u8]) -> Lines;
 
 pub fn add(bounds: &mut Bounds) {
-    for (letter, sheet) in [("F", named_f as Named), ("G", named_g)] {
-        let mut names = Names { letter, sheet, bounds };
+    for (letter, sheet, column) in [("F", named_f as Named, 87), ("G", named_g, 45)] {
+        let mut names = Names { letter, sheet, column, bounds };
         pairs(&mut names);
         lengths(&mut names);
         places(&mut names);
@@ -27,6 +27,8 @@ pub fn add(bounds: &mut Bounds) {
 struct Names<'b> {
     letter: &'static str,
     sheet: Named,
+    /// Where the name begins.
+    column: u64,
     bounds: &'b mut Bounds,
 }
 
@@ -36,7 +38,7 @@ impl Names<'_> {
     }
 
     fn refused(&mut self, name: &[u8]) {
-        self.bounds.refused(self.name(name), &(self.sheet)(name), 2, 3);
+        self.bounds.refused(self.name(name), &(self.sheet)(name), Refusal::bad_text(3, self.column));
     }
 
     fn name(&self, name: &[u8]) -> String {
@@ -120,7 +122,7 @@ fn torn(names: &mut Names) {
         let line = (names.sheet)(&whole[..end]).0[2].clone();
         let bytes = [Lines::start().bytes(), line].concat();
         let name = format!("{} with accents, the sheet ends after {end} of its bytes", names.letter);
-        names.bounds.bytes(name, bytes, Some(Refusal { number: 2, line: 3 }));
+        names.bounds.bytes(name, bytes, Some(Refusal::misplaced(3)));
     }
 }
 
@@ -129,18 +131,18 @@ fn other_texts(bounds: &mut Bounds) {
     let started =
         |root: &str, module: &str| Lines::new().text('R', &[], root).text('N', &[7, 0, 0, 1, 0, 0, 0], module);
     for name in ["Ä", "é", "aÄ", "äa"] {
-        bounds.refused(format!("R with accents `{name}`"), &started(name, "bed"), 2, 1);
-        bounds.refused(format!("N with accents `{name}`"), &started("::capnp", name), 2, 2);
-        bounds.refused(format!("P with accents `{name}`"), &named_p(name.as_bytes()), 2, 3);
+        bounds.refused(format!("R with accents `{name}`"), &started(name, "bed"), Refusal::bad_text(1, 3));
+        bounds.refused(format!("N with accents `{name}`"), &started("::capnp", name), Refusal::bad_text(2, 150));
+        bounds.refused(format!("P with accents `{name}`"), &named_p(name.as_bytes()), Refusal::bad_text(3, 3));
     }
 }
 
 /// A bad name comes before an id that stands on a second G, and the first bad line before every later one.
 fn order(bounds: &mut Bounds) {
     let twice = |name: &[u8]| named_g("stützen".as_bytes()).text('G', &[9, 65535], name);
-    bounds.refused("an id on a second G with accents", &twice("Ä".as_bytes()), 3, 4);
-    bounds.refused("an id on a second G with a torn letter", &twice(b"a\xc3"), 2, 4);
+    bounds.refused("an id on a second G with accents", &twice("Ä".as_bytes()), Refusal::doubled(4));
+    bounds.refused("an id on a second G with a torn letter", &twice(b"a\xc3"), Refusal::bad_text(4, 45));
     let then_torn = |name: &[u8]| named_f(name).text('G', &[9, 65535], b"\xc3");
-    bounds.refused("two torn letters", &then_torn(b"a\xc3"), 2, 3);
-    bounds.refused("a torn letter after a name with accents", &then_torn("é".as_bytes()), 2, 6);
+    bounds.refused("two torn letters", &then_torn(b"a\xc3"), Refusal::bad_text(3, 87));
+    bounds.refused("a torn letter after a name with accents", &then_torn("é".as_bytes()), Refusal::bad_text(6, 45));
 }

@@ -1,6 +1,7 @@
 //! Lines: texts at their bounds, and each way in which a line can be badly laid out or torn.
 
 use super::{Bounds, Lines};
+use crate::sheet::read::Refusal;
 
 pub fn add(bounds: &mut Bounds) {
     names(bounds);
@@ -37,17 +38,18 @@ fn names(bounds: &mut Bounds) {
     let good = ["a", "Z", "_", "x9", "__", "aZ09_"].map(String::from).to_vec();
     let bad = ["", "9", "0a", "a b", "a-b", " a", "a ", "a/", "a:", "a@", "a[", "a^", "a`", "a{", "\u{7f}"];
     for (letter, sheet) in [('P', named_p as fn(&[u8]) -> Lines), ('F', named_f), ('G', named_g)] {
+        let refusal = Refusal::bad_text(3, text_column(letter).expect("the line has a name"));
         for name in good.iter().cloned().chain([1, 63, 64].map(|length| "n".repeat(length))) {
             bounds.passes(format!("{letter} name {name}"), &sheet(name.as_bytes()));
         }
         for name in bad {
-            bounds.refused(format!("{letter} name `{name}`"), &sheet(name.as_bytes()), 2, 3);
+            bounds.refused(format!("{letter} name `{name}`"), &sheet(name.as_bytes()), refusal);
         }
         for length in [65, 66, 128, 1000] {
-            bounds.refused(format!("{letter} name of {length}"), &sheet(&b"n".repeat(length)), 2, 3);
+            bounds.refused(format!("{letter} name of {length}"), &sheet(&b"n".repeat(length)), refusal);
         }
         for byte in [0, 9, 13, 128, 195, 255] {
-            bounds.refused(format!("{letter} name with byte {byte}"), &sheet(&[b'a', byte]), 2, 3);
+            bounds.refused(format!("{letter} name with byte {byte}"), &sheet(&[b'a', byte]), refusal);
         }
     }
 }
@@ -67,28 +69,39 @@ pub fn named_g(name: &[u8]) -> Lines {
 
 fn roots(bounds: &mut Bounds) {
     let rooted = |root: &str| Lines::new().text('R', &[], root).text('N', &[7, 0, 0, 1, 0, 0, 0], "bed");
-    texts(bounds, "R root", &rooted, 1, 64);
+    texts(bounds, "R root", &rooted, 64, Refusal::bad_text(1, 3));
 }
 
 fn modules(bounds: &mut Bounds) {
     let moduled = |module: &str| Lines::new().text('R', &[], "::capnp").text('N', &[7, 0, 0, 1, 0, 0, 0], module);
-    texts(bounds, "N module", &moduled, 2, 128);
+    texts(bounds, "N module", &moduled, 128, Refusal::bad_text(2, 150));
 }
 
-/// Texts of bytes 33 to 126, at most `longest`, on line `line`.
-fn texts(bounds: &mut Bounds, name: &str, sheet: &dyn Fn(&str) -> Lines, line: usize, longest: usize) {
+/// Texts of bytes 33 to 126, at most `longest`, and what others are refused by.
+fn texts(bounds: &mut Bounds, name: &str, sheet: &dyn Fn(&str) -> Lines, longest: usize, refusal: Refusal) {
     for text in ["!", "~", "9", "{}", "::"] {
         bounds.passes(format!("{name} {text}"), &sheet(text));
     }
     bounds.passes(format!("{name} of {longest}"), &sheet(&"m".repeat(longest)));
-    bounds.refused(format!("{name} of {}", longest + 1), &sheet(&"m".repeat(longest + 1)), 2, line as u64);
+    bounds.refused(format!("{name} of {}", longest + 1), &sheet(&"m".repeat(longest + 1)), refusal);
     for text in ["", " ", " a", "a ", "a b"] {
-        bounds.refused(format!("{name} `{text}`"), &sheet(text), 2, line as u64);
+        bounds.refused(format!("{name} `{text}`"), &sheet(text), refusal);
     }
     for byte in [0, 9, 13, 32, 127, 128, 255] {
         let mut lines = sheet("ab");
-        *lines.0[line - 1].last_mut().expect("the line is not empty") = byte;
-        bounds.refused(format!("{name} with byte {byte}"), &lines, 2, line as u64);
+        *lines.0[refusal.line as usize - 1].last_mut().expect("the line is not empty") = byte;
+        bounds.refused(format!("{name} with byte {byte}"), &lines, refusal);
+    }
+}
+
+/// Where the text of a line begins, if it has one.
+fn text_column(letter: char) -> Option<u64> {
+    match letter {
+        'R' | 'P' => Some(3),
+        'N' => Some(150),
+        'F' => Some(87),
+        'G' => Some(45),
+        _ => None,
     }
 }
 
@@ -99,21 +112,36 @@ fn layout(bounds: &mut Bounds) {
     for (at, line) in whole.0.iter().enumerate() {
         let letter = line[0] as char;
         let number = at as u64 + 1;
-        let mut tried = |what: &str, changed: Vec<u8>| {
+        let mut tried = |what: &str, changed: Vec<u8>, refusal: Refusal| {
             let mut lines = whole.clone();
             lines.0[at] = changed;
-            bounds.refused(format!("line {number}, {letter}, {what}"), &lines, 2, number);
+            bounds.refused(format!("line {number}, {letter}, {what}"), &lines, refusal);
         };
-        tried("empty", Vec::new());
-        tried("a space at its end", [line, &b" "[..]].concat());
-        tried("a return at its end", [line, &b"\r"[..]].concat());
-        tried("a space in front", [&b" "[..], line].concat());
-        tried("a small letter", [&line[..1].to_ascii_lowercase(), &line[1..]].concat());
-        tried("an unknown letter", [&b"X"[..], &line[1..]].concat());
-        if line.len() > 1 {
-            tried("only its letter", line[..1].to_vec());
-            tried("a space too many", [&line[..1], &b" "[..], &line[1..]].concat());
-            tried("a space too few", [&line[..1], &line[2..]].concat());
+        let misplaced = Refusal::misplaced(number);
+        tried("empty", Vec::new(), misplaced);
+        tried("a space in front", [&b" "[..], line].concat(), misplaced);
+        tried("a small letter", [&line[..1].to_ascii_lowercase(), &line[1..]].concat(), misplaced);
+        tried("an unknown letter", [&b"X"[..], &line[1..]].concat(), misplaced);
+        let surplus = Refusal::bad_text(number, text_column(letter).unwrap_or(line.len() as u64 + 1));
+        tried("a space at its end", [line, &b" "[..]].concat(), surplus);
+        tried("a return at its end", [line, &b"\r"[..]].concat(), surplus);
+        let only_letter = line[..1].to_vec();
+        let space_more = [&line[..1], &b" "[..], &line[1..]].concat();
+        let space_less = [&line[..1], line.get(2..).unwrap_or_default()].concat();
+        match letter {
+            'U' => {}
+            'R' | 'P' => {
+                tried("only its letter", only_letter, Refusal::bad_text(number, 2));
+                tried("a space too many", space_more, Refusal::bad_text(number, 3));
+                tried("a space too few", space_less, Refusal::bad_text(number, 2));
+            }
+            _ => {
+                tried("only its letter", only_letter, Refusal::bad_number(number, 2));
+                // The last digit moves into the columns of the next number: what is left is blank, or is a number.
+                let column = if line[20] == b' ' { 2 } else { 23 };
+                tried("a space too many", space_more, Refusal::bad_number(number, column));
+                tried("a space too few", space_less, Refusal::bad_number(number, 2));
+            }
         }
     }
 }
@@ -129,12 +157,12 @@ fn torn(bounds: &mut Bounds) {
         if ends.contains(&count) {
             bounds.passes(name, &cut);
         } else {
-            bounds.refused(name, &cut, 2, count as u64 + 1);
+            bounds.refused(name, &cut, Refusal::misplaced(count as u64 + 1));
         }
         if count > 0 {
             let mut bytes = cut.bytes();
             bytes.pop();
-            let expected = Some(crate::sheet::read::Refusal { number: 2, line: count as u64 });
+            let expected = Some(Refusal::misplaced(count as u64));
             bounds.bytes(format!("cut before the end of line {count}"), bytes, expected);
         }
     }

@@ -11,10 +11,10 @@ use Rattle.exports.proofs.index.claims.Statement.{statement}
 use Rattle.exports.proofs.index.claims.Tie as tie
 
 same-answers : SameAnswersHold
-same-answers s index sh e indexed id request l fill l′ fill′ number line h =
+same-answers s index sh e indexed id request l fill l′ fill′ number line column h =
     let told : answerNumbers answer.Sheet ≡ refusalIn (admitted s) = rw e in
-    of-sheet s answer.Sheet index told (λ a. Asked l fill (ask a id request) l′ fill′ number line) refl indexed
-    (λ nodes d. h nodes d)
+    of-sheet s answer.Sheet index told (λ a. Asked l fill (ask a id request) l′ fill′ number line column) refl
+    indexed (λ nodes d. h nodes d)
 
 returns : tie.Need-returns
 returns c = same-answers

@@ -10,7 +10,7 @@ use Rattle.exports.proofs.index.kitlubas_answer_in.Tie as tie
 
 returns : tie.Need-returns
 returns c =
-    let at-answer-in = c .before .before .before .before .before in
+    let at-answer-in = c .before .before .before .before .before .before in
     let at-at = at-answer-in .before .before in
     let at-request-of = at-at .before .before in
     let start = at-request-of .before .before .before .before in
@@ -18,8 +18,8 @@ returns c =
       λ ns x.
           asked-in (a .buf .now) _ (sheetOf (textAt (rows (a .s .now))) ns) (a .id) _ _ _ _ _
           (at-request-of .request-of .ensures) (at-at .at .ensures)
-          ((at-answer-in .answer-in .ensures .0) ns x) _ _ _ (c .say .ensures),
-      told-within (a .buf .now) _ _ _ (at-answer-in .answer-in .result) _ _ _ (at-at .at .ensures)
+          ((at-answer-in .answer-in .ensures .0) ns x) _ _ _ _ (c .say .ensures),
+      told-within (a .buf .now) _ _ _ (at-answer-in .answer-in .result) _ _ _ _ (at-at .at .ensures)
           (at-answer-in .answer-in .ensures .1) (c .say .ensures),
     )
 

@@ -13,7 +13,7 @@ returns-2 : tie.Need-returns-2
 returns-2 c =
     let at-number = c .before in
     let at-admit = at-number .before .before .before .before in (
-      told-refused _ (at-admit .admit .result) _ _ (at-admit .admit .ensures .0) (at-number .number .given .1),
+      told-refused _ (at-admit .admit .result) _ _ _ (at-admit .admit .ensures .0) (at-number .number .given .1),
       at-admit .admit .ensures .1,
     )
 

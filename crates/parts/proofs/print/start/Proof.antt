@@ -12,7 +12,7 @@ returns c =
 returns-2 : tie.Need-returns-2
 returns-2 c =
     let at-admit = c .before .before .before .before .before in
-    λ room. start-refused _ _ (at-admit .admit .ensures .0) (at-admit .admit .last .1 .0) _ _ (c .before .verdict .given .1)
+    λ room. start-refused _ _ (at-admit .admit .ensures .0) (at-admit .admit .last .1 .0) _ _ _ (c .before .verdict .given .1)
 
 pub start-spec : {M : Type 1} → statement M
 start-spec =

@@ -23,7 +23,7 @@ returns-2 c =
       put .0,
       (
         rw is
-            (refused-turn (a .s .now) (a .index .now) _ _ (a .out .now) (at-refused-sheet .refused-sheet .last .1 .1 .0)
+            (refused-turn (a .s .now) (a .index .now) _ _ _ (a .out .now) (at-refused-sheet .refused-sheet .last .1 .1 .1 .0)
             (at-refused-sheet .refused-sheet .result) (put .1 .0) (put .1 .1)),
         λ more. rw is (omega arith),
       ),
