@@ -1,8 +1,8 @@
 // Replays single requests through the static library's entry: reads sheets from standard input, each after a line with its
 // length in decimal and before its requests, which stand after a line with theirs. A request is a letter and six numbers in 21
 // columns each: the node's id, the place, the request's number, the leaf, the fill count, and the length of a buffer of points.
-// Its answer is printed as the refusal's number, its line, its column and the fill count afterwards, and then the whole buffer. The files
-// stdin and stdout beside src/ are written by the comparison in oracle/, by capnpc's own functions.
+// Its answer is printed as the refusal's number, its line, its column and the fill count afterwards, and then the whole buffer.
+// The files stdin and stdout beside src/ are written by the comparison in oracle/, by capnpc's own functions.
 use column::Number;
 use libc::STDERR_FILENO;
 use libc::STDIN_FILENO;

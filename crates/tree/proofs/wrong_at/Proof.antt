@@ -14,7 +14,8 @@ misplaced c =
 faulty : tie.Need-returns-2
 faulty c =
     let a = c .before .before .before .before .args in
-    by-fault (faultOf (a .letter) (lineSaid (a .line))) (a .at) _ (Refused 2 1 (a .at)) (c .before .before .before .end-at .ensures) _ _ _ (c .before .number .given .1)
+    by-fault (faultOf (a .letter) (lineSaid (a .line))) (a .at) _ (Refused 2 1 (a .at))
+    (c .before .before .before .end-at .ensures) _ _ _ (c .before .number .given .1)
 
 pub wrong-at-spec : {M : Type 1} → statement M
 wrong-at-spec =
