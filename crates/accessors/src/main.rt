@@ -1,4 +1,6 @@
 // The program `accessors`: reads a sheet from standard input and prints its parts, or its refusal.
+#![tactic(auto)]
+
 use libc::STDERR_FILENO;
 use programs::Input;
 

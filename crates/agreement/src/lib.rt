@@ -1,5 +1,7 @@
 // Demand 3 from the answered bytes of the public entry: what the texts of one slot's accessors do to a record. The statements
 // stand in specs/ and the laws in proofs/; there is nothing to run.
+#![tactic(auto)]
+
 ghost use Rattle.agreement.specs.Claims.{AnsweredHolds, RanHolds, GetHolds, DefaultHolds, OwnDefaultHolds, SetHolds};
 ghost use Rattle.agreement.specs.Claims.{SetMeansHolds, NoMeaningHolds, SetGetHolds, VoidHolds, VoidMeansHolds};
 ghost use Rattle.agreement.specs.Claims.{VoidSetHolds, HaserHolds, TagPastHolds, HaserPastHolds, NoHaserHolds};

@@ -1,5 +1,7 @@
 // Both searches for byte 10, for bench/ alone: as it is, by words, and as it was, by eight comparisons. Each answers the
 // position of the first byte 10 at or after `from`, or 18446744073709551615 where there is none.
+#![tactic(auto)]
+
 ghost use Rattle.std.specs.Prelude.{◌≡◌, ◌+◌, ◌≤◌, length};
 ghost use Rattle.row.specs.Newline.{newline_said, newline_from};
 ghost use Rattle.bench_ends.specs.Searches.{Passes, answered};

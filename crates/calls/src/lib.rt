@@ -1,5 +1,7 @@
 // The calls on a record's sections, as the generated accessors write them: gets, sets, clears and tests. A call's offset counts
 // bits, elements or pointers, as its name says; its type and its value are the texts that stand in it.
+#![tactic(auto)]
+
 ghost use Rattle.core.specs.Prelude.{◌≡◌};
 ghost use Rattle.text.specs.Text.{Wrote};
 ghost use Rattle.calls.specs.Calls.{get_bool_field, get_data_field, get_enum_field, set_bool_field, set_data_field, set_tag};
@@ -10,7 +12,7 @@ ghost use Rattle.calls.specs.Mask.{get_bool_head, get_data_head, set_bool_head, 
 use text::Text;
 
 // What a call masks with: nothing, true, a signed number by its bits and the bit of its sign, or a number with its ending.
-#[derive(Drop)]
+#[derive(Clone, Copy)]
 pub enum Mask {
     None,
     True,

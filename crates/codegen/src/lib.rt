@@ -1,4 +1,6 @@
 // The parts of accessors' texts that need no look into the sheet: codegen.rs of capnpc, its slot part.
+#![tactic(auto)]
+
 ghost use Rattle.core.specs.Prelude.{◌≡◌};
 ghost use Rattle.text.specs.Bytes.{ascii};
 ghost use Rattle.text.specs.Text.{Wrote};

@@ -1,6 +1,8 @@
 // `Leaf` of codegen_types.rs of capnpc and the texts that depend on it alone, and the names of the primitive types. The
 // definitions of `type_string` and `do_branding` stand in specs/; the code that meets them is in the crates type_parts and
 // type_string.
+#![tactic(auto)]
+
 ghost use Rattle.std.specs.Prelude.{◌++◌, ◌≡◌};
 ghost use Rattle.std.proofs.Math.Option.{none, some};
 ghost use Rattle.text.specs.Bytes.{ascii};
@@ -14,14 +16,14 @@ use terms::kinds;
 use text::Text;
 
 // The lifetimes that are asked for: 'a and '_.
-#[derive(Drop)]
+#[derive(Clone, Copy)]
 pub enum Lifetime {
     A,
     Anonymous,
 }
 
 // What a type's text is asked for.
-#[derive(Drop)]
+#[derive(Clone, Copy)]
 pub enum Leaf {
     Reader(Lifetime),
     Builder(Lifetime),
@@ -34,7 +36,7 @@ pub enum Leaf {
 }
 
 // The refusal of a request by document 01's number, if there is one.
-#[derive(Drop)]
+#[derive(Clone, Copy)]
 pub enum Refusal {
     None,
     Number(u64),
@@ -42,7 +44,7 @@ pub enum Refusal {
 
 // What a writer leaves: the text state after its text, and the refusal of what it was to write, if there is one. A text that is
 // refused counts for nothing.
-#[derive(Drop)]
+#[derive(Clone, Copy)]
 pub struct Written {
     pub text: Text,
     pub refusal: Refusal,
@@ -136,7 +138,7 @@ pub fn element_leaf(kind: u64) -> Leaf
 }
 
 // The name of a primitive type, held by value.
-#[derive(Drop)]
+#[derive(Clone, Copy)]
 pub struct TypeName {
     pub bytes: [u8; 4],
     pub len: usize,

@@ -1,4 +1,6 @@
 // The columns of a sheet's line: a number, right-justified in 21 columns, and a text after one space.
+#![tactic(auto)]
+
 ghost use Rattle.std.specs.Prelude.{◌≡◌, ◌+◌, ◌≤◌, ◌<◌, length, drop, get_or, ℕ, false};
 ghost use Rattle.std.proofs.Math.Option.{some};
 ghost use Rattle.text.specs.Bytes.{both};
@@ -21,7 +23,7 @@ const MULTIPLICATION_SIGN: u8 = 0x97;
 const DIVISION_SIGN: u8 = 0xb7;
 
 // What stands in a number's columns: the number, where it is one and lies in its bounds.
-#[derive(Drop)]
+#[derive(Clone, Copy)]
 pub enum Number {
     Is(u64),
     Not,

@@ -2,6 +2,8 @@
 //
 // The writers put their text at the fill count `at` and answer the new one, which stops at 18446744073709551614. Bytes past the
 // end of the buffer are counted and not written. What is not taken writes nothing and answers 18446744073709551615.
+#![tactic(auto)]
+
 mod index;
 mod pad;
 
@@ -153,7 +155,7 @@ fn say(answer: Answer, fill: &mut usize, line: &mut usize, column: &mut usize) -
 }
 
 // What the number of a field's text says.
-#[derive(Drop)]
+#[derive(Clone, Copy)]
 enum AccessorNumber {
     Is(Accessor),
     Nothing,

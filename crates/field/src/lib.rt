@@ -1,5 +1,7 @@
 // A field of the sheet by value, read once: what its F or G row says, its type's row and its V row, where its name, type and
 // words stand, and where the next field begins. A caller may hold it as numbers.
+#![tactic(auto)]
+
 ghost use Rattle.std.specs.Prelude.{◌≡◌, List, ℕ, ◌≤◌, drop, length};
 ghost use Rattle.text.specs.Bytes.{Str};
 ghost use Rattle.row.specs.Rows.{rows, rest_of};
@@ -28,7 +30,7 @@ const SLOT: u64 = 1;
 const GROUP: u64 = 2;
 
 // A slot. The numbers of its F row:
-#[derive(Drop)]
+#[derive(Clone, Copy)]
 pub struct Slot {
     pub offset: u64,
     pub discriminant: u64,
@@ -49,7 +51,7 @@ pub struct Slot {
 }
 
 // A group: the numbers of its G row, where that row stands, and where the next field begins.
-#[derive(Drop)]
+#[derive(Clone, Copy)]
 pub struct Group {
     pub id: u64,
     pub discriminant: u64,
@@ -58,7 +60,7 @@ pub struct Group {
 }
 
 // What stands where a field may stand.
-#[derive(Drop)]
+#[derive(Clone, Copy)]
 pub enum Field {
     Slot(Slot),
     Group(Group),
@@ -86,7 +88,7 @@ impl Group {
 }
 
 // What the row of a type says, kind and a, and where the rows after the type begin.
-#[derive(Drop)]
+#[derive(Clone, Copy)]
 struct TypeSpan {
     kind: u64,
     id: u64,

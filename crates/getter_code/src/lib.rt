@@ -1,4 +1,6 @@
 // The code of a slot's getter: what `getter_text` of codegen.rs gives beside the result type and the default's declaration.
+#![tactic(auto)]
+
 ghost use Rattle.core.specs.Prelude.{◌≡◌};
 ghost use Rattle.text.specs.Lines.{stringify};
 ghost use Rattle.text.specs.Text.{Wrote};

@@ -1,4 +1,6 @@
 // What accessor texts do to a record. The definitions stand in specs/ and the laws in proofs/; there is nothing to run.
+#![tactic(auto)]
+
 ghost use Rattle.meaning.specs.Claims.{TextGetHolds, TextSetHolds, SetterMeansHolds, SetterLeavesHolds, TextVoidHolds};
 ghost use Rattle.meaning.specs.Claims.{TextSetGetHolds, ExpectedHolds, TextVoidSetHolds, TextHaserHolds, TextZeroingHolds};
 

@@ -1,4 +1,6 @@
 // Names in generated code: a field's name in snake case, its default's constant and a module's name.
+#![tactic(auto)]
+
 pub mod keywords;
 
 ghost use Rattle.std.specs.Prelude.{◌≡◌, true, map, ◌+◌, ◌<◌, min, eqb, length, drop, get_or};
@@ -15,7 +17,7 @@ use text::Text;
 const LAST_CAPITAL: u8 = 0x9e;
 
 // A snake name, held whole: its bytes, then zeros.
-#[derive(Drop)]
+#[derive(Clone, Copy)]
 pub struct Snake {
     bytes: [u8; 128],
     len: usize,

@@ -1,5 +1,7 @@
 // The index of a sheet's nodes: one flat slice of numbers that the caller lends. Admission fills it, and every request finds
 // its nodes there: what their N rows say, and where their P rows and fields begin.
+#![tactic(auto)]
+
 ghost use Rattle.std.specs.Prelude.{◌≡◌, List, ℕ, ◌+◌, ◌≤◌, length, drop, set};
 ghost use Rattle.row.specs.Rows.{rows};
 ghost use Rattle.row.specs.Span.{text_between};
@@ -21,7 +23,7 @@ const MARK_BYTES: usize = 4 * MARK_EVERY as usize;
 
 // What the index holds of a node: the numbers of its N row, where that row stands, where its P rows begin, how many they are,
 // where in the index their marks begin, and where its fields begin.
-#[derive(Drop)]
+#[derive(Clone, Copy)]
 pub struct Entry {
     pub id: u64,
     pub parent: u64,
@@ -38,14 +40,14 @@ pub struct Entry {
 }
 
 // An entry of the index, or none.
-#[derive(Drop)]
+#[derive(Clone, Copy)]
 pub enum Found {
     At(Entry),
     Nothing,
 }
 
 // A position in the sheet, or none.
-#[derive(Drop)]
+#[derive(Clone, Copy)]
 pub enum Position {
     At(usize),
     Nothing,

@@ -1,4 +1,6 @@
 // The program `pad`: reads from standard input a sheet that is written by hand, and prints it with its numbers in their columns.
+#![tactic(auto)]
+
 use libc::{STDERR_FILENO, STDOUT_FILENO};
 use programs::Input;
 use text::Text;

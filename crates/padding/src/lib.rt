@@ -1,5 +1,7 @@
 // Sheets that are written by hand: the numbers of each line, with any spaces between them, are put right-justified into their 21
 // columns. `claims` does nothing: its contract is what this does to sheets.
+#![tactic(auto)]
+
 ghost use Rattle.std.specs.Prelude.{◌≡◌, ◌+◌, ◌≤◌, length, drop};
 ghost use Rattle.text.specs.Text.{Wrote};
 ghost use Rattle.padding.specs.Padded.{number_count, space_len, word_len, right_justified, words_padded, padded_row, padded_text};

@@ -1,6 +1,8 @@
 // What the program `accessors` prints: document 01's headers and texts, in their order, in pieces as large as the output buffer
 // holds. All that is printed of a field is a unit: its parts, one behind the other, each written straight into the buffer, and
 // measured before only where a getter of the field is refused or too long.
+#![tactic(auto)]
+
 use codegen_types::{Refusal, Written};
 use field::{Field, Group, Slot};
 use requests::Accessor;
@@ -25,7 +27,7 @@ pub use print::{claims, print_sheet};
 const TEXT_SIZE: usize = 65536;
 
 // A part of a field: the first five are those of a slot, the last is a group's.
-#[derive(Drop)]
+#[derive(Clone, Copy)]
 enum Part {
     GetterReader,
     GetterBuilder,
@@ -36,21 +38,21 @@ enum Part {
 }
 
 // A part that is to be written, and whether its text is measured before.
-#[derive(Drop)]
+#[derive(Clone, Copy)]
 struct Job {
     part: Part,
     measured: bool,
 }
 
 // The part after a part of the same field, or none.
-#[derive(Drop)]
+#[derive(Clone, Copy)]
 enum Next {
     Is(Part),
     Nothing,
 }
 
 // What a text takes of a buffer that it begins: so many bytes, or more than there are.
-#[derive(Drop)]
+#[derive(Clone, Copy)]
 enum Fit {
     Whole(usize),
     Short,
@@ -58,7 +60,7 @@ enum Fit {
 
 // Where the printing of a sheet stands: at the refusal of the sheet; at a field of the node with a number, from 0, or at what
 // stands after its last; at the end.
-#[derive(Drop)]
+#[derive(Clone, Copy)]
 enum Place {
     Refused {
         number: u64,
@@ -73,14 +75,14 @@ enum Place {
 }
 
 // What the next unit takes of a buffer, and the place after it.
-#[derive(Drop)]
+#[derive(Clone, Copy)]
 struct Turn {
     fit: Fit,
     next: Place,
 }
 
 // A piece: so many bytes of the buffer, and the place after them.
-#[derive(Drop)]
+#[derive(Clone, Copy)]
 struct Piece {
     n: usize,
     next: Place,
@@ -88,7 +90,7 @@ struct Piece {
 
 // What the printing over a buffer came to: a place, whose next unit is too long for the buffer if it is not the end; or a write
 // that failed.
-#[derive(Drop)]
+#[derive(Clone, Copy)]
 enum Came {
     To(Place),
     Failed,

@@ -1,5 +1,7 @@
 // The declaration of a pointer's default: `word_array_declaration` of pointer_constants.rs, for the words that a slot has in the
 // sheet.
+#![tactic(auto)]
+
 ghost use Rattle.std.specs.Prelude.{drop};
 ghost use Rattle.text.specs.Text.{Wrote};
 ghost use Rattle.row.specs.Rows.{rows};

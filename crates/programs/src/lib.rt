@@ -1,5 +1,7 @@
 // What the programs share: reading standard input, the lines and sheets of an input, and how much of a buffer a text state has
 // filled.
+#![tactic(auto)]
+
 ghost use Rattle.std.specs.Prelude.{◌≡◌, ◌+◌, ◌≤◌, min, max, length};
 ghost use Rattle.io.specs.Counts.{IsPrefixLen};
 ghost use Rattle.programs.specs.Input.{WasRead, line_end, digit_of, decimal_of, sheet_after};
@@ -11,14 +13,14 @@ use text::Text;
 const TRIES: usize = 4096;
 
 // What was read: so many bytes at the start of a buffer, or a failure.
-#[derive(Drop)]
+#[derive(Clone, Copy)]
 pub enum Input {
     Bytes(usize),
     Failed,
 }
 
 // Where a sheet starts and ends among others.
-#[derive(Drop)]
+#[derive(Clone, Copy)]
 pub struct Sheet {
     pub start: usize,
     pub end: usize,

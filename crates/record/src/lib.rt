@@ -1,6 +1,8 @@
 // A record lent by its caller: a data section of bytes, and a byte for each pointer. The operations that document 01, "What a
 // line does to a record", gives a meaning: plain and masked gets and sets, tests of a tag, null tests and clears. Gets and tests
 // answer on sections of any length: they find zero bits where these are not wholly inside.
+#![tactic(auto)]
+
 ghost use Rattle.std.specs.Prelude.{◌≡◌, ◌+◌, ◌*◌, ◌/◌, ◌%◌, ◌^◌, ◌≤◌, ◌<◌, leb, length, take, drop};
 ghost use Rattle.std.proofs.lemmas.List.Edits.{sets};
 ghost use Rattle.record.specs.Bits.{bit, with_bit, little, little_bytes, section_bits, flags};
@@ -11,26 +13,26 @@ ghost use Rattle.record.specs.Bytes.{BoolAtHolds, NumberAtHolds, SetBytesHolds, 
 ghost use Rattle.record.specs.Past.{DefaultGetHolds, AbsentHolds};
 
 // An offset of a Bool, in bits.
-#[derive(Drop)]
+#[derive(Clone, Copy)]
 pub struct BitOffset(pub u32);
 
 // An offset of a number or an enum, in elements of its own width.
-#[derive(Drop)]
+#[derive(Clone, Copy)]
 pub struct ElementOffset(pub u32);
 
 // An offset of a pointer, in pointers.
-#[derive(Drop)]
+#[derive(Clone, Copy)]
 pub struct PointerOffset(pub u32);
 
 // Where a Bool stands: a byte's number, and one of its eight bits, lowest first.
-#[derive(Drop)]
+#[derive(Clone, Copy)]
 pub struct BitAddress {
     pub byte: usize,
     pub bit: u32,
 }
 
 // How many bytes a number or an enum takes.
-#[derive(Drop)]
+#[derive(Clone, Copy)]
 pub enum Width {
     One,
     Two,
@@ -39,7 +41,7 @@ pub enum Width {
 }
 
 // What becomes of a set or a clear; where it is not wholly inside its section it has no meaning, and the record is as before.
-#[derive(Drop)]
+#[derive(Clone, Copy)]
 pub enum Set {
     Done,
     NoMeaning,

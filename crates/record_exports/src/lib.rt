@@ -1,5 +1,7 @@
 // The static library's boundary for records, on numbers and byte slices; kitlubas_record.h beside src declares it for C and says
 // what each function answers and leaves. A slice passes as pointer then length.
+#![tactic(auto)]
+
 ghost use Rattle.std.specs.Prelude.{◌≡◌, set};
 ghost use Rattle.record.specs.Bits.{bit, section_bits, flags};
 ghost use Rattle.record.specs.Record.{tag_is, null_flag, clear_flag};
@@ -11,7 +13,7 @@ ghost use Rattle.record_exports.specs.Enums.{measured};
 use record::{BitOffset, ElementOffset, PointerOffset, Set, Width};
 
 // The width that a number of bytes is, if it is one.
-#[derive(Drop)]
+#[derive(Clone, Copy)]
 enum Measure {
     Is(Width),
     No,

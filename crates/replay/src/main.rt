@@ -9,6 +9,8 @@
 //     b, z      nothing: a blank line, and no lines at all
 //
 // Each answer ends with byte 10.
+#![tactic(auto)]
+
 ghost use Rattle.std.specs.Prelude.{◌<◌};
 
 use libc::{STDIN_FILENO, STDOUT_FILENO};

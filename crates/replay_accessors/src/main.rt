@@ -1,6 +1,8 @@
 // Replays what `accessors` prints: reads sheets from standard input, each after a line with its length in decimal, and prints
 // for each what `accessors` prints for it. The files stdin and stdout beside src/ are written by the comparison in oracle/, by
 // capnpc's own functions.
+#![tactic(auto)]
+
 use libc::{STDERR_FILENO, STDIN_FILENO};
 
 // Prints each sheet, and tells whether all was written.

@@ -3,6 +3,8 @@
 // columns each: the node's id, the place, the request's number, the leaf, the fill count, and the length of a buffer of points.
 // Its answer is printed as the refusal's number, its line, its column and the fill count afterwards, and then the whole buffer.
 // The files stdin and stdout beside src/ are written by the comparison in oracle/, by capnpc's own functions.
+#![tactic(auto)]
+
 use column::Number;
 use libc::{STDERR_FILENO, STDIN_FILENO, STDOUT_FILENO};
 use text::Text;

@@ -1,6 +1,8 @@
 // Replays what sheets are: reads sheets from standard input, each after a line with its length in decimal, and writes for each
 // a line with its refusal's number, line and column, `0 0 0` for a sheet that is admitted. The files stdin and stdout beside src/
 // are written by the comparison in oracle/, by its own reader of sheets.
+#![tactic(auto)]
+
 use libc::{STDIN_FILENO, STDOUT_FILENO};
 use sheet::Answer;
 use text::Text;

@@ -2,6 +2,8 @@
 // text, or one refusal of document 01 that changes nothing. A request is measured over an empty buffer, which finds its refusal
 // or its length, before the first byte is written. Whoever holds a sheet's index asks over it, and has the text of a field that
 // was read from the start of a buffer on.
+#![tactic(auto)]
+
 ghost use Rattle.std.specs.Prelude.{◌≡◌, List, ℕ, ◌≤◌, length};
 ghost use Rattle.text.specs.Bytes.{Str};
 ghost use Rattle.text.specs.Text.{WroteSome};
@@ -33,7 +35,7 @@ const SHORT_INDEX: usize = 289;
 
 // A text of a field: of a slot its type's text for a leaf, by document 01's number, its getters, its setter and its hasers; of a
 // group its zeroing.
-#[derive(Drop)]
+#[derive(Clone, Copy)]
 pub enum Accessor {
     TypeText { leaf: u64 },
     Getter { is_reader: bool, is_fn: bool },
@@ -44,14 +46,14 @@ pub enum Accessor {
 
 // What can be requested of a node: a text of its field at a place; or, as it is asked by a number that names no request, nothing
 // that there is, which is 15.
-#[derive(Drop)]
+#[derive(Clone, Copy)]
 pub enum Request {
     Field { place: u64, accessor: Accessor },
     Unknown,
 }
 
 // The state past the text, or document 01's number of a refusal and its line, 0 where it names none.
-#[derive(Drop)]
+#[derive(Clone, Copy)]
 pub enum Answer {
     Done(Text),
     Refused {
@@ -63,7 +65,7 @@ pub enum Answer {
 
 // What one pass over a text says: the whole text is there, and so long; it is longer than the buffer, and so long; or it is
 // refused with a number of document 01.
-#[derive(Drop)]
+#[derive(Clone, Copy)]
 pub enum Pass {
     Whole(usize),
     Longer(usize),
@@ -71,14 +73,14 @@ pub enum Pass {
 }
 
 // A field that was found, and the offset of its node's tag.
-#[derive(Drop)]
+#[derive(Clone, Copy)]
 struct Located {
     tag: u64,
     field: Field,
 }
 
 // What a leaf's number says.
-#[derive(Drop)]
+#[derive(Clone, Copy)]
 enum LeafNumber {
     Is(Leaf),
     Nothing,

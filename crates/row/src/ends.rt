@@ -15,14 +15,14 @@ const LOW: u64 = 0x7f7f_7f7f_7f7f_7f7f;
 const HIGH: u64 = 0x8080_8080_8080_8080;
 
 // Where a byte 10 stands, or that there is none.
-#[derive(Drop)]
+#[derive(Clone, Copy)]
 pub enum Newline {
     At(usize),
     Nothing,
 }
 
 // What words say: where the first byte 10 stands, or from where on it is left to seek.
-#[derive(Drop)]
+#[derive(Clone, Copy)]
 enum Words {
     Found(usize),
     Left(usize),

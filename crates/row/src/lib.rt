@@ -1,4 +1,6 @@
 // Rows of a sheet: where a row ends, what it says, and the text that it has.
+#![tactic(auto)]
+
 mod ends;
 mod lines;
 mod parts;
@@ -18,7 +20,7 @@ pub use parts::part;
 const TWO_UNBOUND: u64 = 0x0a55_0a55;
 
 // What a row says.
-#[derive(Drop)]
+#[derive(Clone, Copy)]
 pub enum Line {
     // R: the root stands as its text.
     Root,
@@ -80,21 +82,21 @@ pub enum Line {
 }
 
 // What the row at a position says, and where the next row starts.
-#[derive(Drop)]
+#[derive(Clone, Copy)]
 pub struct Got {
     pub line: Line,
     pub next: usize,
 }
 
 // How many types, scopes or bindings belong to a row, and where the next row starts.
-#[derive(Drop)]
+#[derive(Clone, Copy)]
 pub struct Owing {
     pub owed: u64,
     pub next: usize,
 }
 
 // Where a text stands: from a position up to another.
-#[derive(Drop)]
+#[derive(Clone, Copy)]
 pub struct Span {
     pub start: usize,
     pub end: usize,

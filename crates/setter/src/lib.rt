@@ -1,5 +1,7 @@
 // A slot's setter and initializer: `generate_setter` of codegen.rs, from the sheet's rows. What is refused is found while the
 // text is written: the refusals of a type's texts in Rust's order, then that of the default.
+#![tactic(auto)]
+
 ghost use Rattle.std.specs.Prelude.{◌≡◌, ◌++◌, List, ◌<◌, eqb, leb, drop};
 ghost use Rattle.text.specs.Text.{Wrote, WroteSome};
 ghost use Rattle.text.specs.Bytes.{Str, either};

@@ -1,5 +1,7 @@
 // The setter and the initializer of a slot whose type's text needs no look into the sheet, and the parts that the others share:
 // codegen.rs of capnpc, `generate_setter`.
+#![tactic(auto)]
+
 ghost use Rattle.std.specs.Prelude.{◌++◌, true, false};
 ghost use Rattle.text.specs.Bytes.{Str, ascii};
 ghost use Rattle.text.specs.Lines.{stringify};

@@ -1,4 +1,6 @@
 // A sheet, read once: admitted, with the index of its nodes, or refused at its first bad line.
+#![tactic(auto)]
+
 ghost use Rattle.std.specs.Prelude.{◌≡◌, [], ◌-◌, ◌%◌, ◌^◌, ◌≤◌, ◌<◌, length, drop, take, set};
 ghost use Rattle.row.specs.Rows.{rows, size};
 ghost use Rattle.row.specs.Line.{byte, line_said, fault_of};
@@ -16,7 +18,7 @@ use terms::{limits, refusals};
 use tree::Walk;
 
 // What a sheet is: one that document 01 admits, or one with a refusal at a line and a column of it.
-#[derive(Drop)]
+#[derive(Clone, Copy)]
 pub enum Answer {
     Sheet,
     Refused {
@@ -27,7 +29,7 @@ pub enum Answer {
 }
 
 // A walk, and how many ids are held after it.
-#[derive(Drop)]
+#[derive(Clone, Copy)]
 struct Run {
     walk: Walk,
     count: usize,
@@ -35,14 +37,14 @@ struct Run {
 
 // What stands where a field may stand: a field, with the position after it and how many group ids are held then, or the end of
 // the walk over the fields.
-#[derive(Drop)]
+#[derive(Clone, Copy)]
 enum Turn {
     Field { at: usize, count: usize },
     End { walk: Walk },
 }
 
 // A walk over the P rows of a node, how many they are, and the place of the next mark.
-#[derive(Drop)]
+#[derive(Clone, Copy)]
 struct ParamsRun {
     walk: Walk,
     count: u64,
@@ -50,7 +52,7 @@ struct ParamsRun {
 }
 
 // How many nodes and group ids were read, and the place of the next mark.
-#[derive(Drop)]
+#[derive(Clone, Copy)]
 struct Held {
     nodes: usize,
     groups: usize,
@@ -58,7 +60,7 @@ struct Held {
 }
 
 // A walk over one node, its id, how many group ids are held after it, and the place of the next mark.
-#[derive(Drop)]
+#[derive(Clone, Copy)]
 struct NodeRun {
     walk: Walk,
     id: u64,

@@ -1,5 +1,7 @@
 // Text into a lent buffer, by a state that is passed by value. Every writer has one contract: the buffer and the state
 // afterwards are those after its text (`Wrote`). Over an empty buffer the same writer measures.
+#![tactic(auto)]
+
 ghost use Rattle.std.specs.Prelude.{◌≡◌, ◌+◌, ◌-◌, ◌*◌, ◌^◌, ◌<◌, ◌≤◌, min, length};
 ghost use Rattle.text.specs.Bytes.{unit, same};
 ghost use Rattle.text.specs.Decimal.{decimal, signed};
@@ -8,7 +10,7 @@ ghost use Rattle.text.specs.Text.{Wrote, state_at};
 
 // Where the next byte goes: the fill count. Past the end of the buffer bytes are counted and not written, and the count
 // stops at the largest usize.
-#[derive(Drop)]
+#[derive(Clone, Copy)]
 pub struct Text {
     at: usize,
 }

@@ -1,5 +1,7 @@
 // Walks over the parts of a sheet: a type with its brand, a slot's default and words. Each gives the position after the part,
 // or its refusal with the column and the position of the bad line.
+#![tactic(auto)]
+
 ghost use Rattle.std.specs.Prelude.{◌≡◌, ℕ, drop, length};
 ghost use Rattle.row.specs.Rows.{rows};
 ghost use Rattle.row.specs.Line.{line_said};
@@ -12,7 +14,7 @@ use row::Line;
 use terms::{kinds, refusals};
 
 // Where a walk came to: the next row, or the row that is refused, with the number of the refusal and its column.
-#[derive(Drop)]
+#[derive(Clone, Copy)]
 pub enum Walk {
     Next {
         at: usize,
@@ -25,7 +27,7 @@ pub enum Walk {
 }
 
 // A walk over W rows, and how many they are.
-#[derive(Drop)]
+#[derive(Clone, Copy)]
 pub struct Counted {
     pub walk: Walk,
     pub count: u64,

@@ -1,4 +1,6 @@
 // The parts of a type's text that lie outside the cycle of `type_string` and `do_branding`.
+#![tactic(auto)]
+
 ghost use Rattle.std.specs.Prelude.{◌≡◌, ◌++◌, ◌+◌, ◌-◌, ◌*◌, ◌^◌, ◌<◌, min, drop, replicate};
 ghost use Rattle.text.specs.Bytes.{Str, ascii};
 ghost use Rattle.text.specs.Text.{Wrote, WroteSome, state_at};
@@ -18,7 +20,7 @@ use terms::{kinds, refusals};
 use text::Text;
 
 // The arguments of a brand while they are written: the text so far, and the byte that stands before the next one, `<` or a comma.
-#[derive(Drop)]
+#[derive(Clone, Copy)]
 pub struct Arguments {
     pub text: Text,
     pub sep: u8,
@@ -26,7 +28,7 @@ pub struct Arguments {
 
 // What a writer of arguments leaves: those that are written, and the refusal of what it was to write, if there is one. Arguments
 // that are refused count for nothing.
-#[derive(Drop)]
+#[derive(Clone, Copy)]
 pub struct Argued {
     pub arguments: Arguments,
     pub refusal: Refusal,

@@ -1,6 +1,8 @@
 // `type_string` and `do_branding` of codegen_types.rs: each calls the other, and the levels of a type that are left fall at
 // each call. A text is written and its refusal found in one walk: what is written of a text that is refused counts for nothing.
 // Over an empty buffer the same writers measure.
+#![tactic(auto)]
+
 ghost use Rattle.std.specs.Prelude.{◌≡◌, ◌-◌, ◌<◌, drop};
 ghost use Rattle.text.specs.Bytes.{both, cond};
 ghost use Rattle.text.specs.Text.{WroteSome};
@@ -21,7 +23,7 @@ use type_parts::{Argued, Arguments};
 use types::TypeRow;
 
 // A brand: its node's id, and where its scopes begin and how many they are.
-#[derive(Drop)]
+#[derive(Clone, Copy)]
 struct Brand {
     id: u64,
     scopes: usize,
@@ -30,7 +32,7 @@ struct Brand {
 
 // A node of a brand's chain: where its P rows begin, how many they are, and where its scope stands; the sheet's end where it has
 // none.
-#[derive(Drop)]
+#[derive(Clone, Copy)]
 struct Own {
     params: usize,
     count: u64,

@@ -1,5 +1,7 @@
 // Where things stand in a sheet, by position: what follows a type or a scope, the chain of a node's parents, and the scopes of a
 // brand that count. Positions past the end, or of other rows, have an answer too.
+#![tactic(auto)]
+
 ghost use Rattle.std.specs.Prelude.{◌≡◌, ◌≤◌, drop, length};
 ghost use Rattle.text.specs.Bytes.{Str};
 ghost use Rattle.row.specs.Rows.{rows};
@@ -12,7 +14,7 @@ use row::Line;
 use terms::{kinds, refusals};
 
 // What a T row says of a type: its numbers, and where what belongs to it begins.
-#[derive(Drop)]
+#[derive(Clone, Copy)]
 pub struct TypeRow {
     pub kind: u64,
     pub a: u64,
@@ -104,7 +106,7 @@ pub fn past(s: &[u8], from: usize, count: u64) -> usize
 
 // The chain of a node's parents, innermost first: the ids of its nodes, where their P rows begin, how many these are, and the
 // refusal at its end.
-#[derive(Drop)]
+#[derive(Clone, Copy)]
 pub struct Links {
     pub ids: [u64; 16],
     pub params: [usize; 16],
@@ -114,7 +116,7 @@ pub struct Links {
 }
 
 // The next node of a chain, or the number of the chain's refusal.
-#[derive(Drop)]
+#[derive(Clone, Copy)]
 enum Step {
     Node(Entry),
     Refused(u64),

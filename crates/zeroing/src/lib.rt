@@ -1,4 +1,6 @@
 // The zeroing of a group: `zero_fields_of_group` of codegen.rs, its text or its refusal, from the sheet's rows.
+#![tactic(auto)]
+
 ghost use Rattle.std.specs.Prelude.{◌≡◌, false, List, ◌*◌, ◌<◌, ◌≤◌, eqb, length, drop, take};
 ghost use Rattle.std.proofs.Math.Option.{some};
 ghost use Rattle.text.specs.Bytes.{Str, both, either};
@@ -42,7 +44,7 @@ const POINTER_LINE: u8 = 12;
 
 // The lines so far: the text state after them, whether one clears a pointer, whether there is one, and the refusal, if one was
 // met.
-#[derive(Drop)]
+#[derive(Clone, Copy)]
 struct Lines {
     text: Text,
     clear: bool,
@@ -51,7 +53,7 @@ struct Lines {
 }
 
 // A zeroing: the text state after it, whether a line of it clears a pointer, and its refusal.
-#[derive(Drop)]
+#[derive(Clone, Copy)]
 pub struct Zeroed {
     pub text: Text,
     pub clear: bool,
