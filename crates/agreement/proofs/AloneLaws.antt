@@ -1,6 +1,6 @@
 -- A GETTER ALONE and A SETTER ALONE, from the texts of one slot's requests. The texts are those of crate meaning's claims, whose
 -- conditions follow from the sheet being admitted and the default being of the slot's kind. Assumes nothing.
-use Rattle.core.specs.Prelude.{◌≡◌, ℕ, ◌^◌, ◌<◌, ◌≤◌, Bool, true, false, eqb}
+use Rattle.std.specs.Prelude.{◌≡◌, ℕ, ◌^◌, ◌<◌, ◌≤◌, Bool, true, false, eqb}
 use mathlib.Core.Path.{sym, ap, ◌∙◌}
 use mathlib.Core.Option.{none, some}
 use native.Mathlib.Omega.{arith}

@@ -1,7 +1,7 @@
 -- The bytes that the entry put between its two fill counts are the text of its request: a refusal is never done, and what is
 -- placed at the old count ends at the new one. And a text that is generated is put into any buffer with room for it. Assumes
 -- nothing.
-use Rattle.core.specs.Prelude.{◌≡◌, ℕ, ◌+◌, ◌-◌, ◌≤◌, Bool, true, false, ltb, ◌++◌, length, take, drop, replicate}
+use Rattle.std.specs.Prelude.{◌≡◌, ℕ, ◌+◌, ◌-◌, ◌≤◌, Bool, true, false, ltb, ◌++◌, length, take, drop, replicate}
 use mathlib.Core.Path.{refl, sym, ap, ◌∙◌}
 use mathlib.Core.List.{append_assoc}
 use native.Mathlib.Omega.{arith}

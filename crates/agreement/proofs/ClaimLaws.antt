@@ -1,6 +1,6 @@
 -- The claims, from what runs of the entry left: the bytes are a text that `codegen` gives, for the slot that stands at the place.
 -- Set and get follows from what a setter alone leaves and what a getter alone answers. Assumes nothing.
-use Rattle.core.specs.Prelude.{◌≡◌, ℕ, Bool}
+use Rattle.std.specs.Prelude.{◌≡◌, ℕ, Bool}
 use mathlib.Core.Path.{refl, sym, ap, ◌∙◌}
 use mathlib.Core.Option.{Option, none, some}
 use native.Mathlib.Omega.{arith}

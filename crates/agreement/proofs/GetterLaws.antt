@@ -1,7 +1,7 @@
 -- The text of a getter's request, for a slot with bits: its default is of its type, and the text is a result type and one line
 -- with the get of the slot's kind, offset and mask. The steps of `getter_text` are taken apart once for every slot; what they
 -- come to for each kind is computed. Assumes nothing.
-use Rattle.core.specs.Prelude.{◌≡◌, ℕ, Bool, true, false, eqb, List, [], ◌++◌}
+use Rattle.std.specs.Prelude.{◌≡◌, ℕ, Bool, true, false, eqb, List, [], ◌++◌}
 use mathlib.Core.Path.{refl, sym, ap, ◌∙◌}
 use mathlib.Core.Option.{Option, some}
 use mathlib.Core.List.{append-nil}

@@ -1,6 +1,6 @@
 -- The text of a haser's request: for a pointer slot an opening line, the test of the tag if there is a tag and that the pointer
 -- is not null; for any other slot one newline. Assumes nothing.
-use Rattle.core.specs.Prelude.{◌≡◌, ℕ, Bool, true, false, eqb, ◌++◌}
+use Rattle.std.specs.Prelude.{◌≡◌, ℕ, Bool, true, false, eqb, ◌++◌}
 use mathlib.Core.Path.{refl}
 use mathlib.Core.Option.{none, some}
 use Rattle.text.specs.Bytes.{Str, ascii, unit, cond}

@@ -1,6 +1,6 @@
 -- What the kinds of slots with bits have in common, by document 01's numbers: their width, that they are no pointers and have
 -- no words, and that the masks of codegen.rs are those of the record's rules. Each is computed kind by kind. Assumes nothing.
-use Rattle.core.specs.Prelude.{◌≡◌, ℕ, zero, suc, ◌+◌, ◌^◌, Bool, true, false, eqb, leb, List, [], ◌∷◌, get_or}
+use Rattle.std.specs.Prelude.{◌≡◌, ℕ, zero, suc, ◌+◌, ◌^◌, Bool, true, false, eqb, leb, List, [], ◌∷◌, get_or}
 use mathlib.Core.Path.{refl, ap}
 use mathlib.Core.Option.{Option, none, some}
 use native.Mathlib.Omega.{arith}

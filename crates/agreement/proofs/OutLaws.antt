@@ -1,6 +1,6 @@
 -- What is known of the steps of a function of the Rust that gave something: each of them gave something, and no test of them
 -- refused. Assumes nothing.
-use Rattle.core.specs.Prelude.{◌≡◌, ℕ, Bool, true, false}
+use Rattle.std.specs.Prelude.{◌≡◌, ℕ, Bool, true, false}
 use mathlib.Core.Path.{refl}
 use native.Mathlib.Omega.{arith}
 use Rattle.text.specs.Bytes.{cond}

@@ -1,7 +1,7 @@
 -- The text of a setter's request, for a slot with bits whose default is of its type, and for a Void slot: an opening line, the
 -- tag's line if there is a tag, and the set of the slot's kind, offset and mask. What `generate_setter` gives for each kind is
 -- computed. Assumes nothing.
-use Rattle.core.specs.Prelude.{◌≡◌, ℕ, zero, suc, ◌^◌, ◌<◌, Bool, true, false, eqb, List, [], ◌++◌}
+use Rattle.std.specs.Prelude.{◌≡◌, ℕ, zero, suc, ◌^◌, ◌<◌, Bool, true, false, eqb, List, [], ◌++◌}
 use mathlib.Core.Path.{refl, sym, ap, ◌∙◌}
 use mathlib.Core.Option.{Option, none, some}
 use Prim.Native.String.{String}

@@ -1,5 +1,5 @@
 -- The names, roots and modules of an admitted sheet have no byte 10, so that each stands within one line. Assumes nothing.
-use Rattle.core.specs.Prelude.{◌≡◌, ℕ, ◌+◌, Bool, true, false, not, eqb, [], ◌∷◌, ◌++◌}
+use Rattle.std.specs.Prelude.{◌≡◌, ℕ, ◌+◌, Bool, true, false, not, eqb, [], ◌∷◌, ◌++◌}
 use mathlib.Core.Path.{refl, ap₂, ◌∙◌}
 use Prim.Native.String.{String}
 use native.Mathlib.Omega.{arith}

@@ -1,6 +1,6 @@
 -- What is claimed of the texts of a slot's accessors, each as a run of the entry left it: a getter alone, a setter alone, set and
 -- then get, the Void setter, hasers. `expected` (crate meaning) is v but for document 01's two exceptions. Assumes nothing.
-use Rattle.core.specs.Prelude.{◌≡◌, ℕ, ◌^◌, ◌<◌, Bool, true, false, not, ◌⊎◌, ◌==◌}
+use Rattle.std.specs.Prelude.{◌≡◌, ℕ, ◌^◌, ◌<◌, Bool, true, false, not, ◌⊎◌, ◌==◌}
 use Rattle.std.proofs.Math.Option.{none, some}
 use Rattle.text.specs.Bytes.{Str, both, unit}
 use Rattle.text.specs.declared.Text.{Text}

@@ -2,7 +2,7 @@
 -- without and with its flag, a Float32 with default -0.0, and members of a union. Each text is what a run of the entry left in a
 -- longer buffer. The record is sixteen bytes 165 and two pointers, of which the first is null; on shorter ones getters give their
 -- defaults, hasers find a tag of 0 and null pointers, and setters have no meaning. Assumes nothing.
-use Rattle.core.specs.Prelude.{◌≡◌, ℕ, ◌+◌, ◌^◌, ◌<◌, true, false, List, [], ◌∷◌, ◌++◌, length, replicate}
+use Rattle.std.specs.Prelude.{◌≡◌, ℕ, ◌+◌, ◌^◌, ◌<◌, true, false, List, [], ◌∷◌, ◌++◌, length, replicate}
 use Prim.Native.String.{String}
 use Rattle.std.specs.Prelude.{refl}
 use Rattle.std.proofs.Common.{sym, ap, ◌∙◌, arith}

@@ -1,5 +1,5 @@
 -- A slot of a sheet's bytes, found by the id of its node and its place, and the texts of its requests. Assumes nothing.
-use Rattle.core.specs.Prelude.{◌≡◌, ℕ, ◌-◌, Bool, take, drop, ◌==◌}
+use Rattle.std.specs.Prelude.{◌≡◌, ℕ, ◌-◌, Bool, take, drop, ◌==◌}
 use Rattle.std.proofs.Math.Option.{Option, none, some}
 use Rattle.text.specs.Bytes.{Str, cond}
 use Rattle.text.specs.declared.Text.{Text}

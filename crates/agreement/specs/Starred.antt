@@ -1,7 +1,7 @@
 -- Document 01's starred cases, computed: one table and one theorem over its rows. A row is a text that a definition gives and the
 -- bytes that it must be. Texts of requests are what the entry gives for the bytes of a sheet; a value read is written in decimal.
 -- Assumes nothing.
-use Rattle.core.specs.Prelude.{◌≡◌, ℕ, true, false, List, [], ◌∷◌, ◌++◌, map}
+use Rattle.std.specs.Prelude.{◌≡◌, ℕ, true, false, List, [], ◌∷◌, ◌++◌, map}
 use Prim.Native.String.{String}
 use Rattle.std.specs.Prelude.{refl}
 use Rattle.std.proofs.Math.Option.{Option, none, some}

@@ -1,6 +1,6 @@
 -- What is claimed of zeroing: crate agreement's laws say what the texts of getters and hasers are, and the laws of the record
 -- that is left say what they read there. Assumes nothing.
-use Rattle.core.specs.Prelude.{◌≡◌, ℕ, false}
+use Rattle.std.specs.Prelude.{◌≡◌, ℕ, false}
 use mathlib.Core.Path.{sym, ap, ◌∙◌}
 use mathlib.Core.Option.{some}
 use Rattle.text.specs.Bytes.{Str}

@@ -1,7 +1,7 @@
 -- The lines of a group's zeroing are those of zeros, and the line of each slot of the group and of the groups inside it is among
 -- them. By induction on the levels and on the fields: a line that `contains` leaves out is among the lines before it. Assumes
 -- nothing.
-use Rattle.core.specs.Prelude.{◌≡◌, ℕ, zero, suc, Bool, true, false, eqb, ◌⊎◌, List, [], ◌∷◌, ◌++◌}
+use Rattle.std.specs.Prelude.{◌≡◌, ℕ, zero, suc, Bool, true, false, eqb, ◌⊎◌, List, [], ◌∷◌, ◌++◌}
 use mathlib.Core.Path.{refl, sym, ap, ap₂, ◌∙◌}
 use mathlib.Core.Logic.{inl, inr}
 use mathlib.Core.Option.{Option, none, some}

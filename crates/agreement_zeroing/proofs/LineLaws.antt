@@ -1,6 +1,6 @@
 -- The line of a slot's zeroing by the number of its type's kind: a slot's with bits, a pointer's, or none for Void. Each is a
 -- zero's line. By cases on the kind. Assumes nothing.
-use Rattle.core.specs.Prelude.{◌≡◌, ℕ, suc, ◌-◌, ◌≤◌, Bool, true, false, eqb, leb, List, [], ◌∷◌}
+use Rattle.std.specs.Prelude.{◌≡◌, ℕ, suc, ◌-◌, ◌≤◌, Bool, true, false, eqb, leb, List, [], ◌∷◌}
 use mathlib.Core.Path.{refl, sym, ◌∙◌}
 use mathlib.Core.Logic.{inl, inr}
 use mathlib.Core.Option.{Option, none, some}

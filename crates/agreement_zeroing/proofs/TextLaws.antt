@@ -1,6 +1,6 @@
 -- From the text of a zeroing to its zeros: each of its lines is read as the zero's write, so a record that is long enough for the
 -- text holds what each zero touches. By the laws of lines in crate meaning. Assumes nothing.
-use Rattle.core.specs.Prelude.{◌≡◌, ℕ, List, [], ◌∷◌}
+use Rattle.std.specs.Prelude.{◌≡◌, ℕ, List, [], ◌∷◌}
 use mathlib.Core.Logic.{inl, inr}
 use mathlib.Core.Option.{some}
 use Rattle.text.specs.Lines.{FormattedText, to_lines, stringify}

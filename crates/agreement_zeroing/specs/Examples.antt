@@ -1,6 +1,6 @@
 -- A worked sheet, computed: a group in a group, whose slots share an offset, on a record that holds something else
 -- than their defaults. The texts are what runs of the entry left. Assumes nothing.
-use Rattle.core.specs.Prelude.{◌≡◌, ℕ, Bool, true, false, [], ◌∷◌, ◌++◌, replicate}
+use Rattle.std.specs.Prelude.{◌≡◌, ℕ, Bool, true, false, [], ◌∷◌, ◌++◌, replicate}
 use Rattle.std.specs.Prelude.{refl}
 use Rattle.std.proofs.Math.Option.{Option, none, some}
 use Rattle.std.proofs.Common.{arith}

@@ -1,6 +1,6 @@
 -- Demand 3 of a group's zeroing, from texts as runs of the entry left them: what stands inside the group, what its text touches,
 -- and what is claimed of the record that it leaves. Assumes nothing.
-use Rattle.core.specs.Prelude.{◌≡◌, ℕ, Bool, true, false, List, [], ◌∷◌, length, slice_index_or}
+use Rattle.std.specs.Prelude.{◌≡◌, ℕ, Bool, true, false, List, [], ◌∷◌, length, slice_index_or}
 use Rattle.std.proofs.Math.Option.{Option, none, some}
 use Rattle.text.specs.Bytes.{Str}
 use Rattle.tree.specs.Tree as arm

@@ -1,6 +1,6 @@
 -- The calls on a record's sections as codegen.rs writes them, in its names: what the accessors are proved to write, and what the
 -- meaning of texts runs on a record. A mask is its text, or none where the call is plain. Assumes nothing.
-use Rattle.core.specs.Prelude.{ℕ, Bool, true, false, ◌++◌}
+use Rattle.std.specs.Prelude.{ℕ, Bool, true, false, ◌++◌}
 use Rattle.std.proofs.Math.Option.{Option, none, some}
 use Rattle.text.specs.Bytes.{Str, ascii}
 use Rattle.text.specs.Decimal.{decimal}

@@ -1,6 +1,6 @@
 -- A mask by value as the text that stands in a call, or none, and the parts of a call that depend on whether there is one.
 -- Assumes nothing.
-use Rattle.core.specs.Prelude.{Bool, true, false, [], ◌++◌}
+use Rattle.std.specs.Prelude.{Bool, true, false, [], ◌++◌}
 use Rattle.std.proofs.Math.Option.{Option, none, some}
 use Rattle.text.specs.Bytes.{Str, ascii}
 use Rattle.text.specs.Decimal.{decimal, signed}

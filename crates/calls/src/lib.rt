@@ -2,7 +2,7 @@
 // bits, elements or pointers, as its name says; its type and its value are the texts that stand in it.
 #![tactic(auto)]
 
-ghost use Rattle.core.specs.Prelude.{◌≡◌};
+ghost use Rattle.std.specs.Prelude.{◌≡◌};
 ghost use Rattle.text.specs.Text.{Wrote};
 ghost use Rattle.calls.specs.Calls.{get_bool_field, get_data_field, get_enum_field, set_bool_field, set_data_field, set_tag};
 ghost use Rattle.calls.specs.Calls.{zero_bool, zero_data, zero_tag, clear_pointer, not_null, tag_test};

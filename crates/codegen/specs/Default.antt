@@ -1,5 +1,5 @@
 -- The default of a slot as a mask: `prim_default` for setters, and what `getter_text` writes for getters. Assumes nothing.
-use Rattle.core.specs.Prelude.{ℕ, ◌^◌, Bool, true, false, ◌++◌, ◌==◌, nat_le}
+use Rattle.std.specs.Prelude.{ℕ, ◌^◌, Bool, true, false, ◌++◌, ◌==◌, nat_le}
 use Rattle.std.proofs.Math.Option.{Option, none, some}
 use Rattle.text.specs.Bytes.{Str, ascii, cond, both, either}
 use Rattle.text.specs.Decimal.{decimal, signed}

@@ -1,6 +1,6 @@
 -- `getter_text` of codegen.rs for a slot: the result type, the code, and the declaration of a default if there is one.
 -- Assumes nothing.
-use Rattle.core.specs.Prelude.{ℕ, Bool, true, false, [], ◌++◌, ◌==◌}
+use Rattle.std.specs.Prelude.{ℕ, Bool, true, false, [], ◌++◌, ◌==◌}
 use Rattle.std.proofs.Math.Option.{Option, none, some}
 use Rattle.text.specs.Bytes.{Str, ascii, unit, cond, both, same}
 use Rattle.text.specs.Decimal.{decimal}

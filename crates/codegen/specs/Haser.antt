@@ -1,5 +1,5 @@
 -- `generate_haser` of codegen.rs for a slot. Assumes nothing.
-use Rattle.core.specs.Prelude.{ℕ, Bool, ◌++◌, ◌==◌}
+use Rattle.std.specs.Prelude.{ℕ, Bool, ◌++◌, ◌==◌}
 use Rattle.text.specs.Bytes.{Str, ascii, cond}
 use Rattle.text.specs.Lines.{FormattedText, FormattedTexts, Branch, Line, none, ◌&◌, stringify}
 use Rattle.names.specs.Names.{camel_to_snake_case}

@@ -1,5 +1,5 @@
 -- `generate_setter` of codegen.rs for a slot: a setter, an initializer, or both. Assumes nothing.
-use Rattle.core.specs.Prelude.{ℕ, Bool, true, false, [], ◌++◌, ◌==◌, nat_le}
+use Rattle.std.specs.Prelude.{ℕ, Bool, true, false, [], ◌++◌, ◌==◌, nat_le}
 use Rattle.std.proofs.Math.Option as option
 use Rattle.std.proofs.Math.Option.{Option, some}
 use Rattle.text.specs.Bytes.{Str, ascii, cond, either}

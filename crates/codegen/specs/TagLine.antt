@@ -1,5 +1,5 @@
 -- The line of a haser that tests the tag, as the code writes it. Assumes nothing.
-use Rattle.core.specs.Prelude.{ℕ, Bool, [], ◌++◌, ◌==◌}
+use Rattle.std.specs.Prelude.{ℕ, Bool, [], ◌++◌, ◌==◌}
 use Rattle.text.specs.Bytes.{Str, ascii, cond}
 use Rattle.calls.specs.Calls.{tag_test}
 

@@ -1,5 +1,5 @@
 -- `word_array_declaration` of pointer_constants.rs, for words that come in the sheet. Assumes nothing.
-use Rattle.core.specs.Prelude.{ℕ, zero, suc, ◌/◌, ◌%◌, Bool, true, false, List, [], ◌∷◌, ◌++◌, length}
+use Rattle.std.specs.Prelude.{ℕ, zero, suc, ◌/◌, ◌%◌, Bool, true, false, List, [], ◌∷◌, ◌++◌, length}
 use Rattle.text.specs.Bytes.{Str, ascii}
 use Rattle.text.specs.Decimal.{decimal}
 use Rattle.text.specs.Lines.{FormattedText, Indent, Branch, Line, FormattedTexts, none, ◌&◌}

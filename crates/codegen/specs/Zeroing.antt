@@ -1,6 +1,6 @@
 -- `zero_fields_of_group` of codegen.rs: the lines that clear a group's tag, its slots and the groups inside it, and the flag for
 -- `mut`. Assumes nothing.
-use Rattle.core.specs.Prelude.{ℕ, zero, suc, Bool, false, List, [], ◌∷◌, ◌==◌}
+use Rattle.std.specs.Prelude.{ℕ, zero, suc, Bool, false, List, [], ◌∷◌, ◌==◌}
 use Rattle.std.proofs.Math.Option as option
 use Rattle.std.proofs.Math.Option.{Option, some}
 use Rattle.text.specs.Bytes.{Str, ascii, cond, either, same}

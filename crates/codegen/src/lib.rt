@@ -1,7 +1,7 @@
 // The parts of accessors' texts that need no look into the sheet: codegen.rs of capnpc, its slot part.
 #![tactic(auto)]
 
-ghost use Rattle.core.specs.Prelude.{◌≡◌};
+ghost use Rattle.std.specs.Prelude.{◌≡◌};
 ghost use Rattle.text.specs.Bytes.{ascii};
 ghost use Rattle.text.specs.Text.{Wrote};
 ghost use Rattle.calls.specs.Calls.{get_data_field, set_bool_field, set_data_field, zero_data};

@@ -187,7 +187,7 @@ pub fn known(t: &[u8], a: usize) -> u64
 }
 
 // 0 to 9.
-fn is_digit_lem(b: u8) -> bool
+fn is_digit(b: u8) -> bool
     ensures { result ≡ is_digit b }
 {
     if b < b'0' {
@@ -204,7 +204,7 @@ fn is_word(b: u8) -> bool
         return b <= b'z';
     }
     if b < b'A' {
-        return is_digit_lem(b);
+        return is_digit(b);
     }
     if b <= b'Z' {
         return true;
@@ -320,7 +320,7 @@ fn may_end_in_name(t: &[u8], a: usize) -> bool
     if !ends_in_text(t, a, limits::NAME_BYTES) {
         return false;
     }
-    !is_digit_lem(t[a + 1])
+    !is_digit(t[a + 1])
 }
 
 // Whether the line ends in a space at `a` and a name.

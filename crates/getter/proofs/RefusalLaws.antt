@@ -1,6 +1,6 @@
 -- What a getter refuses. Its result type refuses nothing that its type did not, since an interface's refusal does not depend on
 -- the leaf; then its option. Assumes nothing.
-use Rattle.core.specs.Prelude.{◌≡◌, ℕ, Bool, true, false, eqb, leb, ◌++◌}
+use Rattle.std.specs.Prelude.{◌≡◌, ℕ, Bool, true, false, eqb, leb, ◌++◌}
 use mathlib.Core.Path.{refl, sym, ◌∙◌}
 use mathlib.Core.Option.{none, some}
 use native.Mathlib.Omega.{arith}

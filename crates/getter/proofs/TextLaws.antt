@@ -1,6 +1,6 @@
 -- A getter's text: the result type, a newline, the code and the declaration. Its refusal: the type's, then the option's, then
 -- the default's, in the Rust's order. By the outcome of each step. Assumes nothing.
-use Rattle.core.specs.Prelude.{◌≡◌, ℕ, ◌≤◌, Bool, true, false, eqb, leb, List, [], drop}
+use Rattle.std.specs.Prelude.{◌≡◌, ℕ, ◌≤◌, Bool, true, false, eqb, leb, List, [], drop}
 use mathlib.Core.Path.{refl, sym, ap, ◌∙◌}
 use mathlib.Core.Option.{Option, none, some}
 use borrow.Author.Tests.{eqb-true, leb-true}

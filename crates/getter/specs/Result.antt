@@ -1,5 +1,5 @@
 -- The result type of a getter, as its writers write it, and its default's declaration by a slot's numbers. Assumes nothing.
-use Rattle.core.specs.Prelude.{Bool, true, false, [], ◌++◌, drop}
+use Rattle.std.specs.Prelude.{Bool, true, false, [], ◌++◌, drop}
 use Rattle.text.specs.Bytes.{Str, ascii, cond}
 use Rattle.names.specs.Names.{default_name}
 use Rattle.row.specs.Rows.{rows}

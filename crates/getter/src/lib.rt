@@ -1,7 +1,7 @@
 // A slot's getter: `getter_text` of codegen.rs, its text and its refusal, from a slot that was read.
 #![tactic(auto)]
 
-ghost use Rattle.core.specs.Prelude.{◌≡◌, Bool, drop};
+ghost use Rattle.std.specs.Prelude.{◌≡◌, Bool, drop};
 ghost use Rattle.text.specs.Bytes.{Str};
 ghost use Rattle.text.specs.Text.{Wrote, WroteSome};
 ghost use Rattle.row.specs.Rows.{rows};

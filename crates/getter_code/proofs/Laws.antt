@@ -1,6 +1,6 @@
 -- The parts of a getter's code, one after the other, are its text; which arm a slot's kind leads to; and the code of a slot of
 -- the tree is that of its numbers. Assumes nothing.
-use Rattle.core.specs.Prelude.{◌≡◌, ℕ, ◌<◌, ◌≤◌, Bool, true, false, not, eqb, List, [], ◌++◌}
+use Rattle.std.specs.Prelude.{◌≡◌, ℕ, ◌<◌, ◌≤◌, Bool, true, false, not, eqb, List, [], ◌++◌}
 use mathlib.Core.Path.{refl, sym, ap, ◌∙◌}
 use mathlib.Core.List.{append_assoc}
 use native.Mathlib.Omega.{arith}

@@ -1,5 +1,5 @@
 -- The texts of the parts from which a getter's code is written, and a slot of the tree by a slot's numbers. Assumes nothing.
-use Rattle.core.specs.Prelude.{ℕ, Bool, true, false, [], ◌==◌}
+use Rattle.std.specs.Prelude.{ℕ, Bool, true, false, [], ◌==◌}
 use Rattle.text.specs.Bytes.{Str, ascii, cond}
 use Rattle.text.specs.Lines.{FormattedText}
 use Rattle.tree.specs.Tree as tree

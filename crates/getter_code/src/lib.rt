@@ -1,7 +1,7 @@
 // The code of a slot's getter: what `getter_text` of codegen.rs gives beside the result type and the default's declaration.
 #![tactic(auto)]
 
-ghost use Rattle.core.specs.Prelude.{◌≡◌};
+ghost use Rattle.std.specs.Prelude.{◌≡◌};
 ghost use Rattle.text.specs.Lines.{stringify};
 ghost use Rattle.text.specs.Text.{Wrote};
 ghost use Rattle.codegen.specs.Getter.{void, pointer_default, from_pointer, capability, untyped};

@@ -1,5 +1,5 @@
 -- A haser's text, run, is its tests; where the pointer is null they say false. Assumes nothing.
-use Rattle.core.specs.Prelude.{◌≡◌, ℕ, Bool, true, false, eqb, List, [], ◌∷◌, ◌++◌}
+use Rattle.std.specs.Prelude.{◌≡◌, ℕ, Bool, true, false, eqb, List, [], ◌∷◌, ◌++◌}
 use mathlib.Core.Path.{ap, ◌∙◌}
 use mathlib.Core.Option.{Option, none, some}
 use Rattle.text.specs.Bytes.{Str}

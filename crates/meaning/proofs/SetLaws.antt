@@ -1,6 +1,6 @@
 -- From a setter's text to the record that it leaves, and from a getter's text to its answer, on every record; from the two, set
 -- and get. The text's lines say operations, and the laws of records say what those do. Assumes nothing.
-use Rattle.core.specs.Prelude.{◌≡◌, ℕ, ◌^◌, ◌<◌, true, List, [], ◌∷◌, ◌++◌}
+use Rattle.std.specs.Prelude.{◌≡◌, ℕ, ◌^◌, ◌<◌, true, List, [], ◌∷◌, ◌++◌}
 use mathlib.Core.Path.{refl, sym, ap, ◌∙◌, subst, fun_ext}
 use mathlib.Core.Logic.{inl, inr}
 use mathlib.Core.Option.{Option, none, some}

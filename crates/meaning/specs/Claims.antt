@@ -1,7 +1,7 @@
 -- What is claimed of accessor texts, from their bytes: a getter, a setter, one after the other, the Void setter, hasers, zeroing.
 -- The masks of setter and getter are parameters; `expected` says what document 01's rules for masks make of them. Assumes
 -- nothing.
-use Rattle.core.specs.Prelude.{◌≡◌, ℕ, ◌^◌, ◌<◌, Bool, true, false, not, ◌⊎◌, List, [], ◌∷◌, length, ◌==◌, bit_xor, slice_index_or}
+use Rattle.std.specs.Prelude.{◌≡◌, ℕ, ◌^◌, ◌<◌, Bool, true, false, not, ◌⊎◌, List, [], ◌∷◌, length, ◌==◌, bit_xor, slice_index_or}
 use Rattle.std.proofs.Math.Option.{Option, none, some}
 use Rattle.text.specs.Bytes.{Str, cond, both}
 use Rattle.text.specs.Lines.{FormattedText, to_lines, stringify}

@@ -1,6 +1,6 @@
 -- Worked examples, computed: document 01's cases as one table of lines, values written and values read; texts that have no
 -- meaning; gets and tests past the section; hasers and a zeroing. Assumes nothing.
-use Rattle.core.specs.Prelude.{◌≡◌, ℕ, Bool, true, false, List, [], ◌∷◌, replicate, ◌==◌}
+use Rattle.std.specs.Prelude.{◌≡◌, ℕ, Bool, true, false, List, [], ◌∷◌, replicate, ◌==◌}
 use Prim.Native.String.{String}
 use Rattle.std.specs.Prelude.{refl}
 use Rattle.std.proofs.Math.Option.{Option, none, some}

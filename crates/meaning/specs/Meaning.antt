@@ -1,6 +1,6 @@
 -- What a text does to a record, from its bytes alone (document 01, "What a line does to a record"): a text that is none of these
 -- has no meaning. Assumes nothing.
-use Rattle.core.specs.Prelude.{ℕ, Bool, true, false, not, List, [], ◌∷◌, ◌++◌, ◌==◌}
+use Rattle.std.specs.Prelude.{ℕ, Bool, true, false, not, List, [], ◌∷◌, ◌++◌, ◌==◌}
 use Rattle.std.proofs.Math.Option.{Option, none, some}
 use Rattle.text.specs.Bytes.{Str, cond, both}
 use Rattle.record.specs.Offsets.{Place, bool_at, data_at}

@@ -1,5 +1,5 @@
 -- Reading from the front of a line: fixed bytes, numbers, types and masks as they are written in a call. Assumes nothing.
-use Rattle.core.specs.Prelude.{ℕ, ◌+◌, ◌-◌, ◌*◌, ◌^◌, Bool, [], ◌∷◌, ◌==◌, nat_le, nat_lt}
+use Rattle.std.specs.Prelude.{ℕ, ◌+◌, ◌-◌, ◌*◌, ◌^◌, Bool, [], ◌∷◌, ◌==◌, nat_le, nat_lt}
 use Prim.Native.String.{String}
 use Rattle.std.proofs.Math.Option.{Option, none, some}
 use Rattle.text.specs.Bytes.{Str, ascii, cond, both, either}

@@ -1,5 +1,5 @@
 -- Ids in the order in which the reader meets them: each is new to those before it. All together are then distinct, which is
--- what a well_formed_lem tree asks. Assumes nothing.
+-- what a well-formed tree asks. Assumes nothing.
 use mathlib.Core.Path.{◌≡◌, refl, sym, ap, ◌∙◌}
 use mathlib.Core.Bool.{Bool, true, false}
 use mathlib.Core.List.{List, [], ◌∷◌, ◌++◌, append_assoc, append-nil}

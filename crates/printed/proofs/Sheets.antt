@@ -1,4 +1,4 @@
--- The two laws: reading what is printed of a well_formed_lem tree gives that tree, and printing the tree of an admitted sheet gives
+-- The two laws: reading what is printed of a well-formed tree gives that tree, and printing the tree of an admitted sheet gives
 -- the same bytes. The rows of a sheet come back when their bytes are joined and cut again. Assumes nothing.
 use mathlib.Core.Path.{◌≡◌, refl, sym, ap, ◌∙◌}
 use mathlib.Core.Bool.{Bool, true, false}
@@ -35,7 +35,7 @@ unfolding joined size
 joined-size [] = refl
 joined-size (r ∷ rs) = length-append r (joined rs) ∙ ap (λ (n : ℕ). length r + n) (joined-size rs)
 
--- what holds of a well_formed_lem tree; nodes and groups have ids that are new one after the other
+-- what holds of a well-formed tree; nodes and groups have ids that are new one after the other
 record Formed (sh : Sheet) : Type 0 where
   root : is_graphic_text 64 sh.root ≡ true
   some : 0 < length sh.nodes
@@ -86,7 +86,7 @@ read-sheet root (n ∷ ns) r some few f room =
     reads-line line.Root root r (rw (line-here line.Root root us r, text-here line.Root root us r))
     (reads-map (λ ns. record { root = root; nodes = ns }) (read-nodes ns n 64 [] [] (omega arith) f room))
 
--- the rows of a well_formed_lem tree
+-- the rows of a well-formed tree
 read-tree : (sh : Sheet) → well_formed sh ≡ true → Reads (sheet_rows sh) (read_sheet (sheet_rows sh)) sh []
 unfolding printed sheet_rows
 read-tree sh e =
@@ -102,7 +102,7 @@ pub tree-back : (sh : Sheet) → well_formed sh ≡ true → rows (printed sh) �
 unfolding printed joined rows
 tree-back sh e = lined-back (tree-lined sh e) refl
 
--- reading what is printed of a well_formed_lem tree gives that tree
+-- reading what is printed of a well-formed tree gives that tree
 pub reads-printed : ReadsPrinted
 unfolding admitted
 reads-printed sh e =
@@ -141,7 +141,7 @@ tree-printed s sh rest l h =
       }),
     )
 
--- printing the tree of an admitted sheet gives the same bytes, and that tree is well_formed_lem
+-- printing the tree of an admitted sheet gives the same bytes, and that tree is well-formed
 pub prints_read : PrintsRead
 unfolding admitted
 prints_read s sh e = by_size (ltb 65536 (length s)) refl e

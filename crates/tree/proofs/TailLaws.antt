@@ -141,8 +141,8 @@ module _ {A : Type 0} (rs : Rows) (other : Reader A) (o : Left rs other) where
       (λ _. bad) (λ _ _. bad)
       (line_at rs)
 
-  on_value : (f : ℕ → ℕ → Reader A) → ((k b : ℕ) (ts : Rows) → Left ts (f k b)) → Left rs (on_value f other)
-  on_value f h =
+  on_value_lem : (f : ℕ → ℕ → Reader A) → ((k b : ℕ) (ts : Rows) → Left ts (f k b)) → Left rs (on_value f other)
+  on_value_lem f h =
       let else : Reader A = or_fault 86 other in
       let bad : Left rs else = leaves-told (fault_of 86 (line_at rs)) other rs o in
       leaves-cases rs
@@ -198,7 +198,7 @@ leaves-type (suc l) rs = let less = leaves-type l in on-type rs (no misplaced) n
 
 leaves-value : (rs : Rows) → Left rs value_of
 unfolding value_of
-leaves-value rs = on_value rs (no misplaced) none (λ k b. got (record { kind = k; bits = b })) (λ k b ts. left here)
+leaves-value rs = on_value_lem rs (no misplaced) none (λ k b. got (record { kind = k; bits = b })) (λ k b ts. left here)
 
 leaves-words_up_to : (n : ℕ) (rs : Rows) → Left rs (read_words_up_to n)
 unfolding read_words_up_to

@@ -183,7 +183,7 @@ unfolding answers expected table rich down groups worded bed7 lists typed one_sl
     are_chars all is_graphic is_word ends_in
 worked = refl
 
--- the two trees with most in them are well_formed_lem
+-- the two trees with most in them are well-formed
 fit : (well_formed free_tree ≡ true) × (well_formed rich ≡ true)
 unfolding well_formed every distinct type_fits node_ids all_group_ids group_ids among most_bits is_graphic_text is_name is_field_name
     are_chars all is_graphic is_word free_tree rich groups bed_with joined printed sheet_rows node_rows param_rows field_rows word_rows

@@ -1,4 +1,4 @@
--- A well_formed_lem tree: document 01's bounds for the numbers, texts, counts, levels and ids of a sheet, said of its tree.
+-- A well-formed tree: document 01's bounds for the numbers, texts, counts, levels and ids of a sheet, said of its tree.
 -- Assumes nothing.
 use Rattle.std.specs.Prelude.{Bool, true, false, List, [], ◌∷◌, ◌++◌, ℕ, ◌-◌, ◌^◌, eqb, ltb, leb, length}
 use Rattle.text.specs.Bytes.{cond, both}

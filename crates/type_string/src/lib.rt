@@ -54,7 +54,7 @@ pub fn type_string(
         (λ ty. Writes (type_string ty sheet leaf) buf.old t buf.new result)) }
     ensures some { WroteSome buf.old t buf.new result.text }
 {
-    let row = types::type_row_lem(s, at);
+    let row = types::type_row(s, at);
     write_type(root, s, index, row, 15, leaf, t, buf)
 }
 
@@ -123,7 +123,7 @@ fn write_list(
     if left == 0 {
         return codegen_types::whole(t);
     }
-    let row = types::type_row_lem(s, at);
+    let row = types::type_row(s, at);
     let kind = row.kind;
     match kind {
         kinds::TEXT => {

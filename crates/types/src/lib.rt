@@ -46,7 +46,7 @@ pub fn as_type(line: Line, next: usize) -> TypeRow
 }
 
 // The T row at a position.
-pub fn type_row_lem(s: &[u8], at: usize) -> TypeRow
+pub fn type_row(s: &[u8], at: usize) -> TypeRow
     ensures { TypeRowAt s.now at result }
 {
     let g = row::next(s, at);

@@ -1,6 +1,6 @@
 -- `codegen::prim_default` meets its contract: a float by its bits with their ending, a Bool or an integer as a getter's mask,
 -- any other none. Assumes nothing.
-use Rattle.core.specs.Prelude.{◌≡◌, ℕ, ◌≤◌}
+use Rattle.std.specs.Prelude.{◌≡◌, ℕ, ◌≤◌}
 use mathlib.Core.Path.{refl, sym, ap, ◌∙◌}
 use native.Mathlib.Omega.{arith}
 use Rattle.codegen.specs.Default.{prim_default}

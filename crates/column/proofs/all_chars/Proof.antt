@@ -21,14 +21,14 @@ decreases-loop t i₀ i = length t - i
 loop-again : tie.Need-loop-preserved invariant-loop decreases-loop
 loop-again c =
     let turn = c.before.before.before in
-    let word = sym c.before.is_IsWord.ensures ∙ c.if1.true in
+    let word = sym c.before.is_word.ensures ∙ c.if1.true in
     (search rules, turn.before.loop.invariant.1 ∙ chars-more is_word _ _ turn.loop-test.true word (word-no-lead _ word))
 
 returns : tie.Need-returns invariant-loop decreases-loop
 returns c =
     let test = c.before.before in
     let turn = test.before.before.before in
-    let word = sym test.before.is_IsWord.ensures ∙ test.if1.false in
+    let word = sym test.before.is_word.ensures ∙ test.if1.false in
     let letter = sym c.before.letter_at.ensures ∙ not-true _ c.if2.true in
     sym (turn.before.loop.invariant.1 ∙ chars-stop is_word _ _ turn.loop-test.true word letter)
 
@@ -51,7 +51,7 @@ module _ (c : tie.Else2 invariant-loop decreases-loop) where
 
   on : are_chars is_word false t ≡ are_chars is_word false (drop (i + 2) t)
   on =
-      let word = sym c.before.before.before.is_IsWord.ensures ∙ c.before.before.if1.false in
+      let word = sym c.before.before.before.is_word.ensures ∙ c.before.before.if1.false in
       turn.before.loop.inv.1 ∙ chars-letter is_word t i turn.loop-test.taken word letter
 
 returns-2 : tie.Need-returns-2 invariant-loop decreases-loop

@@ -18,13 +18,13 @@ decreases-loop t i₀ i = length t - i
 returns : tie.Need-returns invariant-loop decreases-loop
 returns c =
     let turn = c.before.before.before in
-    let test = sym c.before.is_IsWord.ensures ∙ not-true _ c.if1.true in
+    let test = sym c.before.is_word.ensures ∙ not-true _ c.if1.true in
     sym (turn.before.loop.invariant.1 ∙ all-stop _ _ turn.loop-test.true is_word test)
 
 loop-again : tie.Need-loop-preserved invariant-loop decreases-loop
 loop-again c =
     let turn = c.before.before.before in
-    let test = sym c.before.is_IsWord.ensures ∙ not-false _ c.if1.false in
+    let test = sym c.before.is_word.ensures ∙ not-false _ c.if1.false in
     (search rules, turn.before.loop.invariant.1 ∙ all_more _ _ turn.loop-test.true is_word test)
 
 returns-2 : tie.Need-returns-2 invariant-loop decreases-loop

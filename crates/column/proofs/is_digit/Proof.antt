@@ -1,9 +1,9 @@
--- `column::is_digit_lem` meets its contract. By the two bounds. Assumes nothing.
+-- `column::is_digit` meets its contract. By the two bounds. Assumes nothing.
 use mathlib.Core.Path.{sym}
 use borrow.Author.Tests.{le-leb}
 use Rattle.column.proofs.Laws.{between-below}
-use Rattle.column.proofs.is_digit_lem.Statement.{statement}
-use Rattle.column.proofs.is_digit_lem.Tie as tie
+use Rattle.column.proofs.is_digit.Statement.{statement}
+use Rattle.column.proofs.is_digit.Tie as tie
 
 returns : tie.Need-returns
 returns c =

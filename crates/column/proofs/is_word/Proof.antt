@@ -28,7 +28,7 @@ returns-2 c =
       between-below 97 122 b c.before.before.if1.false,
       between-below 65 90 b c.before.if2.true,
       ne_eqb b 95 (omega arith),
-    ) c.is_digit_lem.ensures
+    ) c.is_digit.ensures
 
 returns-3 : tie.Need-returns-3
 unfolding is_word

@@ -19,7 +19,7 @@ passed : (c : tie.Else1) → let a = c.before.before.before.args in ends_in (siz
 passed c = sym c.before.ends-in-text.ensures ∙ not-false _ c.if1.false
 
 returns-2 : tie.Need-returns-2
-returns-2 c = ap not c.is_digit_lem.ensures ∙ sym (may_is _ _ (passed c.before.before))
+returns-2 c = ap not c.is_digit.ensures ∙ sym (may_is _ _ (passed c.before.before))
 
 pub may-end-in-name-spec : {M : Type 1} → statement M
 may-end-in-name-spec =

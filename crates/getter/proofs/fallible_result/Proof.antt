@@ -1,6 +1,6 @@
 -- `getter::fallible_result` meets its contract: the type's text between its parts, its refusal handed on. Assumes nothing.
 use mathlib.Core.Path.{refl}
-use Rattle.core.specs.Prelude.{drop}
+use Rattle.std.specs.Prelude.{drop}
 use Rattle.text.proofs.Laws.{◌⨾◌, some-text, ◌⨟◌}
 use Rattle.row.specs.Rows.{rows}
 use Rattle.tree.specs.Read.{read_type}

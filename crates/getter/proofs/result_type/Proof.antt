@@ -1,5 +1,5 @@
 -- `getter::result_type` meets its contract: the arm of the slot's kind, behind the arrow. Assumes nothing.
-use Rattle.core.specs.Prelude.{◌≡◌, ℕ, ◌<◌}
+use Rattle.std.specs.Prelude.{◌≡◌, ℕ, ◌<◌}
 use native.Mathlib.Omega.{arith}
 use Rattle.text.proofs.Laws.{some-text, ◌⨟◌}
 use Rattle.nodes.specs.Index.{sheet_of}

@@ -270,7 +270,7 @@ write-list-returns-2 t c =
     let at-displayed = c.before.before.before in let at-match = at-displayed.before.before.before in
     let at-type-row = at-match.before in let at-if1 = at-type-row.before in
     let at-args = at-if1.before.before.before.before.before in (
-      λ ns x. read-law.type_row_lem at-args.args.s.now _ _ _ _ at-type-row.type_row_lem.ensures at-if1.if1.false
+      λ ns x. read-law.type_row_lem at-args.args.s.now _ _ _ _ at-type-row.type_row.ensures at-if1.if1.false
           (law.list-text (sheet_of at-args.args.root.now ns) at-args.args.leaf _ _ _ _ _ _ at-match.match.keys1
           (written at-displayed.displayed.ensures c.whole2.ensures.0 c.whole2.ensures.1)),
       rw c.whole2.ensures.0 (some-text at-displayed.displayed.ensures),
@@ -281,7 +281,7 @@ write-list-returns-3 t c =
     let at-displayed2 = c.before.before.before in let at-match = at-displayed2.before.before.before in
     let at-type-row = at-match.before in let at-if1 = at-type-row.before in
     let at-args = at-if1.before.before.before.before.before in (
-      λ ns x. read-law.type_row_lem at-args.args.s.now _ _ _ _ at-type-row.type_row_lem.ensures at-if1.if1.false
+      λ ns x. read-law.type_row_lem at-args.args.s.now _ _ _ _ at-type-row.type_row.ensures at-if1.if1.false
           (law.list-data (sheet_of at-args.args.root.now ns) at-args.args.leaf _ _ _ _ _ _ at-match.match.keys2
           (written at-displayed2.displayed2.ensures c.whole3.ensures.0 c.whole3.ensures.1)),
       rw c.whole3.ensures.0 (some-text at-displayed2.displayed2.ensures),
@@ -293,7 +293,7 @@ write-list-returns-4 t c =
     let at-element-leaf = at-write-type.before.before in let at-list-head = at-element-leaf.before.before.before in
     let at-if2 = at-list-head.before.before in let at-match = at-if2.before in let at-type-row = at-match.before in
     let at-if1 = at-type-row.before in let at-args = at-if1.before.before.before.before.before in (
-      λ ns x. read-law.type_row_lem at-args.args.s.now _ _ _ _ at-type-row.type_row_lem.ensures at-if1.if1.false
+      λ ns x. read-law.type_row_lem at-args.args.s.now _ _ _ _ at-type-row.type_row.ensures at-if1.if1.false
           (law.list-inner (sheet_of at-args.args.root.now ns) at-args.args.leaf _ _ _ _ _ _ _
           at-match.match.rest.0.1 at-match.match.rest.1 at-if2.if2.true at-element-leaf.element-leaf.ensures
           at-list-head.list-head.ensures (at-write-type.write-type.ensures.0 ns x) at_byte.byte.ensures refl refl),
@@ -304,7 +304,7 @@ write-list-returns-5 : (t : ℕ) → write-list-lts.Need-returns-5 (write-list-c
 write-list-returns-5 t c =
     let at-if2 = c.before in let at-type-row = at-if2.before.before in let at-if1 = at-type-row.before in
     let at-args = at-if1.before.before.before.before.before in (
-      λ ns x. read-law.type_row_lem at-args.args.s.now _ _ _ _ at-type-row.type_row_lem.ensures at-if1.if1.false
+      λ ns x. read-law.type_row_lem at-args.args.s.now _ _ _ _ at-type-row.type_row.ensures at-if1.if1.false
           (read-law.list_of_any (sheet_of at-args.args.root.now ns) at-args.args.leaf _ _ _ _ _ _
           (λ (o : Out Str). Writes o at-args.args.buf.now at-args.args.t at-args.args.buf.now c.refused.result)
           at-if2.if2.false (refused-text c.refused.ensures.1)),

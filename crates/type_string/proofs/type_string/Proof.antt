@@ -13,10 +13,10 @@ returns : tie.Need-returns
 returns c =
     let at-write-type = c.before.before in let at-type-row = at-write-type.before.before in
     let at-args = at-type-row.before.before.before.before.before in (
-      λ ns x. type_row_lem at-args.args.s.now at-args.args.at at-type-row.type_row_lem.result 16
+      λ ns x. type_row_lem at-args.args.s.now at-args.args.at at-type-row.type_row.result 16
           (λ ty. Writes (type_string ty (sheet_of at-args.args.root.now ns) at-args.args.leaf) at-args.args.buf.now
           at-args.args.t at-write-type.write-type.new.1.1.1.1.1.1.1.0 at-write-type.write-type.result)
-          at-type-row.type_row_lem.ensures (λ z. omega arith) (at-write-type.write-type.ensures.0 ns x),
+          at-type-row.type_row.ensures (λ z. omega arith) (at-write-type.write-type.ensures.0 ns x),
       at-write-type.write-type.ensures.1,
     )
 

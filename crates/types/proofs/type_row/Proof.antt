@@ -1,8 +1,8 @@
--- `types::type_row_lem` meets its contract. Assumes nothing.
+-- `types::type_row` meets its contract. Assumes nothing.
 use Rattle.types.proofs.TypeLaws.{row_at}
 use borrow.Author.Rules.{rules}
-use Rattle.types.proofs.type_row_lem.Statement.{statement}
-use Rattle.types.proofs.type_row_lem.Tie as tie
+use Rattle.types.proofs.type_row.Statement.{statement}
+use Rattle.types.proofs.type_row.Tie as tie
 
 returns : tie.Need-returns
 returns c =

@@ -33,7 +33,7 @@ returns-2 c =
       at-next-line.next-line.ensures.refusal,
       (
         λ fs h k.
-            let known = at-is-known.is_Known.ensures fs h k in
+            let known = at-is-known.is_known.ensures fs h k in
             (rw (← typ, ← known.again) at-next-line.next-line.ensures, rw (← typ) known.kept),
         some-text at-next-line.next-line.ensures.text,
       ),

@@ -81,8 +81,8 @@ abbrev pub write-list-calls : ℕ → write-list-lts.Claims
 write-list-calls t = (
   codegen-types.whole.Reads.Asked,
   codegen-types.whole.Reads.Learnt,
-  find.type_row_lem.Reads.Asked,
-  find.type_row_lem.Reads.Learnt,
+  find.type_row.Reads.Asked,
+  find.type_row.Reads.Learnt,
   type-parts.displayed.Reads.Asked,
   type-parts.displayed.Reads.Learnt,
   type-parts.list_head.Reads.Asked,
