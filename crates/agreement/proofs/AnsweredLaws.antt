@@ -21,7 +21,8 @@ use Rattle.agreement.specs.Claims.{AnsweredHolds, RanHolds}
 use Rattle.agreement.specs.Slots.{Generated, bytes_between, Ran}
 
 -- what is placed in a buffer stands there
-placed-between : (l : Str) (fill : ℕ) (w : Str) → fill ≤ length l → bytes_between fill (fill + length w) (text.placed l fill w) ≡ w
+placed-between : (l : Str) (fill : ℕ) (w : Str) → fill ≤ length l
+    → bytes_between fill (fill + length w) (text.placed l fill w) ≡ w
 unfolding text.placed
 placed-between l fill w h =
     let e : length (take fill l) ≡ fill = length-take fill l ∙ omega arith in

@@ -17,7 +17,7 @@ use Rattle.codegen_types.specs.declared.Leaf.{Leaf}
 use Rattle.codegen.specs.Getter as codegen
 use Rattle.codegen.specs.Getter.{is_option_field, module_leaf, optional, result_type, as_function, fragment_of, getter_fragment}
 use Rattle.codegen.specs.Getter.{getter_code, default_declaration, declared, getter_request}
-use Rattle.codegen.specs.Default.{value, getter_mask}
+use Rattle.codegen.specs.Default.{getter_mask}
 use Rattle.record.specs.Lines.{get_line, getter_lines}
 use Rattle.record.specs.Masks.{get_mask, get_mask_text}
 use Rattle.record.specs.Record.{map_o}

@@ -16,7 +16,8 @@ use Rattle.codegen_types.specs.Out.{Out, ok, ◌then◌}
 use Rattle.codegen_types.specs.TypeString.{type_string, get_qualified_module}
 use Rattle.codegen.specs.Function.{function}
 use Rattle.codegen.specs.Default.{value, unless, float_zero, prim_default}
-use Rattle.codegen.specs.Setter.{Parts, setter_only, line_alone, setter_parts, enum_mask, enum_setter, setter_functions, generate_setter}
+use Rattle.codegen.specs.Setter.{Parts, setter_only, line_alone, setter_parts, enum_mask, enum_setter}
+use Rattle.codegen.specs.Setter.{setter_functions, generate_setter}
 use Rattle.codegen.specs.Setter.{setter_request}
 use Rattle.calls.specs.Calls.{set_tag}
 use Rattle.record.specs.Lines.{Tag, set_line, tag_then, function_text, setter_text, void_setter_text}
@@ -58,13 +59,15 @@ module _ (sheet : Sheet) (o e q b : ℕ) (ws : List ℕ) (explicit : Bool) where
       (at (num float32) "f32" refl (float (num float32) (2 ^ 31))) (at (num float64) "f64" refl (float (num float64) (2 ^ 63)))
       (λ p e. refused-ok e)
     where
-      at : (k : Kind) (t : String) → whole (ascii t) ≡ true → {m : Option Str} → m ≡ map_o (set_mask_text k) (set_mask k b explicit)
+      at : (k : Kind) (t : String) → whole (ascii t) ≡ true → {m : Option Str}
+          → m ≡ map_o (set_mask_text k) (set_mask k b explicit)
           → (p : Parts) → ok (setter_only (ascii "value") (line_alone (set_line k o m)) (ascii t)) ≡ ok p → Sets k o b explicit p
       at k t w e p f =
           record {
             typ = ascii t;
             one_line = fixed t w;
-            parts = ap (λ (m : Option Str). setter_only (ascii "value") (line_alone (set_line k o m)) (ascii t)) (sym e) ∙ ok-is f;
+            parts =
+                ap (λ (m : Option Str). setter_only (ascii "value") (line_alone (set_line k o m)) (ascii t)) (sym e) ∙ ok-is f;
           }
 
       number : (k : Kind) → unless (eqb b 0) (set_mask_text k b) ≡ map_o (set_mask_text k) (cond (eqb b 0) none (some b))

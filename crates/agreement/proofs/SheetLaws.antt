@@ -7,7 +7,6 @@ use borrow.Author.Tests.{ltb-true, leb-true}
 use Rattle.text.specs.Bytes.{Str, cond}
 use Rattle.text.proofs.BytesLaws.{both_true}
 use Rattle.tree.specs.Tree.{Field, Node, Sheet}
-use Rattle.tree.specs.Read.{sheet}
 use Rattle.row.specs.Line.{most_bits}
 use Rattle.tree.specs.WellFormed.{every, field_fits, node_fits, well_formed}
 use Rattle.printed.proofs.Fields.{slot_tests, field_tests}
@@ -43,7 +42,8 @@ every-id test id (m ∷ l) n e h =
     let (here, more) = both_true (test m) (every test l) h in
     go (eqb m.id id) here (λ f. every-id test id l n f more) e
   where
-    go : (b : Bool) → test m ≡ true → (by_id id l ≡ some n → test n ≡ true) → cond b (some m) (by_id id l) ≡ some n → test n ≡ true
+    go : (b : Bool) → test m ≡ true → (by_id id l ≡ some n → test n ≡ true)
+        → cond b (some m) (by_id id l) ≡ some n → test n ≡ true
     go true here more e = let z : m ≡ n = cc in rw (← z) here
     go false here more e = more e
 

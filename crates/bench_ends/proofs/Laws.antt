@@ -13,8 +13,10 @@ use Rattle.bench_ends.specs.Searches.{Passes}
 
 -- eight bytes of which the first seven are not byte 10
 pub passes :
-    (s : Str) (i : ℕ) → i + 8 ≤ length s → (get_or s i 0 ≡ 10 → ⊥) → (get_or s (i + 1) 0 ≡ 10 → ⊥) → (get_or s (i + 2) 0 ≡ 10 → ⊥)
-    → (get_or s (i + 3) 0 ≡ 10 → ⊥) → (get_or s (i + 4) 0 ≡ 10 → ⊥) → (get_or s (i + 5) 0 ≡ 10 → ⊥) → (get_or s (i + 6) 0 ≡ 10 → ⊥)
+    (s : Str) (i : ℕ) → i + 8 ≤ length s
+    → (get_or s i 0 ≡ 10 → ⊥) → (get_or s (i + 1) 0 ≡ 10 → ⊥) → (get_or s (i + 2) 0 ≡ 10 → ⊥)
+    → (get_or s (i + 3) 0 ≡ 10 → ⊥) → (get_or s (i + 4) 0 ≡ 10 → ⊥) → (get_or s (i + 5) 0 ≡ 10 → ⊥)
+    → (get_or s (i + 6) 0 ≡ 10 → ⊥)
     → Passes s i (not (eqb (get_or s (i + 7) 0) 10))
 passes s i h a b c d e f g = go (eqb (get_or s (i + 7) 0) 10) refl
   where
@@ -34,6 +36,6 @@ passes s i h a b c d e f g = go (eqb (get_or s (i + 7) 0) 10) refl
         ∙ on i (i + 1) (omega arith) (omega arith) a
 
 -- where eight bytes are passed
-pub passed : (s : Str) (i : ℕ) (b : Bool) → Passes s i b → not b ≡ false → newline_from s (i + 8) ≡ newline_from s i
+pub passed : (s : Str) (i : ℕ) (b : Bool) → Passes s i b → b ≡ true → newline_from s (i + 8) ≡ newline_from s i
 passed s i true h e = h
 passed s i false h e = let z : ◌≡◌ {A = ℕ} 0 1 = cc in absurd (omega arith)

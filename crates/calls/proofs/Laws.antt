@@ -44,7 +44,8 @@ pub set-data : (typ : Str) (o : ℕ) (value : Str) (m : Option Str)
     ≡ set_data_field typ o value m
 unfolding set_data_field
 set-data typ o value none = plain (set_data_head false ++ typ ++ ascii ">(" ++ decimal o ++ ascii ", " ++ value) (ascii ");")
-set-data typ o value (some m) = masked (set_data_head true ++ typ ++ ascii ">(" ++ decimal o ++ ascii ", " ++ value) m (ascii ");")
+set-data typ o value (some m) =
+    masked (set_data_head true ++ typ ++ ascii ">(" ++ decimal o ++ ascii ", " ++ value) m (ascii ");")
 
 pub tag_test_lem : (is_reader : Bool) (o d : ℕ)
     → tag_test_head is_reader ++ decimal o ++ ascii ") != " ++ decimal d ++ ascii " { return false; }" ≡ tag_test is_reader o d

@@ -70,7 +70,8 @@ pub function-lines : (head : Str) (interior more : FormattedTexts)
 unfolding to_lines flat_map ended
 function-lines head interior more =
     ap (λ (x : Str). ascii "#[inline]\n" ++ x)
-    (ap (λ (x : Str). head ++ (unit 10 ++ x)) (ended_append (flat_map interior 1) (to_lines (Line (ascii "}")) 0 ++ flat_map more 0))
+    (ap (λ (x : Str). head ++ (unit 10 ++ x))
+    (ended_append (flat_map interior 1) (to_lines (Line (ascii "}")) 0 ++ flat_map more 0))
     ∙ joined head (unit 10) (ended (flat_map interior 1)) (ascii "}\n" ++ ended (flat_map more 0)))
   where
     joined : (a b c d : Str) → a ++ (b ++ (c ++ d)) ≡ a ++ b ++ c ++ d

@@ -8,7 +8,7 @@ use Rattle.text.specs.Bytes.{Str}
 use Rattle.text.specs.Text.{Wrote}
 use Rattle.text.specs.declared.Text.{Text}
 use Rattle.text.proofs.Laws.{◌⨾◌}
-use Rattle.codegen_types.specs.Out.{Out, ok, refused, ◌then◌, refusal_of}
+use Rattle.codegen_types.specs.Out.{Out, ok, refused, ◌then◌}
 use Rattle.codegen_types.specs.Written.{refusal_number, Writes, first_of}
 use Rattle.codegen_types.specs.declared.Written.{Written}
 

@@ -57,7 +57,9 @@ module _ (t : Str) (i : ℕ) (h : i < length t) where
   digits_above v l g = rw (drop-cons t i 0 h, digits, le-ltb (get_or t i 0) 48 l, lt-ltb 57 (get_or t i 0) g)
 
   -- the number grows out of 64 bits
-  pub digits_over : (v : ℕ) → 48 ≤ get_or t i 0 → get_or t i 0 ≤ 57 → 2 ^ 64 ≤ v * 10 + (get_or t i 0 - 48) → digits v (drop i t) ≡ none
+  pub digits_over :
+      (v : ℕ) → 48 ≤ get_or t i 0 → get_or t i 0 ≤ 57 → 2 ^ 64 ≤ v * 10 + (get_or t i 0 - 48)
+      → digits v (drop i t) ≡ none
   unfolding digits
   digits_over v l g o =
       let b = get_or t i 0 in
@@ -113,7 +115,8 @@ four_are t i a b c d fits positive ha hb hc e = go (ltb (length t) (i + 4)) refl
   where
     go :
         (p : Bool) → ltb (length t) (i + 4) ≡ p
-        → cond p 0 (four (get_or t i 0) (get_or t (i + 1) 0) (get_or t (i + 2) 0) (get_or t (i + 3) 0)) ≡ four a b c d → Four t i a b c d
+        → cond p 0 (four (get_or t i 0) (get_or t (i + 1) 0) (get_or t (i + 2) 0) (get_or t (i + 3) 0)) ≡ four a b c d
+        → Four t i a b c d
     go true k e = let z : ⊥ = omega arith in absurd z
     go false k e =
         let x₀ = get_or t i 0 in

@@ -22,12 +22,13 @@ use Rattle.codegen.specs.Default.{value, getter_mask}
 use Rattle.codegen.specs.Getter.{from_pointer, pointer_default, capability, untyped, is_fallible, fragment_of}
 use Rattle.codegen.specs.Getter.{option_code, getter_code}
 use Rattle.getter_code.specs.Parts.{from_pointer_head, capability_head, any_pointer_head, null_head, absent, some_end}
-use Rattle.getter_code.specs.Parts.{type_by, slot_by, fragment_by, code_by}
+use Rattle.getter_code.specs.Parts.{type_by, fragment_by, code_by}
 
 -- ---- fragments by their parts
 
 pub from-pointer : (root : Str) (is_reader : Bool) (o : ℕ) (default : Str)
-    → root ++ from_pointer_head is_reader ++ decimal o ++ ascii "), " ++ default ++ ascii ")" ≡ from_pointer root is_reader o default
+    → root ++ from_pointer_head is_reader ++ decimal o ++ ascii "), " ++ default ++ ascii ")"
+    ≡ from_pointer root is_reader o default
 from-pointer root true o default = refl
 from-pointer root false o default = refl
 

@@ -1,6 +1,7 @@
 -- A rendered line, read again, is its operation: for every offset, type, mask and value form. The parts of a line go by their own
 -- laws, and closed text computes. Assumes nothing.
-use Rattle.std.specs.Prelude.{◌≡◌, ℕ, zero, suc, ◌+◌, ◌-◌, ◌/◌, ◌%◌, ◌^◌, ◌<◌, ◌≤◌, Bool, true, false, eqb, ltb, List, [], ◌∷◌, ◌++◌}
+use Rattle.std.specs.Prelude.{◌≡◌, ℕ, zero, suc, ◌+◌, ◌-◌, ◌/◌, ◌%◌, ◌^◌, ◌<◌, ◌≤◌}
+use Rattle.std.specs.Prelude.{Bool, true, false, eqb, ltb, List, [], ◌∷◌, ◌++◌}
 use mathlib.Core.Path.{refl, ap, ◌∙◌}
 use mathlib.Core.Option.{Option, none, some}
 use mathlib.Core.List.{append_assoc}
@@ -59,7 +60,8 @@ unfolding set_bool_field
 set-bool_mask o v m = simp append_assoc
 
 pub set-data : (t : Str) (o : ℕ) (v : Str)
-    → set_data_field t o v none ≡ ascii "self.builder.set_data_field::<" ⧺ t ⧺ ascii ">(" ⧺ decimal o ⧺ ascii ", " ⧺ v ⧺ ascii ");"
+    → set_data_field t o v none
+    ≡ ascii "self.builder.set_data_field::<" ⧺ t ⧺ ascii ">(" ⧺ decimal o ⧺ ascii ", " ⧺ v ⧺ ascii ");"
 unfolding set_data_field
 set-data t o v = simp append_assoc
 
@@ -187,7 +189,8 @@ in_decimal in_word n s = go n n (omega arith) s
 
 in_name : (t : Num) (s : Str) → gets_in false (type_name_of t ++ s) ≡ gets_in true s
 unfolding gets_in gets
-in_name t s = by_type (λ t. gets_in false (type_name_of t ++ s) ≡ gets_in true s) refl refl refl refl refl refl refl refl refl refl t
+in_name t s =
+    by_type (λ t. gets_in false (type_name_of t ++ s) ≡ gets_in true s) refl refl refl refl refl refl refl refl refl refl t
 
 in_minus : (s : Str) → gets_in false (45 ∷ s) ≡ gets_in false s
 unfolding gets_in gets
@@ -271,7 +274,8 @@ module _ (is_reader : Bool) (o : ℕ) where
 
   after-bool-mask : (m : ℕ)
       → gets_in true
-      (ascii "elf." ⧺ member is_reader ⧺ ascii ".get_bool_field_mask(" ⧺ decimal o ⧺ ascii ", " ⧺ get_mask_text bool m ⧺ ascii ")")
+      (ascii "elf." ⧺ member is_reader ⧺ ascii ".get_bool_field_mask(" ⧺ decimal o ⧺ ascii ", "
+      ⧺ get_mask_text bool m ⧺ ascii ")")
       ≡ some []
   after-bool-mask m =
       in_member is_reader _ ∙ in_bool_mask _ ∙ in_decimal false o _ ∙ in_comma _ ∙ in_mask bool m _ ∙ in_close.0
@@ -288,7 +292,8 @@ module _ (is_reader : Bool) (o : ℕ) where
       ⧺ get_mask_text k m ⧺ end)
       ≡ some []
   after-data-mask t k m end ends =
-      in_member is_reader _ ∙ in_data_mask _ ∙ in_name t _ ∙ in_offset _ ∙ in_decimal false o _ ∙ in_comma _ ∙ in_mask k m _ ∙ ends
+      in_member is_reader _ ∙ in_data_mask _ ∙ in_name t _ ∙ in_offset _ ∙ in_decimal false o _ ∙ in_comma _
+      ∙ in_mask k m _ ∙ ends
 
 pub gets-line : (is_reader : Bool) (k : Kind) (o : ℕ) (m : Option ℕ) → MaskFits k m
     → gets_in false (get_line is_reader k o (map_o (get_mask_text k) m)) ≡ some ((place_of k o, mask_bits m) ∷ [])

@@ -44,7 +44,8 @@ unfolding tests_of tag_test
 tests_of_tag true o n more ts e = rw (tests_tag true o n, e)
 tests_of_tag false o n more ts e = rw (tests_tag false o n, e)
 
-tests_of_lem : (is_reader : Bool) (tag : Option Tag) (i : ℕ) → tests_of (indented 4 (haser_lines is_reader tag i)) ≡ some (tests_for tag i)
+tests_of_lem : (is_reader : Bool) (tag : Option Tag) (i : ℕ)
+    → tests_of (indented 4 (haser_lines is_reader tag i)) ≡ some (tests_for tag i)
 tests_of_lem is_reader none i = tests_of_null is_reader i
 tests_of_lem is_reader (some t) i =
     tests_of_tag is_reader t.0 t.1 (indented 4 (not_null is_reader i ∷ [])) (tests_for none i) (tests_of_null is_reader i)

@@ -1,5 +1,6 @@
 -- Lines: which bytes they don't hold, where they end, the spaces in front, and what a list of them does. Assumes nothing.
-use Rattle.std.specs.Prelude.{◌≡◌, ℕ, zero, suc, ◌+◌, ◌-◌, ◌/◌, ◌%◌, ◌^◌, ◌<◌, ◌≤◌, Bool, true, false, eqb, ltb, List, [], ◌∷◌, ◌++◌}
+use Rattle.std.specs.Prelude.{◌≡◌, ℕ, zero, suc, ◌+◌, ◌-◌, ◌/◌, ◌%◌, ◌^◌, ◌<◌, ◌≤◌}
+use Rattle.std.specs.Prelude.{Bool, true, false, eqb, ltb, List, [], ◌∷◌, ◌++◌}
 use mathlib.Core.Path.{refl, ap, ap₂, ◌∙◌, fun_ext}
 use mathlib.Core.Option.{Option, none, some}
 use mathlib.Core.List.{append_assoc}
@@ -132,7 +133,8 @@ says-zero (of_pointer i) = record { reads = writes-clear i; tight = refl; one = 
 
 -- ---- lines that are no writes
 
-pub whole-get : (is_reader : Bool) (k : Kind) (o : ℕ) (m : Option ℕ) → whole (get_line is_reader k o (map_o (get_mask_text k) m)) ≡ true
+pub whole-get : (is_reader : Bool) (k : Kind) (o : ℕ) (m : Option ℕ)
+    → whole (get_line is_reader k o (map_o (get_mask_text k) m)) ≡ true
 unfolding get_bool_field get_data_field
 whole-get true bool o none = simp wholes
 whole-get true bool o (some m) = simp wholes

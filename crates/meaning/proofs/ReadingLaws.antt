@@ -113,14 +113,16 @@ double Two = refl
 double Four = refl
 double Eight = refl
 
-pub get_mask : (t : Num) (m : ℕ) → m < 2 ^ bits_of t → (s : Str) → get_mask_of t (get_mask_text (num t) m ++ 41 ∷ s) ≡ some (m, 41 ∷ s)
+pub get_mask : (t : Num) (m : ℕ) → m < 2 ^ bits_of t → (s : Str)
+    → get_mask_of t (get_mask_text (num t) m ++ 41 ∷ s) ≡ some (m, 41 ∷ s)
 unfolding get_mask_of get_mask_text
 get_mask (int w) m h s = signed-read (half_of w) m (rw (← double w) h) s
 get_mask (uint w) m h s = below-decimal (2 ^ bits_of (uint w)) m h s
 get_mask float32 m h s = below-decimal (2 ^ 32) m h s
 get_mask float64 m h s = below-decimal (2 ^ 64) m h s
 
-pub set_mask : (t : Num) (m : ℕ) → m < 2 ^ bits_of t → (s : Str) → set_mask_of t (set_mask_text (num t) m ++ 41 ∷ s) ≡ some (m, 41 ∷ s)
+pub set_mask : (t : Num) (m : ℕ) → m < 2 ^ bits_of t → (s : Str)
+    → set_mask_of t (set_mask_text (num t) m ++ 41 ∷ s) ≡ some (m, 41 ∷ s)
 unfolding set_mask_of set_mask_text
 set_mask (int w) m h s = signed-read (half_of w) m (rw (← double w) h) s
 set_mask (uint w) m h s = below-decimal (2 ^ bits_of (uint w)) m h s
@@ -161,7 +163,8 @@ arg_tag n h s = rw (below-decimal (2 ^ 16) n h s)
 pub arg_zero : (t : Num) (s : Str) → data_arg t (48 ∷ (type_name_of t ++ s)) ≡ some (constant 0, s)
 unfolding data_arg
 arg_zero t s =
-    by_type (λ t. data_arg t (48 ∷ (type_name_of t ++ s)) ≡ some (constant 0, s)) refl refl refl refl refl refl refl refl refl refl t
+    by_type (λ t. data_arg t (48 ∷ (type_name_of t ++ s)) ≡ some (constant 0, s))
+    refl refl refl refl refl refl refl refl refl refl t
 
 pub arg_zero_u16 : (s : Str) → data_arg (uint Two) (ascii "0u16" ++ s) ≡ some (constant 0, s)
 arg_zero_u16 s = arg_zero (uint Two) s

@@ -100,7 +100,8 @@ saying_tag (some t) f s = Saying.add (says_tag t.0 t.1 f) s
 -- a setter's text: its tag, then what its other lines say
 pub tagged-runs : {ls : List Str} {os : List Op} (opening : Str) → whole opening ≡ true → (tag : Option Tag) → TagFits tag
     → Saying ls os
-    → (v : ℕ) (r : Record) → run_setter (function_text opening (tag_then tag (body ls))) v r ≡ run_ops (some v) (tag_ops tag ++ os) r
+    → (v : ℕ) (r : Record)
+    → run_setter (function_text opening (tag_then tag (body ls))) v r ≡ run_ops (some v) (tag_ops tag ++ os) r
 tagged-runs {ls} opening h tag f s v r =
     ap (λ (b : FormattedTexts). run_setter (function_text opening b) v r) (body_tag tag ls)
     ∙ setter-runs opening h (saying_tag tag f s) v r

@@ -92,7 +92,8 @@ words-none n s h = cut-none n n [] s h
 
 -- a turn over the words from a place on: the word there, which ends at place + length, and those after it
 pub turn : (name words : Str) (at : ℕ) → length name < length words - at
-    → is_one_of name (cut_words (length name) (drop at words)) ≡ either (same name (take (at + length name - at) (drop at words)))
+    → is_one_of name (cut_words (length name) (drop at words))
+    ≡ either (same name (take (at + length name - at) (drop at words)))
     (is_one_of name (cut_words (length name) (drop (at + length name + 1) words)))
 unfolding is_one_of
 turn name words at h =

@@ -125,7 +125,8 @@ unfolding held
 name_of_lem n s e = rw e (take-append_seam s _)
 
 -- a module's name, where the snake name is a keyword and where it is not
-pub module_keyword : (name : Str) → is_keyword (camel_to_snake_case name) ≡ true → module_name name ≡ camel_to_snake_case name ++ unit 95
+pub module_keyword : (name : Str) → is_keyword (camel_to_snake_case name) ≡ true
+    → module_name name ≡ camel_to_snake_case name ++ unit 95
 unfolding module_name
 module_keyword name e = rw e
 

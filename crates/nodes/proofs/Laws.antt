@@ -183,7 +183,8 @@ module _ (s : Str) (index : List ℕ) (e : Entry) (k : ℕ) (n : Node) (x : Entr
       parameter-out r o = let z : ⊥ = omega (arith, marked.0) in absurd z
 
       pub parameter-marked :
-          (q : ℕ) → rows (drop q s) ≡ rows_after (k % mark_every) (rows (drop (get_or index (e.marks + (k / mark_every - 1)) 0) s))
+          (q : ℕ)
+          → rows (drop q s) ≡ rows_after (k % mark_every) (rows (drop (get_or index (e.marks + (k / mark_every - 1)) 0) s))
           → NameAt s (position.At q) k n.params
       parameter-marked q f =
           let z : mark_every * suc (k / mark_every - 1) + k % mark_every ≡ k = omega arith in

@@ -73,7 +73,8 @@ module _ (r : Str) (at start : ℕ) (starts : start ≡ at + space_len (drop at 
   -- the next word in its columns, and those after it
   pub words-turn :
       (left end : ℕ) → 0 < left → end ≡ start + word_len (drop start r)
-      → words_padded left (drop at r) ≡ right_justified (take (end - start) (drop start r)) ++ words_padded (left - 1) (drop end r)
+      → words_padded left (drop at r)
+      ≡ right_justified (take (end - start) (drop start r)) ++ words_padded (left - 1) (drop end r)
   unfolding words_padded
   words-turn zero end l ends = let z : ⊥ = omega arith in absurd z
   words-turn (suc n) end l ends =

@@ -182,7 +182,9 @@ unfolding word_len
 no_word zero s l = let z : ⊥ = omega arith in absurd z
 no_word (suc k) s l = refl
 
-numbers-first : (gap : ℕ → ℕ) (ns : List ℕ) (end : Str) → Apart gap ns → word_len end ≡ 0 → word_len (spaced_numbers gap ns end) ≡ 0
+numbers-first :
+    (gap : ℕ → ℕ) (ns : List ℕ) (end : Str) → Apart gap ns → word_len end ≡ 0
+    → word_len (spaced_numbers gap ns end) ≡ 0
 unfolding spaced_numbers
 numbers-first gap [] end a h = h
 numbers-first gap (n ∷ ns) end a h = no_word (gap n) (decimal n ++ spaced_numbers gap ns end) a.0

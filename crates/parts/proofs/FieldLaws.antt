@@ -19,7 +19,7 @@ use Rattle.tree.specs.Tree as tree
 use Rattle.tree.specs.Tree.{Arm, slot, group}
 use Rattle.tree.specs.Reader.{Rows, Reading, got, no, ◌then◌, On}
 use Rattle.tree.specs.Read.{read_slot, field, read_field}
-use Rattle.tree.specs.Fields.{FieldsHere, none, more}
+use Rattle.tree.specs.Fields.{FieldsHere, more}
 use Rattle.field.specs.Slot.{SlotField, SlotHere}
 use Rattle.field.specs.Field.{SlotIn, GroupHere, GroupIn}
 use Rattle.field.specs.declared.Slot as code

@@ -30,7 +30,7 @@ use Rattle.field.specs.declared.Field.{Field}
 use Rattle.field.specs.declared.Field.TheVariants as field_is
 use Rattle.parts.specs.Program.{each_text, field_text, node_text, refused_sheet_text, program_text}
 use Rattle.parts.specs.Fit.{unit_most, TakesAtMost, Puts, FieldPut}
-use Rattle.parts.specs.Left.{sheet_in, LeftAt, Left, Goes, Gives}
+use Rattle.parts.specs.Left.{sheet_in, LeftAt, Left, Gives}
 use Rattle.parts.specs.Steps.{most_left, Enters, Turns, Filled, Reached, Comes}
 use Rattle.parts.specs.declared.Fit.{Fit}
 use Rattle.parts.specs.declared.Fit.TheVariants.{Whole, Short}

@@ -8,7 +8,7 @@ use native.Mathlib.Nat.{suc-mul}
 use borrow.Author.Tests.{lt-ltb, le-ltb}
 use lib.ListN.{length, take}
 use Rattle.text.specs.Bytes.{Str}
-use Rattle.text.specs.Text.{state_at, Wrote}
+use Rattle.text.specs.Text.{state_at}
 use Rattle.text.specs.declared.Text.{Text}
 use Rattle.tree.specs.Tree as tree
 use Rattle.tree.specs.Tree.{Node, Sheet}

@@ -23,9 +23,9 @@ ghost use Rattle.parts.specs.declared.Place.TheVariants.{At, End};
 
 use crate::{Came, Fit, Piece, Place, Turn, taken, write_group, write_slot};
 use field::Field;
-use libc::STDOUT_FILENO;
 use nodes::Found;
 use sheet::Answer;
+use std::io::Print;
 use terms::limits;
 use text::Text;
 
@@ -197,14 +197,21 @@ fn fill(s: &[u8], index: &[u64], place: Place, out: &mut [u8]) -> Piece
 
 // Hands a piece to standard output, and tells whether all of it was written. It and what is left at the next place are what was
 // left at the place before. Nothing is said of its bytes afterwards, so that they can't be handed over a second time.
-fn hand(s: &[u8], index: &[u64], place: Place, piece: &mut [u8], next: Place) -> bool
+fn hand(
+    rt: &HostRuntime,
+    s: &[u8],
+    index: &[u64],
+    place: Place,
+    piece: &mut [u8],
+    next: Place,
+) -> bool
     requires { Gives s.now index.now place piece.old next }
 {
-    io::write_all(STDOUT_FILENO, piece)
+    rt.write_all(piece).is_ok()
 }
 
 // Prints a sheet from a place on, up to the end or to a unit that the buffer has no room for.
-fn print_pieces(s: &[u8], index: &[u64], start: Place, out: &mut [u8]) -> Came
+fn print_pieces(rt: &HostRuntime, s: &[u8], index: &[u64], start: Place, out: &mut [u8]) -> Came
     requires { Reached s.now index.now start }
     ensures { Comes s.now index.now (length out.old) result }
 {
@@ -216,7 +223,7 @@ fn print_pieces(s: &[u8], index: &[u64], start: Place, out: &mut [u8]) -> Came
         if n == 0 {
             return Came::To(next);
         }
-        if !hand(s, index, place, &mut out[..n], next) {
+        if !hand(rt, s, index, place, &mut out[..n], next) {
             return Came::Failed;
         }
         place = next;
@@ -225,7 +232,7 @@ fn print_pieces(s: &[u8], index: &[u64], start: Place, out: &mut [u8]) -> Came
 
 // The same over the small buffer, from the start of a short sheet; a longer one is left to the large buffer, so that no unit of it
 // is tried in the small one first. Each buffer has its own function, so that the stack holds one of them at a time.
-fn print_small(s: &[u8], index: &[u64], start: Place) -> Came
+fn print_small(rt: &HostRuntime, s: &[u8], index: &[u64], start: Place) -> Came
     requires { Left s.now index.now start (program_text (admitted s.now)) }
     ensures { Comes s.now index.now 32768 result }
 {
@@ -233,30 +240,30 @@ fn print_small(s: &[u8], index: &[u64], start: Place) -> Came
         return Came::To(start);
     }
     let mut out = [0u8; PIECE_SIZE];
-    print_pieces(s, index, start, &mut out)
+    print_pieces(rt, s, index, start, &mut out)
 }
 
 // The same over a buffer that holds any unit, from a place where something is left.
-fn print_large(s: &[u8], index: &[u64], start: Place) -> Came
+fn print_large(rt: &HostRuntime, s: &[u8], index: &[u64], start: Place) -> Came
     requires reached { Reached s.now index.now start }
     requires fact { start ≡ End → ⊥ }
     ensures { Comes s.now index.now unit_most result }
 {
     let mut out = [0u8; UNIT_SIZE];
-    print_pieces(s, index, start, &mut out)
+    print_pieces(rt, s, index, start, &mut out)
 }
 
 // Prints all that is printed of a sheet, and tells whether all of it was written.
-pub fn print_sheet(s: &[u8]) -> bool {
+pub fn print_sheet(rt: &HostRuntime, s: &[u8]) -> bool {
     let mut index = [0u64; nodes::INDEX_SIZE];
     let place = start(s, &mut index);
-    let Came::To(next) = print_small(s, &index, place) else {
+    let Came::To(next) = print_small(rt, s, &index, place) else {
         return false;
     };
     if let Place::End = next {
         return true;
     }
-    match print_large(s, &index, next) {
+    match print_large(rt, s, &index, next) {
         Came::To(_) => true,
         Came::Failed => false,
     }

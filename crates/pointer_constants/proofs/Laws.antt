@@ -5,7 +5,7 @@ use mathlib.Core.List.{List, [], ◌∷◌, ◌++◌, append_assoc}
 use Prim.Native.Nat.{ℕ, zero, suc, ◌-◌, ◌/◌, ◌%◌, ◌<◌, ◌≤◌}
 use native.Mathlib.Numerals.{sub-one}
 use native.Mathlib.Omega.{arith}
-use package.types.Run.{OneOf}
+use package.types.Run.{OneOf, hit}
 use denote.Enum.Declared.{tag_of}
 use lib.ListN.{length}
 use Rattle.row.specs.contracts.Line.{the_type}
@@ -76,7 +76,8 @@ words-short zero rs = refl
 words-short (suc n) rs = go (line_at rs) refl (words-short n (rest_of rs))
   where
     go : (l : Content) → line_at rs ≡ l → words_at (length (words_at n (rest_of rs))) (rest_of rs) ≡ words_at n (rest_of rs)
-        → words_at (length (as_word l (λ w. w ∷ words_at n (rest_of rs)) [])) rs ≡ as_word l (λ w. w ∷ words_at n (rest_of rs)) []
+        → words_at (length (as_word l (λ w. w ∷ words_at n (rest_of rs)) [])) rs
+        ≡ as_word l (λ w. w ∷ words_at n (rest_of rs)) []
     go (content.Word w) e h = rw e (ap (λ (x : List ℕ). w ∷ x) h)
     go content.Root e h = refl
     go (content.Node i p k x v c o) e h = refl
@@ -98,6 +99,23 @@ unfolding words_at
 words-none zero rs h = refl
 words-none (suc n) rs h = let z : ⊥ = omega arith in absurd z
 
+-- the tag of a line that is no W row, as the `match` tells it
+abbrev no_word : List ℕ
+no_word = 0 ∷ 1 ∷ 2 ∷ 3 ∷ 4 ∷ 5 ∷ 6 ∷ 7 ∷ 8 ∷ 10 ∷ []
+
+pub no_word-tag : (l : RowLine) → ((w : ℕ) → l ≡ line.Word w → ⊥) → OneOf no_word (tag_of the_type l)
+no_word-tag line.Root h = hit no_word 0 tt
+no_word-tag (line.Node a b c d e f g) h = hit no_word 1 tt
+no_word-tag line.Parameter h = hit no_word 2 tt
+no_word-tag (line.Field a b c d) h = hit no_word 3 tt
+no_word-tag (line.Group a b) h = hit no_word 4 tt
+no_word-tag (line.Typ a b c d) h = hit no_word 5 tt
+no_word-tag (line.Scope a b c) h = hit no_word 6 tt
+no_word-tag line.Unbound h = hit no_word 7 tt
+no_word-tag (line.Value a b) h = hit no_word 8 tt
+no_word-tag (line.Word a) h = absurd (h a refl)
+no_word-tag (line.Bad x k c) h = hit no_word 10 tt
+
 -- what the code says of the first row, and the rows after it
 module _ (rs rest : Rows) (l : RowLine) (here : line_said l ≡ line_at rs) (after : rest ≡ rest_of rs) where
   pub words_more : (n w : ℕ) → 0 < n → l ≡ line.Word w → words_at n rs ≡ w ∷ words_at (n - 1) rest
@@ -105,7 +123,7 @@ module _ (rs rest : Rows) (l : RowLine) (here : line_said l ≡ line_at rs) (aft
   words_more zero w h is = let z : ⊥ = omega arith in absurd z
   words_more (suc n) w h is = rw (← here, is, ← after, sub-one (suc n)) refl
 
-  pub words-stop : (n : ℕ) → 0 < n → OneOf (0 ∷ 1 ∷ 2 ∷ 3 ∷ 4 ∷ 5 ∷ 6 ∷ 7 ∷ 8 ∷ 10 ∷ []) (tag_of the_type l) → words_at n rs ≡ []
+  pub words-stop : (n : ℕ) → 0 < n → OneOf no_word (tag_of the_type l) → words_at n rs ≡ []
   unfolding words_at
   words-stop zero h other = let z : ⊥ = omega arith in absurd z
   words-stop (suc n) h other = rw (← here) (not-word l _ _ other)

@@ -50,7 +50,8 @@ read-value v rs e =
     reads-line (line.Value v.kind v.bits) [] f (rw (line-here (line.Value v.kind v.bits) [] rs f)) reads_none
 
 -- words end where no W line stands
-words-end : {A : Type 0} (f : ℕ → Reader A) (other : Reader A) (rs : Rows) → AfterField (line_at rs) → on_word f other rs ≡ other rs
+words-end : {A : Type 0} (f : ℕ → Reader A) (other : Reader A) (rs : Rows)
+    → AfterField (line_at rs) → on_word f other rs ≡ other rs
 words-end {A} f other rs h = go (line_at rs) refl h
   where
     go : (l : Content) → line_at rs ≡ l → AfterField l
@@ -120,7 +121,8 @@ arm_line d (slot s) = line.Field s.offset d s.explicit s.option
 arm_line d (group i) = line.Group i d
 
 arm-fits :
-    (name : Str) (d : ℕ) (arm : Arm) → is_field_name name ≡ true → fits 16 d ≡ true → arm_fits arm ≡ true → Fits (arm_line d arm) name
+    (name : Str) (d : ℕ) (arm : Arm) → is_field_name name ≡ true → fits 16 d ≡ true → arm_fits arm ≡ true
+    → Fits (arm_line d arm) name
 arm-fits name d (slot s) n f e =
     let tests = holds (slot_tests s) e in
     (fits-most 32 _ (tests 0), fits-most 16 d f, fits-most 1 _ (tests 1), fits-most 1 _ (tests 2), n)
@@ -197,7 +199,8 @@ after-field l the_end = the_end
 
 -- fields may follow a field too
 pub fields_follow :
-    (fs : List Field) (rs : Rows) → every field_fits fs ≡ true → AfterFields (line_at rs) → AfterField (line_at (field_rows fs rs))
+    (fs : List Field) (rs : Rows) → every field_fits fs ≡ true → AfterFields (line_at rs)
+    → AfterField (line_at (field_rows fs rs))
 unfolding every field_rows
 fields_follow [] rs e h = after-field (line_at rs) h
 fields_follow (f ∷ fs) rs e h =
@@ -264,7 +267,8 @@ tell_words false rs = told (refl, refl)
 module _ (o d e p : ℕ) (name : Str) (offset : fits 32 o ≡ true) (explicit : is_flag e ≡ true) (option : is_flag p ≡ true) where
   tell-slot :
       (rs : Rows)
-      → Tells (λ s rest. (print_field o d e p name ∷ rs ≡ arm_rows name d (slot s) rest) × (slot_fits s ≡ true)) (read_slot o e p rs)
+      → Tells (λ s rest. (print_field o d e p name ∷ rs ≡ arm_rows name d (slot s) rest) × (slot_fits s ≡ true))
+      (read_slot o e p rs)
   unfolding read_slot
   tell-slot rs =
       tells_then _ (tell_type 16 rs) (λ t vs x.

@@ -96,7 +96,8 @@ module _ {A : Type 0} {P : A → Rows → Type 0} (rs : Rows) where
 
     pub tells-field :
         (f : ℕ → ℕ → ℕ → ℕ → Str → Reader A)
-        → ((o d e q : ℕ) → Says rs (Field o d e q) → Tells P (f o d e q (text_at rs) (rest_of rs))) → Tells P (on_field f other rs)
+        → ((o d e q : ℕ) → Says rs (Field o d e q) → Tells P (f o d e q (text_at rs) (rest_of rs)))
+        → Tells P (on_field f other rs)
     tells-field f h =
         let z : Reader A = or_fault 70 other in
         let o : Tells P (z rs) = or-fault 70 in

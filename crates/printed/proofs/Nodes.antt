@@ -227,7 +227,8 @@ tell_node : (ids seen : List ℕ) (rs : Rows) → Tells (NodeAt ids seen rs) (re
 unfolding read_node
 tell_node ids seen rs =
     tells-node rs (no misplaced) nothing
-    (λ i p sc st g tc to the_mod. cond (among i ids) (λ rest. no (fault 3 2) rs) (read_members seen (node_from i p sc st g tc to the_mod)))
+    (λ i p sc st g tc to the_mod.
+    cond (among i ids) (λ rest. no (fault 3 2) rs) (read_members seen (node_from i p sc st g tc to the_mod)))
     (λ i p sc st g tc to w.
     let node = node_from i p sc st g tc to (text_at rs) in
     let f = w.fits in

@@ -126,7 +126,8 @@ tell_sheet rs =
 
 -- the tree of the rows of a byte string that is not too long
 tree-printed :
-    (s : Str) (sh : Sheet) (rest : Rows) → length s ≤ 65536 → SheetAt (rows s) sh rest → (printed sh ≡ s) × (well_formed sh ≡ true)
+    (s : Str) (sh : Sheet) (rest : Rows) → length s ≤ 65536 → SheetAt (rows s) sh rest
+    → (printed sh ≡ s) × (well_formed sh ≡ true)
 unfolding printed
 tree-printed s sh rest l h =
     let e : printed sh ≡ s = ap joined (sym h.is) ∙ joined-rows s in

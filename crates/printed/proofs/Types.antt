@@ -441,4 +441,5 @@ pub tell_type : (left : ℕ) (rs : Rows) → Tells (TypeAt left rs) (read_type l
 unfolding read_type
 tell_type zero rs = tells-type rs (no misplaced) nothing (λ k a b c rest. no (fault 4 1) rs) (λ k a b c w. nothing)
 tell_type (suc l) rs =
-    let less = tell_type l in tells-type rs (no misplaced) nothing (type_from (read_type l)) (λ k a b c w. tell-from l less rs k a b c w)
+    let less = tell_type l in
+    tells-type rs (no misplaced) nothing (type_from (read_type l)) (λ k a b c w. tell-from l less rs k a b c w)

@@ -6,7 +6,7 @@ ghost use Rattle.std.specs.Prelude.{◌≡◌, ◌+◌, ◌≤◌, min, max, len
 ghost use Rattle.io.specs.Counts.{IsPrefixLen};
 ghost use Rattle.programs.specs.Input.{WasRead, line_end, digit_of, decimal_of, sheet_after};
 
-use libc::STDIN_FILENO;
+use std::io::{ErrorKind, Read};
 use text::Text;
 
 // How often a read that a signal interrupted is tried again.
@@ -27,24 +27,25 @@ pub struct Sheet {
 }
 
 // Reads standard input to its end, or until the buffer is full.
-pub fn read_input(buf: &mut [u8]) -> Input
+pub fn read_input(rt: &HostRuntime, buf: &mut [u8]) -> Input
     ensures { WasRead result buf.new }
 {
     let mut n: usize = 0;
     let mut tries = TRIES;
     while n < buf.len() {
-        let rest = &mut buf[n..];
-        let got = libc::read(STDIN_FILENO, rest);
-        let m = io::count(got, rest);
-        if 0 < m {
-            n += m;
-            continue;
-        }
-        if got == 0 {
-            return Input::Bytes(n);
-        }
-        if os::errno() != libc::EINTR {
-            return Input::Failed;
+        match rt.stdin().read(&mut buf[n..]) {
+            Ok(m) => {
+                if 0 < m {
+                    n += m;
+                    continue;
+                }
+                return Input::Bytes(n);
+            }
+            Err(e) => {
+                if e.kind() != ErrorKind::Interrupted {
+                    return Input::Failed;
+                }
+            }
         }
         if tries == 0 {
             return Input::Failed;

@@ -196,11 +196,13 @@ data-past w o n h = omega arith
 module _ (p : Place) (l : List ℕ) (h : length l * 8 < from p + bit_count p) where
   pub get-past-bytes : (m : ℕ) → get_bits p m (section_bits l) ≡ m % 2 ^ bit_count p
   unfolding get_bits
-  get-past-bytes m = rw (found-past (from p) (bit_count p) (section_bits l) (rw (length_section l) h)) (mask_alone (bit_count p) m)
+  get-past-bytes m =
+      rw (found-past (from p) (bit_count p) (section_bits l) (rw (length_section l) h)) (mask_alone (bit_count p) m)
 
   pub put-past-bytes : (v m : ℕ) → put_bits p v m (section_bits l) ≡ none
   unfolding put_bits
-  put-past-bytes v m = stored_past (from p) (coded p v m) (section_bits l) (rw (length_section l, length-xors (bit_count p) v m) h)
+  put-past-bytes v m =
+      stored_past (from p) (coded p v m) (section_bits l) (rw (length_section l, length-xors (bit_count p) v m) h)
 
 pub bytes_small : (w : Width) → bytes_of w ≤ 8
 bytes_small One = omega arith
@@ -214,7 +216,8 @@ pub put-none : {p : Place} {v m : ℕ} {l : List ℕ} → length l * 8 < from p 
 put-none {p} {v} {m} {l} h = record { answer = rw (put-past-bytes p l h v m); left = rw (put-past-bytes p l h v m) }
 
 pub put-bool-done : {l : List ℕ} {o : BitOffset} (v m : Bool) → o.0 / 8 < length l
-    → Put (bool_at o) (bit v) (bit m) l (set l (o.0 / 8) (with_bit (get_or l (o.0 / 8) 0) (o.0 % 8) (bit_xor (bit v) (bit m)))) Done
+    → Put (bool_at o) (bit v) (bit m) l
+    (set l (o.0 / 8) (with_bit (get_or l (o.0 / 8) 0) (o.0 % 8) (bit_xor (bit v) (bit m)))) Done
 put-bool-done {l} {o} v m h =
     let e = put-bool l o h (bit v) (bit m) (bit_below v) (bit_below m) in
     record { answer = rw e; left = rw e }

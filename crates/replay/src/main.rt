@@ -13,7 +13,8 @@
 
 ghost use Rattle.std.specs.Prelude.{◌<◌};
 
-use libc::{STDIN_FILENO, STDOUT_FILENO};
+use programs::Input;
+use std::io::{self, Print};
 use text::Text;
 
 // What a hex digit counts; 0 for any other byte.
@@ -65,35 +66,37 @@ fn answer(letter: u8, about: &[u8], t: Text, buf: &mut [u8]) -> Text {
     }
 }
 
-fn print_answer(letter: u8, about: &[u8], buf: &mut [u8]) {
+fn print_answer(rt: &HostRuntime, letter: u8, about: &[u8], buf: &mut [u8]) -> io::Result<()> {
     let t = answer(letter, about, Text::at(0), buf);
     let n = programs::filled(t, buf);
-    io::write_all(STDOUT_FILENO, &buf[..n]);
+    rt.write_all(&buf[..n])
 }
 
-fn print_case(case: &[u8], buf: &mut [u8]) {
+fn print_case(rt: &HostRuntime, case: &[u8], buf: &mut [u8]) -> io::Result<()> {
     if case.len() == 0 {
-        return;
+        return Ok(());
     }
     if case.len() == 1 {
-        print_answer(case[0], b"", buf);
-        return;
+        return print_answer(rt, case[0], b"", buf);
     }
-    print_answer(case[0], &case[2..], buf);
+    print_answer(rt, case[0], &case[2..], buf)
 }
 
-fn replay(cases: &[u8], buf: &mut [u8]) {
+fn replay(rt: &HostRuntime, cases: &[u8], buf: &mut [u8]) -> io::Result<()> {
     let mut at = 0;
     while at < cases.len() {
         let end = programs::line_end(cases, at);
-        print_case(&cases[at..end], buf);
+        print_case(rt, &cases[at..end], buf)?;
         at = end + 1;
     }
+    Ok(())
 }
 
-fn main() {
-    let mut cases = io::large_buffer();
-    let n = io::read_full(STDIN_FILENO, &mut cases);
-    let mut buf = io::buffer();
-    replay(&cases[..n], &mut buf);
+fn main(rt: HostRuntime) -> io::Result<()> {
+    let mut cases = [0u8; 65536];
+    let Input::Bytes(n) = programs::read_input(&rt, &mut cases) else {
+        return rt.stderr().write_all(b"replay: cannot read standard input\n");
+    };
+    let mut buf = [0u8; 4096];
+    replay(&rt, &cases[..n], &mut buf)
 }

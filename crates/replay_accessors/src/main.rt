@@ -3,16 +3,17 @@
 // capnpc's own functions.
 #![tactic(auto)]
 
-use libc::{STDERR_FILENO, STDIN_FILENO};
+use programs::Input;
+use std::io::{self, Print};
 
 // Prints each sheet, and tells whether all was written.
-fn replay(sheets: &[u8]) -> bool {
+fn replay(rt: &HostRuntime, sheets: &[u8]) -> bool {
     let mut at = 0;
     while at < sheets.len() {
         let next = programs::next_sheet(sheets, at);
         let start = next.start;
         let end = next.end;
-        if !parts::print_sheet(&sheets[start..end]) {
+        if !parts::print_sheet(rt, &sheets[start..end]) {
             return false;
         }
         at = end;
@@ -20,13 +21,17 @@ fn replay(sheets: &[u8]) -> bool {
     true
 }
 
-fn main() {
+fn main(rt: HostRuntime) -> io::Result<()> {
     let mut sheets = [0u8; 65536];
-    let n = io::read_full(STDIN_FILENO, &mut sheets);
-    if !replay(&sheets[..n]) {
-        io::write_all(
-            STDERR_FILENO,
-            b"replay_accessors: cannot write standard output\n",
-        );
+    let Input::Bytes(n) = programs::read_input(&rt, &mut sheets) else {
+        return rt
+            .stderr()
+            .write_all(b"replay_accessors: cannot read standard input\n");
+    };
+    if !replay(&rt, &sheets[..n]) {
+        return rt
+            .stderr()
+            .write_all(b"replay_accessors: cannot write standard output\n");
     }
+    Ok(())
 }

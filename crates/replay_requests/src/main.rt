@@ -6,7 +6,8 @@
 #![tactic(auto)]
 
 use column::Number;
-use libc::{STDERR_FILENO, STDIN_FILENO, STDOUT_FILENO};
+use programs::Input;
+use std::io::{self, Print};
 use text::Text;
 
 // The number in the columns from a place on; 0 where there is none.
@@ -18,8 +19,8 @@ fn number(asked: &[u8], at: usize) -> u64 {
 }
 
 // Prints four numbers as a line.
-fn print_numbers(refusal: u64, line: usize, column: usize, fill: usize) -> bool {
-    let mut buf = io::buffer();
+fn print_numbers(rt: &HostRuntime, refusal: u64, line: usize, column: usize, fill: usize) -> bool {
+    let mut buf = [0u8; 4096];
     let t = Text::at(0).number(&mut buf, refusal);
     let t = t.byte(&mut buf, b' ');
     let t = t.number(&mut buf, line as u64);
@@ -29,11 +30,11 @@ fn print_numbers(refusal: u64, line: usize, column: usize, fill: usize) -> bool 
     let t = t.number(&mut buf, fill as u64);
     let t = t.byte(&mut buf, b'\n');
     let n = programs::filled(t, &buf);
-    io::write_all(STDOUT_FILENO, &buf[..n])
+    rt.write_all(&buf[..n]).is_ok()
 }
 
 // Prints the answer to a request over a buffer.
-fn print_answer(sheet: &[u8], asked: &[u8], buf: &mut [u8]) -> bool {
+fn print_answer(rt: &HostRuntime, sheet: &[u8], asked: &[u8], buf: &mut [u8]) -> bool {
     let mut fill = number(asked, 85) as usize;
     let mut line: usize = 0;
     let mut column: usize = 0;
@@ -48,36 +49,36 @@ fn print_answer(sheet: &[u8], asked: &[u8], buf: &mut [u8]) -> bool {
         &mut column,
         buf,
     );
-    if !print_numbers(refusal, line, column, fill) {
+    if !print_numbers(rt, refusal, line, column, fill) {
         return false;
     }
-    if !io::write_all(STDOUT_FILENO, buf) {
+    if rt.write_all(buf).is_err() {
         return false;
     }
-    io::write_all(STDOUT_FILENO, b"\n")
+    rt.write_all(b"\n").is_ok()
 }
 
 // Prints the answer to a request over as much of a buffer as it asks for, where there is so much.
-fn print_part(sheet: &[u8], asked: &[u8], buf: &mut [u8]) -> bool {
+fn print_part(rt: &HostRuntime, sheet: &[u8], asked: &[u8], buf: &mut [u8]) -> bool {
     let size = number(asked, 106) as usize;
     if buf.len() < size {
         return false;
     }
-    print_answer(sheet, asked, &mut buf[..size])
+    print_answer(rt, sheet, asked, &mut buf[..size])
 }
 
 // Prints the answer to a request over points, at most 4,096.
-fn print_request(sheet: &[u8], asked: &[u8]) -> bool {
+fn print_request(rt: &HostRuntime, sheet: &[u8], asked: &[u8]) -> bool {
     let mut points = [b'.'; 4096];
-    print_part(sheet, asked, &mut points)
+    print_part(rt, sheet, asked, &mut points)
 }
 
 // Prints the answers to the requests of a sheet, and tells whether all were written.
-fn replay_requests(sheet: &[u8], requests: &[u8]) -> bool {
+fn replay_requests(rt: &HostRuntime, sheet: &[u8], requests: &[u8]) -> bool {
     let mut at = 0;
     while at < requests.len() {
         let end = programs::line_end(requests, at);
-        if !print_request(sheet, &requests[at..end]) {
+        if !print_request(rt, sheet, &requests[at..end]) {
             return false;
         }
         at = end + 1;
@@ -86,7 +87,7 @@ fn replay_requests(sheet: &[u8], requests: &[u8]) -> bool {
 }
 
 // Prints the answers for each sheet, and tells whether all were written.
-fn replay(input: &[u8]) -> bool {
+fn replay(rt: &HostRuntime, input: &[u8]) -> bool {
     let mut at = 0;
     while at < input.len() {
         let sheet = programs::next_sheet(input, at);
@@ -95,7 +96,7 @@ fn replay(input: &[u8]) -> bool {
         let requests = programs::next_sheet(input, end);
         let first = requests.start;
         let last = requests.end;
-        if !replay_requests(&input[start..end], &input[first..last]) {
+        if !replay_requests(rt, &input[start..end], &input[first..last]) {
             return false;
         }
         at = last;
@@ -103,13 +104,17 @@ fn replay(input: &[u8]) -> bool {
     true
 }
 
-fn main() {
-    let mut input = io::large_buffer();
-    let n = io::read_full(STDIN_FILENO, &mut input);
-    if !replay(&input[..n]) {
-        io::write_all(
-            STDERR_FILENO,
-            b"replay_requests: not all answers were printed\n",
-        );
+fn main(rt: HostRuntime) -> io::Result<()> {
+    let mut input = [0u8; 65536];
+    let Input::Bytes(n) = programs::read_input(&rt, &mut input) else {
+        return rt
+            .stderr()
+            .write_all(b"replay_requests: cannot read standard input\n");
+    };
+    if !replay(&rt, &input[..n]) {
+        return rt
+            .stderr()
+            .write_all(b"replay_requests: not all answers were printed\n");
     }
+    Ok(())
 }

@@ -3,8 +3,9 @@
 // are written by the comparison in oracle/, by its own reader of sheets.
 #![tactic(auto)]
 
-use libc::{STDIN_FILENO, STDOUT_FILENO};
+use programs::Input;
 use sheet::Answer;
+use std::io::{self, Print};
 use text::Text;
 
 // A number and a byte after it.
@@ -13,40 +14,51 @@ fn put(n: u64, end: u8, t: Text, buf: &mut [u8]) -> Text {
     t.byte(buf, end)
 }
 
-fn print_line(number: u64, line: usize, column: usize, buf: &mut [u8]) {
+fn print_line(
+    rt: &HostRuntime,
+    number: u64,
+    line: usize,
+    column: usize,
+    buf: &mut [u8],
+) -> io::Result<()> {
     let t = put(number, b' ', Text::at(0), buf);
     let t = put(line as u64, b' ', t, buf);
     let t = put(column as u64, b'\n', t, buf);
     let n = programs::filled(t, buf);
-    io::write_all(STDOUT_FILENO, &buf[..n]);
+    rt.write_all(&buf[..n])
 }
 
-fn print_sheet(s: &[u8], buf: &mut [u8]) {
+fn print_sheet(rt: &HostRuntime, s: &[u8], buf: &mut [u8]) -> io::Result<()> {
     let mut none = [0u64; 0];
     match sheet::admit(s, &mut none) {
-        Answer::Sheet => print_line(0, 0, 0, buf),
+        Answer::Sheet => print_line(rt, 0, 0, 0, buf),
         Answer::Refused {
             number,
             line,
             column,
-        } => print_line(number, line, column, buf),
+        } => print_line(rt, number, line, column, buf),
     }
 }
 
-fn replay(sheets: &[u8], buf: &mut [u8]) {
+fn replay(rt: &HostRuntime, sheets: &[u8], buf: &mut [u8]) -> io::Result<()> {
     let mut at = 0;
     while at < sheets.len() {
         let next = programs::next_sheet(sheets, at);
         let start = next.start;
         let end = next.end;
-        print_sheet(&sheets[start..end], buf);
+        print_sheet(rt, &sheets[start..end], buf)?;
         at = end;
     }
+    Ok(())
 }
 
-fn main() {
-    let mut sheets = io::large_buffer();
-    let n = io::read_full(STDIN_FILENO, &mut sheets);
-    let mut buf = io::buffer();
-    replay(&sheets[..n], &mut buf);
+fn main(rt: HostRuntime) -> io::Result<()> {
+    let mut sheets = [0u8; 65536];
+    let Input::Bytes(n) = programs::read_input(&rt, &mut sheets) else {
+        return rt
+            .stderr()
+            .write_all(b"replay_sheets: cannot read standard input\n");
+    };
+    let mut buf = [0u8; 4096];
+    replay(&rt, &sheets[..n], &mut buf)
 }

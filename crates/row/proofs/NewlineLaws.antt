@@ -52,8 +52,8 @@ first-within (suc k) s from h =
     go (first-within k s (from + 1) (omega arith)) (dec_le (length s) from) (eqb (get_or s from 0) 10) refl
   where
     go :
-        FirstAtOrAfter s (from + 1) (newline_from s (from + 1)) → Dec (length s ≤ from) → (p : Bool) → eqb (get_or s from 0) 10 ≡ p
-        → FirstAtOrAfter s from (newline_from s from)
+        FirstAtOrAfter s (from + 1) (newline_from s (from + 1)) → Dec (length s ≤ from) → (p : Bool)
+        → eqb (get_or s from 0) 10 ≡ p → FirstAtOrAfter s from (newline_from s from)
     go f (yes l) p e = rw (found_none s from l) (λ j a b byte10. let z : ⊥ = omega arith in z)
     go f (no l) true e =
         let byte = eqb-true (get_or s from 0) 10 e in

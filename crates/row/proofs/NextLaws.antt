@@ -1,5 +1,5 @@
--- What stands from a position on as a row: a good line has no byte 10 but its last, so where such a line ends the row ends; and read
--- to the first byte 10 past the least bytes that its letter has, a line says what its row says. Assumes nothing.
+-- What stands from a position on as a row: a good line has no byte 10 but its last, so where such a line ends the row ends; and
+-- read to the first byte 10 past the least bytes that its letter has, a line says what its row says. Assumes nothing.
 use mathlib.Core.Path.{◌≡◌, refl, sym, ap, ◌∙◌}
 use mathlib.Core.Bool.{Bool, true, false}
 use mathlib.Core.List.{[], ◌∷◌, ◌++◌}
@@ -10,20 +10,17 @@ use lib.Dec.{eqb}
 use lib.ListN.{length, get_or, take, drop, take-append-drop, length-drop}
 use lib.Seq.{drop-drop, get_or-drop, take-append-add, length-take-le}
 use borrow.Author.Tests.{eqb-true, eq-eqb}
-use types.Run.{OneOf, miss}
-use denote.Enum.Declared.{tag_of}
 use Rattle.text.specs.Bytes.{Str}
 use Rattle.row.specs.Rows.{row_len, rows, rest_of}
 use Rattle.row.specs.Line.{Content, line_said, reader, line_of, line_at, text_of}
 use Rattle.row.specs.declared.Line.{Line}
 use Rattle.row.specs.declared.Line.TheVariants as line
-use Rattle.row.specs.contracts.Line.{the_type}
 use Rattle.row.proofs.Laws.{row_len-some, row-bounds, rows_at, line_row}
 use Rattle.row.proofs.PrintLaws.{rows-printed}
 use Rattle.row.proofs.ReadLaws.{Good, printed-line}
 
--- a line that is not bad, by its tag
-pub good-line : (l : Line) → OneOf (0 ∷ 1 ∷ 2 ∷ 3 ∷ 4 ∷ 5 ∷ 6 ∷ 7 ∷ 8 ∷ 9 ∷ []) (tag_of the_type l) → Good (line_said l)
+-- a line that is not bad
+pub good-line : (l : Line) → ((letter number column : ℕ) → l ≡ line.Bad letter number column → ⊥) → Good (line_said l)
 unfolding line_said
 good-line line.Root h = tt
 good-line (line.Node i p s x g c o) h = tt
@@ -35,7 +32,7 @@ good-line (line.Scope i b n) h = tt
 good-line line.Unbound h = tt
 good-line (line.Value k b) h = tt
 good-line (line.Word v) h = tt
-good-line (line.Bad x k c) h = miss (0 ∷ 1 ∷ 2 ∷ 3 ∷ 4 ∷ 5 ∷ 6 ∷ 7 ∷ 8 ∷ 9 ∷ []) 10 tt h
+good-line (line.Bad x k c) h = absurd (h x k c refl)
 
 module _ (s : Str) (at e : ℕ) (lo : at < e) (l : Content) (is : l ≡ line_of (take (e - at) (drop at s))) (good : Good l) where
   r : Str
@@ -128,7 +125,8 @@ module _
             rw letter refl
 
     -- it is shorter: n bytes, a byte 10, and more
-    short_row : (n : ℕ) → row_len (drop at s) ≡ suc n → suc n ≤ k → line_of (take (e - at) (drop at s)) ≡ line_at (rows (drop at s))
+    short_row :
+        (n : ℕ) → row_len (drop at s) ≡ suc n → suc n ≤ k → line_of (take (e - at) (drop at s)) ≡ line_at (rows (drop at s))
     unfolding line_at
     short_row n m l =
         let d : Str = drop at s in

@@ -407,7 +407,8 @@ first-row letter ns end rest l h =
     (rows-line (letter ∷ columns ns end) rest (newline_no letter (columns ns end) l ∙ columns-newlines ns end h))
 
 -- a line printed in front of others is their first row
-pub rows-printed : (l : Content) (text rest : Str) → Fits l text → rows (print_line l text ++ rest) ≡ print_line l text ∷ rows rest
+pub rows-printed :
+    (l : Content) (text rest : Str) → Fits l text → rows (print_line l text ++ rest) ≡ print_line l text ∷ rows rest
 unfolding newlines
 rows-printed Root text rest f = first-row 82 [] _ rest (omega arith) (graphic_newlines 64 text f)
 rows-printed (Node i p s x g c o) text rest f = first-row 78 _ _ rest (omega arith) (graphic_newlines 128 text f.7)

@@ -1,20 +1,21 @@
--- A line that has a byte 10 before the least bytes that a good one has: the column or the text in which the byte stands is bad, and
--- all before it is as it was, so that the line has the same fault up to that byte and with what stands after it. Assumes nothing.
-use mathlib.Core.Path.{◌≡◌, refl, sym, ap, ◌∙◌}
+-- A line that has a byte 10 before the least bytes that a good one has: the column or the text in which the byte stands is bad,
+-- and all before it is as it was, so that the line has the same fault up to that byte and with what stands after it.
+-- Assumes nothing.
+use mathlib.Core.Path.{◌≡◌, refl, ap, ◌∙◌}
 use mathlib.Core.Bool.{Bool, true, false}
 use mathlib.Core.List.{[], ◌∷◌, ◌++◌}
 use mathlib.Core.Option.{Option, none, some}
 use Prim.Native.Nat.{ℕ, zero, suc, ◌+◌, ◌-◌, ◌*◌, ◌^◌, ◌<◌, ◌≤◌}
 use native.Mathlib.Decide.{dec_lt}
 use native.Mathlib.Omega.{arith}
-use native.Mathlib.Numerals.{sub-one}
 use lib.Dec.{eqb, ltb}
 use lib.ListN.{length, get_or, take, drop, drop_of_length-le, length-drop}
 use lib.Seq.{drop-append-le, drop-append_seam, take-append-le, take-append-add}
 use borrow.Author.Tests.{lt-ltb, le-ltb}
 use Rattle.text.specs.Bytes.{Str, cond}
 use Rattle.column.specs.Number.{trimmed, digits, lone, unpadded, number, within, column_of}
-use Rattle.column.specs.Texts.{sized, may_be_name, ends_in, is_word, is_graphic, all, are_chars, is_name, is_field_name, is_graphic_text}
+use Rattle.column.specs.Texts.{sized, may_be_name, ends_in, is_word, is_graphic, all, are_chars}
+use Rattle.column.specs.Texts.{is_name, is_field_name, is_graphic_text}
 use Rattle.row.specs.Line.{Content, Bad, fault, letter_of, given, with_number, with_text}
 use Rattle.row.specs.Line.{root_line, node_line, parameter_line, field_line, group_line}
 use Rattle.row.specs.Line.{type_line, scope_line, value_line, word_line, most_a, most_b, most_c, most_count, most_bits}

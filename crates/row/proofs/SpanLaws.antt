@@ -94,7 +94,8 @@ module _ (s : Str) (at next : ℕ) where
       go true h = let l = ltb-true at (min (length s) next) h in to_within s at (min (length s) next) l (omega arith)
       go false h = (omega arith, omega arith)
 
-  between-text : rows (drop next s) ≡ rest_of (rows (drop at s)) → spanned s (span_between s at next) ≡ text_at (rows (drop at s))
+  between-text :
+      rows (drop next s) ≡ rest_of (rows (drop at s)) → spanned s (span_between s at next) ≡ text_at (rows (drop at s))
   unfolding span_between
   between-text is = go (ltb at (min (length s) next)) refl
     where
@@ -123,5 +124,6 @@ module _ (s : Str) (at next : ℕ) where
   pub between-told :
       (p : Span) → p ≡ span_between s at next
       → SpanWithin s p
-      × ((rows (drop next s) ≡ rest_of (rows (drop at s)) → spanned s p ≡ text_at (rows (drop at s))) × (p ≡ span_between s at next))
+      × ((rows (drop next s) ≡ rest_of (rows (drop at s)) → spanned s p ≡ text_at (rows (drop at s)))
+      × (p ≡ span_between s at next))
   between-told p e = rw e (between-within, (between-text, refl))

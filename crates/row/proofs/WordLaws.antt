@@ -122,7 +122,14 @@ zeros-below : (j k m : ℕ) → count_trailing_zeros (j + k) (m * 2 ^ j) ≡ j +
 unfolding count_trailing_zeros
 zeros-below zero k m = rw (zero-add k, mul-one m, zero-add (count_trailing_zeros k m))
 zeros-below (suc j) k m =
-    rw (suc-add j k, count_trailing_zeros, shifted_even m j, shifted_half m j, zeros-below j k m, suc-add j (count_trailing_zeros k m))
+    rw (
+      suc-add j k,
+      count_trailing_zeros,
+      shifted_even m j,
+      shifted_half m j,
+      zeros-below j k m,
+      suc-add j (count_trailing_zeros k m),
+    )
 
 zeros-bit : (k m : ℕ) → count_trailing_zeros (8 + k) (m * 256 + 0x80) ≡ 7
 unfolding count_trailing_zeros
@@ -154,7 +161,9 @@ zeros_least k zero n l h = zero-le
 zeros_least zero (suc j) n l h = l
 zeros_least (suc k) (suc j) n l h = go (zeros_least k j (n / 2) (le_of_suc-le-suc l)) (n % 2) refl
   where
-    go : (n / 2 % 2 ^ j ≡ 0 → j ≤ count_trailing_zeros k (n / 2)) → (d : ℕ) → n % 2 ≡ d → suc j ≤ under d (count_trailing_zeros k (n / 2))
+    go :
+        (n / 2 % 2 ^ j ≡ 0 → j ≤ count_trailing_zeros k (n / 2)) → (d : ℕ) → n % 2 ≡ d
+        → suc j ≤ under d (count_trailing_zeros k (n / 2))
     go f zero e = suc-le-suc (f (omega (arith, lower_digits n j)))
     go f (suc d) e = let z : ⊥ = omega (arith, lower_digits n j) in absurd z
 
@@ -170,7 +179,8 @@ bits-more n v b h = rw (digits_div v h, digits_mod v h)
 
 -- the lowest bit of bytes, in eights: so many as stand before the first byte 10
 lowest_bit :
-    (t : Str) → ((j : ℕ) → get_or t j 0 < 256) → count_trailing_zeros (length t * 8) (newline_bits (length t) (word_of t)) / 8 ≡ lead t
+    (t : Str) → ((j : ℕ) → get_or t j 0 < 256)
+    → count_trailing_zeros (length t * 8) (newline_bits (length t) (word_of t)) / 8 ≡ lead t
 unfolding word_of newline_bits lead count_trailing_zeros
 lowest_bit [] h = refl
 lowest_bit (b ∷ t) h =

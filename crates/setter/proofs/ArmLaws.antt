@@ -189,7 +189,8 @@ module _ (rs : Rows) (sheet : Sheet) (j : ℕ) (several : Bool) (e : j ≡ kind_
     abbrev Takes : Ty → Type 0
     Takes ty = (el : Ty) → ty ≡ list el → Writes (list_reader_type sheet el ty) l t l' q
 
-    pub on-several : several ≡ true → On (read_type 16 rs) (λ ty. Writes (input_type sheet ty) l t l' q) → On (read_type 16 rs) Takes
+    pub on-several : several ≡ true → On (read_type 16 rs) (λ ty. Writes (input_type sheet ty) l t l' q)
+        → On (read_type 16 rs) Takes
     on-several h x =
         on-two (λ ty. ElementIs ty (kind_at (rest_of rs))) (λ ty. Writes (input_type sheet ty) l t l' q) Takes
         (read_type 16 rs) (λ ty i w el z. rw (chosen ty el true h i z) w) (element_at 16 rs) x
@@ -197,7 +198,8 @@ module _ (rs : Rows) (sheet : Sheet) (j : ℕ) (several : Bool) (e : j ≡ kind_
     pub on-one-input : several ≡ false → On (read_type 16 rs) (λ ty. Writes (type_string ty sheet (Reader Anonymous)) l t l' q)
         → On (read_type 16 rs) Takes
     on-one-input h x =
-        on-two (λ ty. ElementIs ty (kind_at (rest_of rs))) (λ ty. Writes (type_string ty sheet (Reader Anonymous)) l t l' q) Takes
+        on-two (λ ty. ElementIs ty (kind_at (rest_of rs)))
+        (λ ty. Writes (type_string ty sheet (Reader Anonymous)) l t l' q) Takes
         (read_type 16 rs) (λ ty i w el z. rw (chosen ty el false h i z) w) (element_at 16 rs) x
 
 -- ---- the arms whose type has one row

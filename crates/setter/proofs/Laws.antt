@@ -85,14 +85,16 @@ module _ (root : Str) (tag : ℕ) (name : Str) (d : ℕ) where
   -- a setter and an initializer
   abbrev both_parts : ℕ → Bool → Str → Str → Str → Parts
   both_parts offset sized line reader_type builder_type =
-      setter_and_initter (line_alone (set_pointer root offset)) reader_type true (size_param sized) (line_alone line) builder_type option.none
+      setter_and_initter (line_alone (set_pointer root offset)) reader_type true (size_param sized) (line_alone line)
+      builder_type option.none
 
   both_out : (offset : ℕ) (sized : Bool) (line : Str) (o o' : Out Str)
       → ((o then λ a. ok (set_open name ++ a ++ set_end root tag d offset)) then λ x.
       (o' then λ b. ok (init_open name sized ++ b ++ init_end tag d line)) then λ y. ok (x ++ y))
       ≡ made (o then λ a. o' then λ b. ok (both_parts offset sized line a b))
   both_out offset sized line (ok a) (ok b) =
-      ap ok (joined (set_open name) a (set_close root true) (tag_line tag d) (ascii "    ") (set_pointer root offset) (ascii "\n}\n")
+      ap ok (joined (set_open name) a (set_close root true) (tag_line tag d) (ascii "    ") (set_pointer root offset)
+      (ascii "\n}\n")
       (init_open name sized) b (ascii " {\n") line
       ∙ both-text root tag name d (set_pointer root offset) a true sized line b)
     where
@@ -106,7 +108,8 @@ module _ (root : Str) (tag : ℕ) (name : Str) (d : ℕ) where
   -- a parameter's functions
   abbrev three_parts : ℕ → Str → Str → Str → Str → Parts
   three_parts offset initn initter builder_type owned =
-      setter_and_initter (line_alone (set_pointer root offset)) (setter_input root owned) true [] (line_alone initter) builder_type
+      setter_and_initter (line_alone (set_pointer root offset)) (setter_input root owned) true [] (line_alone initter)
+      builder_type
       (some (builder_type, initn))
 
   three-out : (offset : ℕ) (initn initter : Str) (o o' : Out Str)
@@ -120,7 +123,8 @@ module _ (root : Str) (tag : ℕ) (name : Str) (d : ℕ) where
       ∙ parameter-text root tag name d (set_pointer root offset) (setter_input root w) initter b initn)
     where
       joined : (p b w u sp n z q r c v i m : Str)
-          → (p ++ b ++ (w ++ u ++ sp ++ n ++ z)) ++ ((q ++ r ++ (c ++ u ++ sp ++ v ++ z)) ++ (i ++ b ++ (w ++ u ++ sp ++ m ++ z)))
+          → (p ++ b ++ (w ++ u ++ sp ++ n ++ z))
+          ++ ((q ++ r ++ (c ++ u ++ sp ++ v ++ z)) ++ (i ++ b ++ (w ++ u ++ sp ++ m ++ z)))
           ≡ (p ++ b ++ w ++ u ++ sp ++ n ++ z) ++ ((q ++ r ++ c ++ u ++ sp ++ v ++ z) ++ (i ++ b ++ w ++ u ++ sp ++ m ++ z))
       joined p b w u sp n z q r c v i m = simp append_assoc
   three-out offset initn initter (ok b) (refused k) = refl

@@ -1,15 +1,15 @@
 -- Types by their kind, and the element of a list that is read in the sheet. Assumes nothing.
 use mathlib.Core.Path.{◌≡◌, sym, ap}
 use mathlib.Core.Bool.{Bool, true, false}
-use Prim.Native.Nat.{ℕ, zero, suc, ◌<◌, ◌≤◌}
+use Prim.Native.Nat.{ℕ, zero, suc, ◌≤◌}
 use native.Mathlib.Omega.{arith}
 use lib.Dec.{eqb, ltb}
 use Rattle.text.specs.Bytes.{cond}
 use Rattle.row.specs.Rows.{rest_of}
-use Rattle.row.specs.Line.{fault, line_at}
+use Rattle.row.specs.Line.{fault}
 use Rattle.tree.specs.Tree as tree
 use Rattle.tree.specs.Tree.{Ty, plain, list, enum, struct, interface, any_pointer, parameter, kind, Scopes, end}
-use Rattle.tree.specs.Reader.{Rows, Reader, got, no, map_r, times, On}
+use Rattle.tree.specs.Reader.{Rows, got, no, map_r, times, On}
 use Rattle.tree.specs.Read as read
 use Rattle.tree.specs.Read.{read_type, type_from, branded}
 use Rattle.types.specs.Find.{kind_at}
@@ -130,14 +130,17 @@ element_at (suc n) rs =
   where
     go : (k a b c : ℕ) (x y z w : Bool)
         → On (cond x (got (plain k)) (cond y (map_r (λ t. list t) (read_type n)) (cond z
-        (map_r (branded k a) (times (read.read_scope (read_type n)) end b)) (got (cond w any_pointer (parameter b c))))) (rest_of rs))
+        (map_r (branded k a) (times (read.read_scope (read_type n)) end b)) (got (cond w any_pointer (parameter b c)))))
+        (rest_of rs))
         (λ ty. ElementIs ty (kind_at (rest_of rs)))
     go k a b c true y z w = tt
     go k a b c false true z w =
         on-map (λ t. list t) (λ ty. ElementIs ty (kind_at (rest_of rs))) (read_type n (rest_of rs)) (type-kind n (rest_of rs))
     go k a b c false false true w =
-        on-map (branded k a) (λ ty. ElementIs ty (kind_at (rest_of rs))) (times (read.read_scope (read_type n)) end b (rest_of rs))
-        (on-all {P = λ ss. ElementIs (branded k a ss) (kind_at (rest_of rs))} (λ ss. branded_element k a ss (kind_at (rest_of rs)))
+        on-map (branded k a) (λ ty. ElementIs ty (kind_at (rest_of rs)))
+        (times (read.read_scope (read_type n)) end b (rest_of rs))
+        (on-all {P = λ ss. ElementIs (branded k a ss) (kind_at (rest_of rs))}
+        (λ ss. branded_element k a ss (kind_at (rest_of rs)))
         (times (read.read_scope (read_type n)) end b (rest_of rs)))
     go k a b c false false false true = tt
     go k a b c false false false false = tt

@@ -39,7 +39,8 @@ one_line head o d line more =
     (interior o d line)
 
 -- `) `, the return type and ` {`
-set-close : (root : Str) (result : Bool) → ascii ") " ++ return_type root result ++ (ascii " {" ++ unit 10) ≡ set_close root result
+set-close : (root : Str) (result : Bool)
+    → ascii ") " ++ return_type root result ++ (ascii " {" ++ unit 10) ≡ set_close root result
 set-close root true = ap (λ (x : Str). ascii ") -> " ++ x) (append_assoc root (ascii "::Result<()>") (ascii " {\n"))
 set-close root false = refl
 
@@ -51,7 +52,8 @@ set_head root name typ result =
     ++ ascii " {"
 
 abbrev init_head : Str → Bool → Str → Str
-init_head name sized typ = ascii "pub fn init_" ++ name ++ ascii "(self, " ++ size_param sized ++ ascii ") -> " ++ typ ++ ascii " {"
+init_head name sized typ =
+    ascii "pub fn init_" ++ name ++ ascii "(self, " ++ size_param sized ++ ascii ") -> " ++ typ ++ ascii " {"
 
 abbrev initn_head : Str → Str → Str
 initn_head name typ = ascii "pub fn initn_" ++ name ++ ascii "(self, length: u32) -> " ++ typ ++ ascii " {"
@@ -62,9 +64,11 @@ set_lines : (root name typ : Str) (result : Bool) (o d : ℕ) (line : Str) (more
     ≡ set_text root name typ result (tag_line o d) line ++ ended (flat_map more 0)
 set_lines root name typ result o d line more =
     one_line (set_head root name typ result) o d line more
-    ∙ joined (ascii "#[inline]\n") (ascii "pub fn set_") name (ascii "(&mut self, ") (ascii "value") (ascii ": ") typ (ascii ") ")
-    (return_type root result) (ascii " {") (unit 10) (tag_line o d) (ascii "    ") line (ascii "}\n") (ended (flat_map more 0))
-    ∙ ap (λ (x : Str). set_open name ++ typ ++ x ++ tag_line o d ++ ascii "    " ++ line ++ ascii "\n}\n" ++ ended (flat_map more 0))
+    ∙ joined (ascii "#[inline]\n") (ascii "pub fn set_") name (ascii "(&mut self, ") (ascii "value") (ascii ": ") typ
+    (ascii ") ") (return_type root result) (ascii " {") (unit 10) (tag_line o d)
+    (ascii "    ") line (ascii "}\n") (ended (flat_map more 0))
+    ∙ ap (λ (x : Str). set_open name ++ typ ++ x ++ tag_line o d ++ ascii "    " ++ line ++ ascii "\n}\n"
+    ++ ended (flat_map more 0))
     (set-close root result)
   where
     joined : (i p name q v c typ a ret b n tag sp line e more : Str)
@@ -131,10 +135,12 @@ module _ (root : Str) (o : ℕ) (name : Str) (d : ℕ) where
       (setter_and_initter (line_alone line) reader_type result (size_param sized) (line_alone initter) builder_type option.none))
   unfolding to_lines flat_map ended
   both-text line reader_type result sized initter builder_type =
-      sym (function-text (set_head root name reader_type result) (tagged o d (line_alone line)) (init_fn sized initter builder_type)
+      sym (function-text (set_head root name reader_type result) (tagged o d (line_alone line))
+      (init_fn sized initter builder_type)
       ∙ set_lines root name reader_type result o d line (init_fn sized initter builder_type)
       ∙ ap (λ (x : Str). set_text root name reader_type result (tag_line o d) line ++ x)
-      (init_lines name sized builder_type o d initter none ∙ append-nil (init_text name sized builder_type (tag_line o d) initter)))
+      (init_lines name sized builder_type o d initter none
+      ∙ append-nil (init_text name sized builder_type (tag_line o d) initter)))
 
   pub parameter-text : (line reader_type initter builder_type initn : Str)
       → initn_text name builder_type (tag_line o d) initn
@@ -148,7 +154,8 @@ module _ (root : Str) (o : ℕ) (name : Str) (d : ℕ) where
       ∙ ap (λ (x : Str). initn_text name builder_type (tag_line o d) initn ++ x)
       (set_lines root name reader_type true o d line (init_fn false initter builder_type)
       ∙ ap (λ (x : Str). set_text root name reader_type true (tag_line o d) line ++ x)
-      (init_lines name false builder_type o d initter none ∙ append-nil (init_text name false builder_type (tag_line o d) initter))))
+      (init_lines name false builder_type o d initter none
+      ∙ append-nil (init_text name false builder_type (tag_line o d) initter))))
 
   pub void-text :
       ascii "#[inline]\npub fn set_" ++ name ++ ascii "(&mut self, _value: ())  {\n" ++ tag_line o d ++ ascii "}\n"
@@ -225,8 +232,8 @@ pub init_call : (root : Str) (offset : ℕ) (size : Str)
     ++ ascii ")" ≡ init_pointer root offset size
 init_call root offset size =
     ap (λ (x : Str). x ++ size ++ ascii ")")
-    (in_call root (ascii "::traits::FromPointerBuilder::init_pointer(") (ascii "self.builder.get_pointer_field(") (decimal offset)
-    (ascii ")") (ascii ", "))
+    (in_call root (ascii "::traits::FromPointerBuilder::init_pointer(") (ascii "self.builder.get_pointer_field(")
+    (decimal offset) (ascii ")") (ascii ", "))
 
 -- a function whose type begins with the root and whose line is a call on a pointer field
 pub field-line : (x root b c tag sp p o q u e : Str)

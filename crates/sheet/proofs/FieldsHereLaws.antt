@@ -13,7 +13,7 @@ use Rattle.tree.specs.Reader.{Rows, Reading, got, no, Reader, ◌then◌, map_r}
 use Rattle.tree.specs.Read.{overlap, read_field, is_field, group_id, fields_up_to, read_fields}
 use Rattle.tree.specs.Fields as fields
 use Rattle.tree.specs.Fields.{FieldsHere}
-use Rattle.tree.proofs.TailLaws.{Tail, here, later, tail_trans, Leaves, none, leaves-passed, tail_length}
+use Rattle.tree.proofs.TailLaws.{Tail, here, later, tail_trans, Leaves, leaves-passed, tail_length}
 use Rattle.tree.proofs.FieldLaws.{leaves_field, fields-here}
 
 -- what is read, if anything is: these fields stand at the rows, and a tail of the rows follows them

@@ -1,3 +1,4 @@
+pub mod OtherLaws
 pub mod FlagsLaws
 pub mod RoomLaws
 pub mod FieldsLaws

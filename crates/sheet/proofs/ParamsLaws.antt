@@ -164,7 +164,8 @@ module _ (s : Str) (rs : Rows) (marks : ℕ) (x y : List ℕ) (at count place : 
 
         each : (b : Bool) → has_mark count ≡ b → (j : ℕ) → mark_every * suc j < count + 1
             → marks + j < length (cond b (set y place at) y)
-            → names_of (rows (drop (get_or (cond b (set y place at) y) (marks + j) 0) s)) ≡ drop (mark_every * suc j) (names_of rs)
+            → names_of (rows (drop (get_or (cond b (set y place at) y) (marks + j) 0) s))
+            ≡ drop (mark_every * suc j) (names_of rs)
         each true m j h i = go (ℕ_discrete (mark_every * suc j) count)
           where
             go : Dec (mark_every * suc j ≡ count)

@@ -2,7 +2,6 @@
 use Rattle.std.specs.Prelude.{List, ℕ}
 use Rattle.std.proofs.Math.Option.{Option, none, some}
 use Rattle.text.specs.Bytes.{Str}
-use Rattle.tree.specs.Tree.{Sheet}
 use Rattle.tree.specs.Read.{Admitted, sheet, refused}
 use Rattle.nodes.specs.Index.{Indexed}
 use Rattle.sheet.specs.declared.Answer.{Answer}

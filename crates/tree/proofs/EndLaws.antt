@@ -8,10 +8,10 @@ use borrow.Author.Tests.{eq-eqb, ne_eqb}
 use types.Run.{OneOf, miss}
 use denote.Enum.Declared.{tag_of}
 use Rattle.row.specs.contracts.Line.{the_type}
-use Rattle.row.specs.Line.{Fault, line_said, fault_of}
+use Rattle.row.specs.Line.{Fault, line_said}
 use Rattle.row.specs.declared.Line.{Line}
 use Rattle.row.specs.declared.Line.TheVariants.{Root, Node, Parameter, Field, Group, Typ, Scope, Unbound, Value, Word, Bad}
-use Rattle.tree.specs.Walked.{refused_by, end_at, wrong_at}
+use Rattle.tree.specs.Walked.{refused_by, end_at}
 use Rattle.tree.specs.declared.Walk.{Walk}
 use Rattle.tree.specs.declared.Walk.TheVariants.{Next, Refused}
 use Rattle.tree.proofs.OtherLines.{never}

@@ -1,15 +1,15 @@
 -- A line of one letter is no line of another: where a `match` on what the code says of a row leaves a letter out, that letter's
 -- reader takes the other way. Assumes nothing.
 use mathlib.Core.Path.{◌≡◌, refl}
-use mathlib.Core.Bool.{false}
-use mathlib.Core.List.{[], ◌∷◌}
+use mathlib.Core.List.{List, [], ◌∷◌}
 use Prim.Native.Nat.{ℕ}
 use native.Mathlib.Omega.{arith}
-use types.Run.{OneOf, miss}
+use types.Run.{OneOf, hit, miss}
 use denote.Enum.Declared.{tag_of}
 use Rattle.row.specs.contracts.Line.{the_type}
 use Rattle.text.specs.Bytes.{either}
-use Rattle.row.specs.Line.{line_said, as_root, as_node, as_parameter, as_field, as_type, as_scope, as_unbound, as_value, as_word, fault_of}
+use Rattle.row.specs.Line.{line_said, as_root, as_node, as_parameter, as_field, as_type, as_scope, as_unbound, as_value, as_word}
+use Rattle.row.specs.Line.{fault_of}
 use Rattle.tree.specs.Read.{is_some, is_field}
 use Rattle.row.specs.declared.Line.{Line}
 use Rattle.row.specs.declared.Line.TheVariants.{Root, Node, Parameter, Field, Group, Typ, Scope, Unbound, Value, Word, Bad}
@@ -164,6 +164,103 @@ not_a_field Unbound h = refl
 not_a_field (Value a b) h = refl
 not_a_field (Word a) h = refl
 not_a_field (Bad x k c) h = refl
+
+-- the tag of a line that is not of one letter, or not bad, as the `match`es tell it
+abbrev but_Typ : List ℕ
+but_Typ = 0 ∷ 1 ∷ 2 ∷ 3 ∷ 4 ∷ 6 ∷ 7 ∷ 8 ∷ 9 ∷ 10 ∷ []
+
+pub not_type-tag : (l : Line) → ((a b c d : ℕ) → l ≡ Typ a b c d → ⊥) → OneOf but_Typ (tag_of the_type l)
+not_type-tag Root h = hit but_Typ 0 tt
+not_type-tag (Node a b c d e f g) h = hit but_Typ 1 tt
+not_type-tag Parameter h = hit but_Typ 2 tt
+not_type-tag (Field a b c d) h = hit but_Typ 3 tt
+not_type-tag (Group a b) h = hit but_Typ 4 tt
+not_type-tag (Typ a b c d) h = absurd (h a b c d refl)
+not_type-tag (Scope a b c) h = hit but_Typ 6 tt
+not_type-tag Unbound h = hit but_Typ 7 tt
+not_type-tag (Value a b) h = hit but_Typ 8 tt
+not_type-tag (Word a) h = hit but_Typ 9 tt
+not_type-tag (Bad x k c) h = hit but_Typ 10 tt
+
+abbrev but_Scope : List ℕ
+but_Scope = 0 ∷ 1 ∷ 2 ∷ 3 ∷ 4 ∷ 5 ∷ 7 ∷ 8 ∷ 9 ∷ 10 ∷ []
+
+pub not_scope-tag : (l : Line) → ((a b c : ℕ) → l ≡ Scope a b c → ⊥) → OneOf but_Scope (tag_of the_type l)
+not_scope-tag Root h = hit but_Scope 0 tt
+not_scope-tag (Node a b c d e f g) h = hit but_Scope 1 tt
+not_scope-tag Parameter h = hit but_Scope 2 tt
+not_scope-tag (Field a b c d) h = hit but_Scope 3 tt
+not_scope-tag (Group a b) h = hit but_Scope 4 tt
+not_scope-tag (Typ a b c d) h = hit but_Scope 5 tt
+not_scope-tag (Scope a b c) h = absurd (h a b c refl)
+not_scope-tag Unbound h = hit but_Scope 7 tt
+not_scope-tag (Value a b) h = hit but_Scope 8 tt
+not_scope-tag (Word a) h = hit but_Scope 9 tt
+not_scope-tag (Bad x k c) h = hit but_Scope 10 tt
+
+abbrev but_Unbound : List ℕ
+but_Unbound = 0 ∷ 1 ∷ 2 ∷ 3 ∷ 4 ∷ 5 ∷ 6 ∷ 8 ∷ 9 ∷ 10 ∷ []
+
+pub not_unbound-tag : (l : Line) → (l ≡ Unbound → ⊥) → OneOf but_Unbound (tag_of the_type l)
+not_unbound-tag Root h = hit but_Unbound 0 tt
+not_unbound-tag (Node a b c d e f g) h = hit but_Unbound 1 tt
+not_unbound-tag Parameter h = hit but_Unbound 2 tt
+not_unbound-tag (Field a b c d) h = hit but_Unbound 3 tt
+not_unbound-tag (Group a b) h = hit but_Unbound 4 tt
+not_unbound-tag (Typ a b c d) h = hit but_Unbound 5 tt
+not_unbound-tag (Scope a b c) h = hit but_Unbound 6 tt
+not_unbound-tag Unbound h = absurd (h refl)
+not_unbound-tag (Value a b) h = hit but_Unbound 8 tt
+not_unbound-tag (Word a) h = hit but_Unbound 9 tt
+not_unbound-tag (Bad x k c) h = hit but_Unbound 10 tt
+
+abbrev but_Value : List ℕ
+but_Value = 0 ∷ 1 ∷ 2 ∷ 3 ∷ 4 ∷ 5 ∷ 6 ∷ 7 ∷ 9 ∷ 10 ∷ []
+
+pub not_value-tag : (l : Line) → ((a b : ℕ) → l ≡ Value a b → ⊥) → OneOf but_Value (tag_of the_type l)
+not_value-tag Root h = hit but_Value 0 tt
+not_value-tag (Node a b c d e f g) h = hit but_Value 1 tt
+not_value-tag Parameter h = hit but_Value 2 tt
+not_value-tag (Field a b c d) h = hit but_Value 3 tt
+not_value-tag (Group a b) h = hit but_Value 4 tt
+not_value-tag (Typ a b c d) h = hit but_Value 5 tt
+not_value-tag (Scope a b c) h = hit but_Value 6 tt
+not_value-tag Unbound h = hit but_Value 7 tt
+not_value-tag (Value a b) h = absurd (h a b refl)
+not_value-tag (Word a) h = hit but_Value 9 tt
+not_value-tag (Bad x k c) h = hit but_Value 10 tt
+
+abbrev but_Word : List ℕ
+but_Word = 0 ∷ 1 ∷ 2 ∷ 3 ∷ 4 ∷ 5 ∷ 6 ∷ 7 ∷ 8 ∷ 10 ∷ []
+
+pub not_word-tag : (l : Line) → ((a : ℕ) → l ≡ Word a → ⊥) → OneOf but_Word (tag_of the_type l)
+not_word-tag Root h = hit but_Word 0 tt
+not_word-tag (Node a b c d e f g) h = hit but_Word 1 tt
+not_word-tag Parameter h = hit but_Word 2 tt
+not_word-tag (Field a b c d) h = hit but_Word 3 tt
+not_word-tag (Group a b) h = hit but_Word 4 tt
+not_word-tag (Typ a b c d) h = hit but_Word 5 tt
+not_word-tag (Scope a b c) h = hit but_Word 6 tt
+not_word-tag Unbound h = hit but_Word 7 tt
+not_word-tag (Value a b) h = hit but_Word 8 tt
+not_word-tag (Word a) h = absurd (h a refl)
+not_word-tag (Bad x k c) h = hit but_Word 10 tt
+
+abbrev but_Bad : List ℕ
+but_Bad = 0 ∷ 1 ∷ 2 ∷ 3 ∷ 4 ∷ 5 ∷ 6 ∷ 7 ∷ 8 ∷ 9 ∷ []
+
+pub not_bad-tag : (l : Line) → ((x k c : ℕ) → l ≡ Bad x k c → ⊥) → OneOf but_Bad (tag_of the_type l)
+not_bad-tag Root h = hit but_Bad 0 tt
+not_bad-tag (Node a b c d e f g) h = hit but_Bad 1 tt
+not_bad-tag Parameter h = hit but_Bad 2 tt
+not_bad-tag (Field a b c d) h = hit but_Bad 3 tt
+not_bad-tag (Group a b) h = hit but_Bad 4 tt
+not_bad-tag (Typ a b c d) h = hit but_Bad 5 tt
+not_bad-tag (Scope a b c) h = hit but_Bad 6 tt
+not_bad-tag Unbound h = hit but_Bad 7 tt
+not_bad-tag (Value a b) h = hit but_Bad 8 tt
+not_bad-tag (Word a) h = hit but_Bad 9 tt
+not_bad-tag (Bad x k c) h = absurd (h x k c refl)
 
 -- from two numbers that are not equal, anything
 pub never : {A : Type 0} → ◌≡◌ {A = ℕ} 0 1 → A

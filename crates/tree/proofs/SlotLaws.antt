@@ -23,7 +23,8 @@ use Rattle.tree.proofs.OtherLines.{not-value, not-word}
 use Rattle.tree.proofs.WalkLaws.{passed-map, passed_then, passed-walk, fault_or, told_wrong}
 use Rattle.row.specs.declared.Line.TheVariants as line
 
-words_more : (n : ℕ) (rs : Rows) → 0 < n → read_words_up_to n rs ≡ on_word (λ w. map_r (w ∷◌) (read_words_up_to (n - 1))) (got []) rs
+words_more : (n : ℕ) (rs : Rows) → 0 < n
+    → read_words_up_to n rs ≡ on_word (λ w. map_r (w ∷◌) (read_words_up_to (n - 1))) (got []) rs
 unfolding read_words_up_to
 words_more zero rs h = let z : ⊥ = omega arith in absurd z
 words_more (suc n) rs h = rw (sub-one (suc n))
@@ -104,7 +105,8 @@ module _ (rs rest : Rows) (l : Line) (here : line_said l ≡ line_at rs) (after 
         OneOf (0 ∷ 1 ∷ 2 ∷ 3 ∷ 4 ∷ 5 ∷ 6 ∷ 7 ∷ 8 ∷ 10 ∷ []) (tag_of the_type l)
         → no (fault_or (fault_of 87 (line_said l))) rs ≡ passed (read_words has rs)
     unfolding read_words
-    words-missing o = rw (is, ← here, not-word {A = Reader _} l _ _ o, ← here) (ap passed (sym (told_wrong (fault_of 87 (line_said l)) rs)))
+    words-missing o =
+        rw (is, ← here, not-word {A = Reader _} l _ _ o, ← here) (ap passed (sym (told_wrong (fault_of 87 (line_said l)) rs)))
 
   -- the first row is where a slot's type ends
   module _ (o e p : ℕ) (from : Rows) (ended : got tt rs ≡ passed (read_type 16 from)) where
@@ -113,7 +115,8 @@ module _ (rs rest : Rows) (l : Line) (here : line_said l ≡ line_at rs) (after 
         → no (fault_or (fault_of 86 (line_said l))) rs ≡ passed (read_slot o e p from)
     unfolding after_type value_of
     slot-value z =
-        sym (slot-passed o e p from ∙ rw (← ended, ← here, not-value {A = Reader _} l _ _ z, ← here) (go (fault_of 86 (line_said l))))
+        sym (slot-passed o e p from ∙ rw (← ended, ← here, not-value {A = Reader _} l _ _ z, ← here)
+        (go (fault_of 86 (line_said l))))
       where
         go : (k : Option Fault)
             → passed (◌then◌ {A = Value} (told k (no misplaced) rs) (λ v. read_words (has_words e v.kind))) ≡ no (fault_or k) rs

@@ -12,7 +12,7 @@ use lib.Dec.{eqb, ltb}
 use Rattle.text.specs.Bytes.{Str, cond}
 use Rattle.row.specs.Rows.{rest_of, size}
 use Rattle.row.specs.Line.{Fault, fault, misplaced, Content, line_at, cases, fault_of}
-use Rattle.tree.specs.Tree.{Ty, end, inherit, bind, stop, unbound, bound, Field}
+use Rattle.tree.specs.Tree.{Ty, end, inherit, bind, stop, unbound, bound}
 use Rattle.tree.specs.Reader.{Rows, Reading, got, no, Reader, ◌then◌, map_r, told, or_fault, times, on_type, on_scope}
 use Rattle.tree.specs.Reader.{on_unbound, on_value, on_word}
 use Rattle.tree.specs.Read.{read_binding, read_scope, type_from, read_type, value_of, read_words_up_to, has_words, read_words}

@@ -148,7 +148,8 @@ module _ (rs rest : Rows) (l : Line) (here : line_said l ≡ line_at rs) (after 
       scope-inherit h = rw (← here, is, eq-eqb b 0 h, ← after)
 
       pub scope-bind :
-          (w : Reading (Unit {0})) → (b ≡ 0 → ⊥) → w ≡ passed (times (read_binding ty) stop n rest) → w ≡ passed (read_scope ty rs)
+          (w : Reading (Unit {0})) → (b ≡ 0 → ⊥) → w ≡ passed (times (read_binding ty) stop n rest)
+          → w ≡ passed (read_scope ty rs)
       unfolding line_said read_scope
       scope-bind w h e = e ∙ sym (rw (← here, is, ne_eqb b 0 h, ← after) (passed-map _ (times (read_binding ty) stop n rest)))
 
@@ -156,7 +157,8 @@ module _ (rs rest : Rows) (l : Line) (here : line_said l ≡ line_at rs) (after 
         OneOf (0 ∷ 1 ∷ 2 ∷ 3 ∷ 4 ∷ 5 ∷ 7 ∷ 8 ∷ 9 ∷ 10 ∷ []) (tag_of the_type l)
         → no (fault_or (fault_of 83 (line_said l))) rs ≡ passed (read_scope ty rs)
     unfolding read_scope
-    scope_other o = rw (← here, not-scope {A = Reader _} l _ _ o, ← here) (ap passed (sym (told_wrong (fault_of 83 (line_said l)) rs)))
+    scope_other o =
+        rw (← here, not-scope {A = Reader _} l _ _ o, ← here) (ap passed (sym (told_wrong (fault_of 83 (line_said l)) rs)))
 
   module _ (left : ℕ) where
     type_of-more : (left ≡ 0 → ⊥) → read_type left rs ≡ on_type (type_from (read_type (left - 1))) (no misplaced) rs
@@ -174,8 +176,10 @@ module _ (rs rest : Rows) (l : Line) (here : line_said l ≡ line_at rs) (after 
     type_other o = go left
       where
         go : (m : ℕ) → no (fault_or (fault_of 84 (line_said l))) rs ≡ passed (read_type m rs)
-        go zero = rw (← here, not-type {A = Reader _} l _ _ o, ← here) (ap passed (sym (told_wrong (fault_of 84 (line_said l)) rs)))
-        go (suc m) = rw (← here, not-type {A = Reader _} l _ _ o, ← here) (ap passed (sym (told_wrong (fault_of 84 (line_said l)) rs)))
+        go zero =
+            rw (← here, not-type {A = Reader _} l _ _ o, ← here) (ap passed (sym (told_wrong (fault_of 84 (line_said l)) rs)))
+        go (suc m) =
+            rw (← here, not-type {A = Reader _} l _ _ o, ← here) (ap passed (sym (told_wrong (fault_of 84 (line_said l)) rs)))
 
     module _ (k a b c : ℕ) (is : l ≡ Typ k a b c) where
       pub type-deep : left ≡ 0 → no (fault 4 1) rs ≡ passed (read_type left rs)
@@ -195,7 +199,9 @@ module _ (rs rest : Rows) (l : Line) (here : line_said l ≡ line_at rs) (after 
           → w ≡ passed (read_type (left - 1) rest) → w ≡ passed (read_type left rs)
       unfolding type_from
       type-list w h e p =
-          p ∙ sym (rw (type-here h, type_from, le-ltb k 14 (omega arith), eq-eqb k 14 e) (passed-map _ (read_type (left - 1) rest)))
+          p
+          ∙ sym (rw (type-here h, type_from, le-ltb k 14 (omega arith), eq-eqb k 14 e)
+          (passed-map _ (read_type (left - 1) rest)))
 
       pub type-branded :
           (w : Reading (Unit {0})) → (left ≡ 0 → ⊥) → 14 ≤ k → (k ≡ 14 → ⊥) → k < 18

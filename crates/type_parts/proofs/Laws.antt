@@ -6,9 +6,6 @@ use Prim.Native.Nat.{ℕ, zero, suc, ◌-◌, ◌<◌, ◌≤◌}
 use native.Mathlib.Numerals.{sub-one}
 use native.Mathlib.Omega.{arith}
 use lib.ListN.{length, drop, replicate}
-use package.types.Run.{OneOf, miss}
-use denote.Enum.Declared.{tag_of}
-use Rattle.codegen_types.specs.contracts.Leaf.{the_type}
 use Rattle.text.specs.Bytes.{Str, ascii, unit}
 use Rattle.text.specs.Lines.{join}
 use Rattle.text.specs.Text.{put, adv, Wrote}
@@ -22,6 +19,7 @@ use Rattle.tree.specs.Reader.{Rows}
 use Rattle.codegen_types.specs.TypeString.{type_string, get_qualified_module, parameter_name, parameter_string, angled}
 use Rattle.codegen_types.specs.Leaf.{bare_name, maybe_colons, leaf_arguments}
 use Rattle.codegen_types.specs.declared.Leaf.{Leaf}
+use Rattle.codegen_types.specs.declared.Lifetime.{Lifetime}
 use Rattle.codegen_types.specs.declared.Leaf.TheVariants.{Reader, Builder, Owned, Client, Server, ServerDispatch, Pipeline}
 use Rattle.codegen_types.specs.declared.Leaf.TheVariants.{GetType}
 use Rattle.codegen_types.specs.Out.{Out, ok, refused, or_refused, ◌then◌}
@@ -56,17 +54,18 @@ three_threes {l} {t} {l'} {t'} x a b c d e f h = subst (λ (w : Str). Wrote l t 
     same x a b c d e f = simp append_assoc
 
 -- a leaf under which a parameter is refused
-pub refused-leaf : (root p : Str) (leaf : Leaf) → OneOf (3 ∷ 4 ∷ 5 ∷ 7 ∷ []) (tag_of the_type leaf)
+pub refused-leaf : (root p : Str) (leaf : Leaf) → ((lt : Lifetime) → leaf ≡ Reader lt → ⊥)
+    → ((lt : Lifetime) → leaf ≡ Builder lt → ⊥) → (leaf ≡ Owned → ⊥) → (leaf ≡ Pipeline → ⊥)
     → parameter_string root leaf p ≡ refused 7
 unfolding parameter_string
-refused-leaf root p (Reader lt) h = absurd (miss (3 ∷ 4 ∷ 5 ∷ 7 ∷ []) 0 tt h)
-refused-leaf root p (Builder lt) h = absurd (miss (3 ∷ 4 ∷ 5 ∷ 7 ∷ []) 1 tt h)
-refused-leaf root p Owned h = absurd (miss (3 ∷ 4 ∷ 5 ∷ 7 ∷ []) 2 tt h)
-refused-leaf root p Client h = refl
-refused-leaf root p Server h = refl
-refused-leaf root p ServerDispatch h = refl
-refused-leaf root p Pipeline h = absurd (miss (3 ∷ 4 ∷ 5 ∷ 7 ∷ []) 6 tt h)
-refused-leaf root p GetType h = refl
+refused-leaf root p (Reader lt) r b o l = absurd (r lt refl)
+refused-leaf root p (Builder lt) r b o l = absurd (b lt refl)
+refused-leaf root p Owned r b o l = absurd (o refl)
+refused-leaf root p Client r b o l = refl
+refused-leaf root p Server r b o l = refl
+refused-leaf root p ServerDispatch r b o l = refl
+refused-leaf root p Pipeline r b o l = absurd (l refl)
+refused-leaf root p GetType r b o l = refl
 
 -- ---- nodes: a claim `Q` of what the Rust gives
 

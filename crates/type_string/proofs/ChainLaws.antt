@@ -1,7 +1,7 @@
 -- Laws of the walk over a brand's chain in either direction: outermost node first where the arguments are written (`Writing`),
 -- innermost first, in the Rust's order, where they are only counted (`Counting`). Counted, arguments may stand in any order;
--- whatever the nodes from here on make of what is counted so far, all of them make of the start. `Along` is what is known at each
--- turn. Assumes nothing.
+-- whatever the nodes from here on make of what is counted so far, all of them make of the start. `Along` is what is known at
+-- each turn. Assumes nothing.
 use mathlib.Core.Path.{◌≡◌, refl, sym, ap, ◌∙◌}
 use mathlib.Core.Bool.{Bool, true, false}
 use mathlib.Core.List.{List, [], ◌∷◌}

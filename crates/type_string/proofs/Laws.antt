@@ -8,7 +8,7 @@ use native.Mathlib.Omega.{arith}
 use borrow.Author.Tests.{eq-eqb, ne_eqb}
 use lib.Dec.{eqb}
 use lib.ListN.{length, drop, take, get_or, replicate}
-use package.types.Run.{OneOf}
+use package.types.Run.{OneOf, hit}
 use denote.Enum.Declared.{tag_of}
 use Rattle.row.specs.contracts.Line.{the_type}
 use Rattle.text.specs.Bytes.{Str, ascii, unit, cond}
@@ -18,6 +18,7 @@ use Rattle.text.proofs.Laws.{◌⨾◌}
 use Rattle.row.specs.Rows.{rows, rest_of}
 use Rattle.row.specs.Line.{line_said, line_at}
 use Rattle.row.specs.declared.Line.{Line}
+use Rattle.row.specs.declared.Line.TheVariants as letter
 use Rattle.row.specs.declared.Line.TheVariants.{Scope, Unbound}
 use Rattle.tree.specs.Tree.{list, struct, Scopes, end, Binds, stop, Node, Sheet}
 use Rattle.tree.specs.Reader.{Rows, Reading, got, no, times, On, Has}
@@ -28,8 +29,8 @@ use Rattle.codegen_types.specs.Out.{Out, ok, refused, ◌then◌}
 use Rattle.codegen_types.specs.Leaf.{bare_name, display, lifetime_comma, maybe_colons, leaf_arguments}
 use Rattle.codegen_types.specs.TypeString as type_string
 use Rattle.codegen_types.specs.TypeString.{type_string, do_branding, scope_of, scopes_of, bindings_of, all_of, arguments_of}
-use Rattle.codegen_types.specs.TypeString.{accumulate, outermost_first, angled, any_owned, list_string, list_module, element_leaf}
-use Rattle.codegen_types.specs.TypeString.{get_qualified_module}
+use Rattle.codegen_types.specs.TypeString.{accumulate, outermost_first, angled, any_owned, list_string, list_module}
+use Rattle.codegen_types.specs.TypeString.{element_leaf, get_qualified_module}
 use Rattle.codegen_types.specs.Written.{Writes, first_of, refusal_number}
 use Rattle.codegen_types.specs.declared.Refusal.{Refusal}
 use Rattle.codegen_types.specs.declared.Refusal.TheVariants.{None, Number}
@@ -61,6 +62,39 @@ clash {A} {r} {k} e f = absurd (subst go (sym e ∙ f) tt)
     go : Option ℕ → Type 0
     go none = Unit {0}
     go (some j) = ⊥
+
+-- a line that is not of one letter is one of the others, by its tag
+abbrev but_Scope : List ℕ
+but_Scope = 0 ∷ 1 ∷ 2 ∷ 3 ∷ 4 ∷ 5 ∷ 7 ∷ 8 ∷ 9 ∷ 10 ∷ []
+
+other_scope : (l : Line) → ((i b m : ℕ) → l ≡ Scope i b m → ⊥) → OneOf but_Scope (tag_of the_type l)
+other_scope letter.Root h = hit but_Scope 0 tt
+other_scope (letter.Node a b c d e f g) h = hit but_Scope 1 tt
+other_scope letter.Parameter h = hit but_Scope 2 tt
+other_scope (letter.Field a b c d) h = hit but_Scope 3 tt
+other_scope (letter.Group a b) h = hit but_Scope 4 tt
+other_scope (letter.Typ a b c d) h = hit but_Scope 5 tt
+other_scope (Scope a b c) h = absurd (h a b c refl)
+other_scope Unbound h = hit but_Scope 7 tt
+other_scope (letter.Value a b) h = hit but_Scope 8 tt
+other_scope (letter.Word a) h = hit but_Scope 9 tt
+other_scope (letter.Bad x k c) h = hit but_Scope 10 tt
+
+abbrev but_Unbound : List ℕ
+but_Unbound = 0 ∷ 1 ∷ 2 ∷ 3 ∷ 4 ∷ 5 ∷ 6 ∷ 8 ∷ 9 ∷ 10 ∷ []
+
+other_unbound : (l : Line) → (l ≡ Unbound → ⊥) → OneOf but_Unbound (tag_of the_type l)
+other_unbound letter.Root h = hit but_Unbound 0 tt
+other_unbound (letter.Node a b c d e f g) h = hit but_Unbound 1 tt
+other_unbound letter.Parameter h = hit but_Unbound 2 tt
+other_unbound (letter.Field a b c d) h = hit but_Unbound 3 tt
+other_unbound (letter.Group a b) h = hit but_Unbound 4 tt
+other_unbound (letter.Typ a b c d) h = hit but_Unbound 5 tt
+other_unbound (Scope a b c) h = hit but_Unbound 6 tt
+other_unbound Unbound h = absurd (h refl)
+other_unbound (letter.Value a b) h = hit but_Unbound 8 tt
+other_unbound (letter.Word a) h = hit but_Unbound 9 tt
+other_unbound (letter.Bad x k c) h = hit but_Unbound 10 tt
 
 -- ---- lists
 
@@ -236,7 +270,7 @@ brand_on {l} {t} {l₁} {w} {l₂} {p} {l₃} {l₄} {t₄} {r} sheet leaf id re
 module _ (left : ℕ) (sheet : Sheet) (q ps : Rows) (line : Line) (at : line_said line ≡ line_at q) (own : ℕ)
     (count : own ≡ length (names_of ps)) (l : List ℕ) (p : Arguments) (l' : List ℕ) (r : Argued) (o : Option type_string.Scope)
     (here : ScopeAt left sheet q o) where
-  pub own_other : OneOf (0 ∷ 1 ∷ 2 ∷ 3 ∷ 4 ∷ 5 ∷ 7 ∷ 8 ∷ 9 ∷ 10 ∷ []) (tag_of the_type line)
+  pub own_other : ((i b m : ℕ) → line ≡ Scope i b m → ⊥)
       → Listed l p (replicate own (any_owned sheet.root)) l' r.arguments → refusal_number r.refusal ≡ none
       → Lists (arguments_of sheet.root (names_of ps) o) l p l' r
   unfolding arguments_of
@@ -245,7 +279,7 @@ module _ (left : ℕ) (sheet : Sheet) (q ps : Rows) (line : Line) (at : line_sai
       go : (q : Rows) → line_said line ≡ line_at q → ScopeAt left sheet q o
           → Lists (arguments_of sheet.root (names_of ps) o) l p l' r
       go [] e h = rw (h, map-replicate (any_owned sheet.root) (names_of ps), ← count) (all_listed w f)
-      go (x ∷ rs) e h = absurd (scope-not left sheet (x ∷ rs) o line e other h)
+      go (x ∷ rs) e h = absurd (scope-not left sheet (x ∷ rs) o line e (other_scope line other) h)
 
   module _ (i b m : ℕ) (is : line ≡ Scope i b m) where
     pub own-inherit : b ≡ 0 → Listed l p (texts_of own ps) l' r.arguments → refusal_number r.refusal ≡ none
@@ -335,8 +369,9 @@ module _ (sheet : Sheet) (left : ℕ) (rs : Rows) (line : Line) (at : line_said 
   unfolding bindings_of
   bind-unbound is w = read-law.bind-unbound left rs (λ f. Writes (only_of (bindings_of (f stop) sheet)) l t l' r) line at is w
 
-  pub bind-typed : OneOf (0 ∷ 1 ∷ 2 ∷ 3 ∷ 4 ∷ 5 ∷ 6 ∷ 8 ∷ 9 ∷ 10 ∷ []) (tag_of the_type line)
+  pub bind-typed : (line ≡ Unbound → ⊥)
       → On (read_type left rs) (λ ty. Writes (type_string ty sheet Owned) l t l' r)
       → On (read_binding (read_type left) rs) (λ f. Writes (only_of (bindings_of (f stop) sheet)) l t l' r)
   unfolding bindings_of
-  bind-typed other h = read-law.bind-typed left rs (λ f. Writes (only_of (bindings_of (f stop) sheet)) l t l' r) line at other h
+  bind-typed other h = read-law.bind-typed left rs (λ f. Writes (only_of (bindings_of (f stop) sheet)) l t l' r) line at
+      (other_unbound line other) h

@@ -382,7 +382,8 @@ module _ (index : List ℕ) (id : ℕ) (ids params counts : List ℕ) where
           go (yes w) =
               new-id current (take k ids) (stepped n e).unseen i
               (rw (length-take-le k ids (omega (arith, c.ids_size))) (omega arith))
-              (get_or-take k ids i 0 (omega arith) ∙ old ∙ rw (w, get_or-set_same ids k current 0 (omega (arith, c.ids_size))) refl)
+              (get_or-take k ids i 0 (omega arith) ∙ old
+              ∙ rw (w, get_or-set_same ids k current 0 (omega (arith, c.ids_size))) refl)
           go (no w) = c.once i j x (omega arith) (old ∙ get_or-set_other ids k j current 0 w)
 
       each_more : (s : Str) (ns : List Node) → Indexed s ns index → (j : ℕ) → j < k + 1

@@ -2,7 +2,7 @@
 -- last with an id counts. By induction on levels, counts and rows. Assumes nothing.
 use mathlib.Core.Path.{◌≡◌, refl, sym, ◌∙◌}
 use mathlib.Core.Bool.{Bool, true, false}
-use mathlib.Core.List.{List, [], ◌∷◌, ◌++◌}
+use mathlib.Core.List.{[], ◌∷◌, ◌++◌}
 use mathlib.Core.Option.{Option, none, some}
 use Prim.Native.Nat.{ℕ, zero, suc, ◌+◌, ◌-◌, ◌*◌, ◌<◌, ◌≤◌}
 use native.Mathlib.Nat.{add-zero, zero-add, suc-add}
@@ -145,7 +145,8 @@ unfolding AllParts rest_of line_at
 parts_next [] n h = absurd h
 parts_next (r ∷ rs) n h = h
 
-parts-row : (rs : Rows) (n : ℕ) → is_part (line_at rs) ≡ true → AllParts (rest_of rs) (owed (line_at rs) + n) → AllParts rs (suc n)
+parts-row : (rs : Rows) (n : ℕ) → is_part (line_at rs) ≡ true → AllParts (rest_of rs) (owed (line_at rs) + n)
+    → AllParts rs (suc n)
 unfolding AllParts rest_of line_at
 parts-row [] n p h = let z : ◌≡◌ {A = ℕ} 0 1 = cc in let y : ⊥ = omega arith in absurd y
 parts-row (r ∷ rs) n p h = (p, h)
@@ -202,7 +203,8 @@ unfolding read_binding owed
 passes-binding ty h n rs =
     as_unbound_lem (λ (f : Reader (Binds → Binds)). After (f rs) (λ rest. Leads rs (suc n) rest n)) (line_at rs) _ _
     (λ e. leads_row rs n n (rw e) (rw (e, zero-add)))
-    (by_told (λ g. After g (λ rest. Leads rs (suc n) rest n)) (fault_of 85 (line_at rs)) (map_r (λ t bs. bound t bs) ty) rs (λ k. tt)
+    (by_told (λ g. After g (λ rest. Leads rs (suc n) rest n)) (fault_of 85 (line_at rs)) (map_r (λ t bs. bound t bs) ty) rs
+    (λ k. tt)
     (after_map (λ t bs. bound t bs) (λ rest. Leads rs (suc n) rest n) (ty rs) (h n rs)))
 
 passes-scope : (ty : Reader Ty) → Passes ty → Passes (read.read_scope ty)
@@ -235,8 +237,8 @@ passes-type (suc l) n rs = made (passes-type l)
     go : Passes (read_type l) → (k a b c : ℕ) → line_at rs ≡ Typ k a b c → (x y z : Bool) → ltb k 14 ≡ x → eqb k 14 ≡ y
         → ltb k 18 ≡ z
         → After (cond x (got (tree.plain k)) (cond y (map_r (λ t. tree.list t) (read_type l))
-        (cond z (map_r (read.branded k a) (times (read.read_scope (read_type l)) end b)) (got (read.pointer a b c)))) (rest_of rs))
-        (λ rest. Leads rs (suc n) rest n)
+        (cond z (map_r (read.branded k a) (times (read.read_scope (read_type l)) end b)) (got (read.pointer a b c))))
+        (rest_of rs)) (λ rest. Leads rs (suc n) rest n)
     go ih k a b c e true y z p q r = leads_row rs n n (rw e) (rw (e, p, zero-add))
     go ih k a b c e false true z p q r =
         after_map (λ t. tree.list t) (λ rest. Leads rs (suc n) rest n) (read_type l (rest_of rs))
@@ -293,7 +295,8 @@ past-scope left rs =
 pub scopes-parts : (left n : ℕ) (rs : Rows) → On (times (read.read_scope (read_type left)) end n rs) (λ ss. AllParts rs n)
 scopes-parts left n rs =
     parts-read rs n (times (read.read_scope (read_type left)) end n rs)
-    (rw add-zero at (passes-times (read.read_scope (read_type left)) end (passes-scope (read_type left) (passes-type left)) n 0 rs))
+    (rw add-zero at (passes-times (read.read_scope (read_type left)) end (passes-scope (read_type left) (passes-type left)) n 0
+    rs))
 
 -- ---- the walk that passes over rows
 
@@ -375,7 +378,8 @@ record OneScope (sheet : Sheet) (rs : Rows) (f : Scopes → Scopes) : Type 0 whe
 one-scope : (left : ℕ) (sheet : Sheet) (rs : Rows) → On (read.read_scope (read_type left) rs) (OneScope sheet rs)
 unfolding read.read_scope scopes_of
 one-scope left sheet rs =
-    as_scope_lem (λ (f : Reader (Scopes → Scopes)). On (f rs) (OneScope sheet rs)) (line_at rs) _ _ (λ i b c e. go i b c e (eqb b 0))
+    as_scope_lem (λ (f : Reader (Scopes → Scopes)). On (f rs) (OneScope sheet rs)) (line_at rs) _ _
+    (λ i b c e. go i b c e (eqb b 0))
     (by_told (λ g. On g (OneScope sheet rs)) (fault_of 83 (line_at rs)) (no misplaced) rs (λ k. tt) tt)
   where
     go : (i b c : ℕ) → line_at rs ≡ Scope i b c → (t : Bool)
@@ -431,8 +435,8 @@ scope-found left id sheet (suc n) rs found o h =
         (or_else (scope_of id (scopes_of ss sheet)) o))
     go (no k q) e x p ih = tt
     go (got f q) e x p ih =
-        on-map f (λ ss. ScopeIs left sheet (as_scope (line_at rs) (λ i b m. last_scope id n rest (cond (eqb i id) (some rs) found))
-        found) (or_else (scope_of id (scopes_of ss sheet)) o))
+        on-map f (λ ss. ScopeIs left sheet (as_scope (line_at rs)
+        (λ i b m. last_scope id n rest (cond (eqb i id) (some rs) found)) found) (or_else (scope_of id (scopes_of ss sheet)) o))
         (times (read.read_scope (read_type left)) end n q)
         (on_one (λ ss. ScopeIs left sheet (last_scope id n q (cond (eqb x.id id) (some rs) found))
         (or_else (scope_of id (scopes_of ss sheet)) (cond (eqb x.id id) (some x.scope) o)))

@@ -6,6 +6,7 @@ use mathlib.Core.List.{[], ◌∷◌}
 use mathlib.Core.Option.{Option, some}
 use Prim.Native.Nat.{ℕ, zero, suc, ◌-◌, ◌<◌, ◌≤◌}
 use native.Mathlib.Omega.{arith}
+use borrow.Author.Rules.{rules}
 use native.Mathlib.Numerals.{sub-one}
 use borrow.Author.Tests.{eq-eqb, ne_eqb, lt-ltb, le-ltb, eqb-true, eqb-false, ltb-true, ltb-false}
 use lib.Dec.{eqb, ltb}
@@ -62,6 +63,21 @@ type_row_lem s at r (suc l) P w z h =
           w.next,
         ) at h
 
+-- a line that is no T line is one of the others, by its tag
+pub other_type : (l : Line) → ((k a b c : ℕ) → l ≡ line.Typ k a b c → ⊥)
+    → OneOf (0 ∷ 1 ∷ 2 ∷ 3 ∷ 4 ∷ 6 ∷ 7 ∷ 8 ∷ 9 ∷ 10 ∷ []) (tag_of the_type l)
+other_type line.Root h = search rules
+other_type (line.Node a b c d e f g) h = search rules
+other_type line.Parameter h = search rules
+other_type (line.Field a b c d) h = search rules
+other_type (line.Group a b) h = search rules
+other_type (line.Typ k a b c) h = absurd (h k a b c refl)
+other_type (line.Scope a b c) h = search rules
+other_type line.Unbound h = search rules
+other_type (line.Value a b) h = search rules
+other_type (line.Word a) h = search rules
+other_type (line.Bad x k c) h = search rules
+
 -- another line as a T row
 pub row_other : (l : Line) (next : ℕ) → OneOf (0 ∷ 1 ∷ 2 ∷ 3 ∷ 4 ∷ 6 ∷ 7 ∷ 8 ∷ 9 ∷ 10 ∷ []) (tag_of the_type l)
     → type_row (line_said l) next ≡ record { kind = 0; a = 0; b = 0; c = 0; next = next }
@@ -117,8 +133,8 @@ from-kind left k a b c q = go (ltb k 14) (eqb k 14) (ltb k 18) (eqb a 0) refl re
   where
     go : (x y z w : Bool) → ltb k 14 ≡ x → eqb k 14 ≡ y → ltb k 18 ≡ z
         → On (cond x (got (plain k)) (cond y (map_r (λ t. list t) (read_type left))
-        (cond z (map_r (branded k a) (times (read.read_scope (read_type left)) end b)) (got (cond w any_pointer (parameter b c))))) q)
-        (λ ty. kind ty ≡ cond z k 18)
+        (cond z (map_r (branded k a) (times (read.read_scope (read_type left)) end b))
+        (got (cond w any_pointer (parameter b c))))) q) (λ ty. kind ty ≡ cond z k 18)
     go true y z w e f g = let u = ltb-true k 14 e in sym (below k z g (omega arith))
     go false true z w e f g =
         let u = eqb-true k 14 f in

@@ -7,7 +7,7 @@ use Rattle.row.specs.Rows.{rows, rest_of}
 use Rattle.row.specs.Line.{Content, line_of, line_at, as_type, as_scope}
 use Rattle.row.specs.Part.{owed, is_part}
 use Rattle.tree.specs.Tree.{Node, Sheet, end}
-use Rattle.tree.specs.Reader.{Rows, Reading, got, no, On, Has}
+use Rattle.tree.specs.Reader.{Rows, Reading, got, no, Has}
 use Rattle.tree.specs.Read as read
 pub use Rattle.nodes.specs.Index.{Indexed, lookup}
 pub use Rattle.nodes.specs.Index.{sheet_of}

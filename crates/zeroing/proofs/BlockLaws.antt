@@ -30,7 +30,11 @@ module _ (x : ℕ) (xs : List ℕ) (i : ℕ) (found : Bool) (here : either found
   pub among_next : i < length xs → either (found || eqb (get_or xs i 0) x) (among x (drop (i + 1) xs)) ≡ among x xs
   unfolding among
   among_next h =
-      rw (or-either found (eqb (get_or xs i 0) x), either_assoc found (eqb (get_or xs i 0) x) (among x (drop (i + 1) xs)), add-one)
+      rw (
+        or-either found (eqb (get_or xs i 0) x),
+        either_assoc found (eqb (get_or xs i 0) x) (among x (drop (i + 1) xs)),
+        add-one,
+      )
       (rw (drop-cons xs i 0 h) at here)
 
   pub among-all : length xs ≤ i → found ≡ among x xs

@@ -44,7 +44,8 @@ less_both o p q r f (inr e) h = rw e (go o)
     go (refused k) = inr refl
 
 less_slot : (seen : List Str) (clear : Bool) (line : Option Str) (more later : List Str → Out Zeroing)
-    → ((seen : List Str) → Less (more seen) (later seen)) → Less (zero_slot seen clear line more) (zero_slot seen clear line later)
+    → ((seen : List Str) → Less (more seen) (later seen))
+    → Less (zero_slot seen clear line more) (zero_slot seen clear line later)
 less_slot seen clear option.none more later h = h seen
 less_slot seen clear (some line) more later h = go (contains seen line)
   where

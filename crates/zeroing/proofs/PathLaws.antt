@@ -50,7 +50,8 @@ module _ (sheet : Sheet) (start left id : ℕ) where
     came-back e (suc l) h = rw e (comes l (omega arith) (came-back e l (omega arith)))
 
     -- so no level need be left for it
-    levels-same : (left ≡ 0 → ⊥) → zero_fields_of_group sheet (inner_levels left id start) id ≡ zero_fields_of_group sheet (left - 1) id
+    levels-same : (left ≡ 0 → ⊥)
+        → zero_fields_of_group sheet (inner_levels left id start) id ≡ zero_fields_of_group sheet (left - 1) id
     levels-same more = go (eqb id start) refl
       where
         go : (t : Bool) → eqb id start ≡ t

@@ -72,7 +72,8 @@ line-is s = go (kind s.ty) s.offset (eqb (kind s.ty) 15) (leb (kind s.ty) 11) re
     go k o false true e f = low (eqb k 0) (eqb k 1)
       where
         low : (a b : Bool) → cond a option.none (cond b (some (zero_bool o)) (some (zero_data (primitive_text k) o)))
-            ≡ cond a option.none (some (cond b (zero_bool o) (cond (leb k 11) (zero_data (primitive_text k) o) (clear_pointer o))))
+            ≡ cond a option.none (some (cond b (zero_bool o)
+            (cond (leb k 11) (zero_data (primitive_text k) o) (clear_pointer o))))
         low true b = refl
         low false true = refl
         low false false = rw f refl

@@ -58,7 +58,8 @@ module _ (xs ys : List ℕ) (c o : ℕ) where
           → place_below xs ys c o r i
           ≡ cond (ltb (place_below xs ys c o table_size i) table_size) (place_below xs ys c o table_size i) r
           → cond t i (place_below xs ys c o r i)
-          ≡ cond (ltb (cond t i (place_below xs ys c o table_size i)) table_size) (cond t i (place_below xs ys c o table_size i)) r
+          ≡ cond (ltb (cond t i (place_below xs ys c o table_size i)) table_size)
+          (cond t i (place_below xs ys c o table_size i)) r
       go true e = rw (lt-ltb i table_size (omega arith)) refl
       go false e = e
 
@@ -271,7 +272,8 @@ module _ (xs ys : List ℕ) (fs : List Field) (k : Kept xs ys (λ c o. repeats c
               rw (get_or-set_other xs p i o 0 m, g, k.held i (λ z. n (g ∙ z))) refl
 
           other : (d q : ℕ) → (d ≡ 0 → ⊥) → q < 2 ^ 32
-              → Free (set ys p c) (table_place (set xs p o) (set ys p c) d q) → (o ≡ q → c ≡ d → ⊥) → with_line c o fs d q ≡ false
+              → Free (set ys p c) (table_place (set xs p o) (set ys p c) d q) → (o ≡ q → c ≡ d → ⊥)
+              → with_line c o fs d q ≡ false
           other d q z y f n =
               let b = free-before xs ys c o p more px py line e bare d q f in
               rw (k.free d q z y b.0 b.1) (apart o q c d n)

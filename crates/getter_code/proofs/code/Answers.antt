@@ -1,0 +1,17 @@
+-- `getter_code::code` meets its contract: the fragment as a line, or between the lines of an option. Assumes nothing.
+use borrow.Author.Tests.{ne_eqb}
+use Rattle.text.specs.Lines.{to_lines, join, stringify}
+use Rattle.text.proofs.Laws.{◌⨾◌}
+use Rattle.getter_code.proofs.Laws.{option-lines}
+use Rattle.getter_code.proofs.code.Goals as goal
+
+pub returns-then-slot-eq0 : goal.returns-then-slot-eq0
+unfolding to_lines join stringify
+returns-then-slot-eq0 c =
+    rw c.if-slot-eq0.true (c.fragment-t.ensures ⨾ c.byte.ensures)
+
+pub returns : goal.returns
+returns c =
+    rw (ne_eqb _ 0 c.if-slot-eq0.false, ← option-lines _ _ _ _, ← c.is_fallible-fallible.ensures)
+    (c.null_head-t.ensures ⨾ c.number-t.ensures ⨾ c.absent-t.ensures ⨾ c.fragment-t-2.ensures
+    ⨾ c.some_end.ensures)

@@ -1,0 +1,9 @@
+use Rattle.parts.specs.Steps.{most_left}
+use Rattle.parts.proofs.LeftLaws.{Filling}
+use Rattle.parts.proofs.print.fill.Given as goal
+
+abbrev pub invariant-loop-next : goal.invariant-loop-next
+invariant-loop-next l = Filling l.s l.index l.initial.next l.initial.out l.out l.n l.next
+
+abbrev pub decreases-loop-next : goal.decreases-loop-next
+decreases-loop-next l = most_left l.s l.next

@@ -1,0 +1,10 @@
+use mathlib.Core.Path.{◌≡◌}
+use lib.ListN.{length}
+use Rattle.parts.specs.Steps.{most_left, Reached}
+use Rattle.parts.proofs.print.print_pieces.Given as goal
+
+abbrev pub invariant-loop-place : goal.invariant-loop-place
+invariant-loop-place l = (length l.out ≡ length l.initial.out) × Reached l.s l.index l.place
+
+abbrev pub decreases-loop-place : goal.decreases-loop-place
+decreases-loop-place l = most_left l.s l.place

@@ -1,0 +1,20 @@
+-- `record::low_bits` meets its contract, width by width. Assumes nothing.
+use native.Mathlib.Nat.{mod-eq_of_lt}
+use mathlib.Core.Path.{sym}
+use borrow.Author.Rules.{rules}
+use Rattle.record.proofs.low_bits.Goals as goal
+
+pub enum_told-1 : goal.enum_told-1
+enum_told-1 c = search rules
+
+pub returns-in-One : goal.returns-in-One
+returns-in-One c = rw c.in-One.is
+
+pub returns-in-Two : goal.returns-in-Two
+returns-in-Two c = rw c.in-Two.is
+
+pub returns-in-Four : goal.returns-in-Four
+returns-in-Four c = rw c.in-Four.is
+
+pub returns-in-Eight : goal.returns-in-Eight
+returns-in-Eight c = rw c.in-Eight.is (sym (mod-eq_of_lt (search rules)))

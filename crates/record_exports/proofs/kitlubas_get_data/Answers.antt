@@ -1,0 +1,21 @@
+-- `record_exports::kitlubas_get_data` meets its contract, by the width and the answer of the get. Assumes nothing.
+use Rattle.record.specs.Bits.{section_bits}
+use Rattle.record_exports.specs.Boundary.{elements}
+use Rattle.record_exports.proofs.Laws.{gave_value, of_width, of_none, gave_nothing}
+use Rattle.record_exports.proofs.kitlubas_get_data.Goals as goal
+
+pub returns-in_default : goal.returns-in_default
+returns-in_default c =
+    let b = c in
+    let a = b.args in
+    let l = section_bits a.section.now in
+    rw (of_none a.width (elements a.offset) 0 l b.width_of.ensures c.in_default.is) gave_nothing
+
+pub returns : goal.returns
+returns c =
+    let w = c in
+    let b = w in
+    let a = b.args in
+    let l = section_bits a.section.now in
+    rw (of_width a.width w.in-Is.w (elements a.offset) 0 l b.width_of.ensures w.in-Is.is)
+    (gave_value c.get_data_field.ensures)

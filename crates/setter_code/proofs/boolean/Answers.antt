@@ -1,0 +1,25 @@
+-- `setter_code::boolean` meets its contract: its parts, one after the other. Assumes nothing.
+use Rattle.text.specs.Bytes.{ascii}
+use Rattle.text.proofs.Laws.{◌⨾◌, kept}
+use Rattle.names.specs.Names.{name_of}
+use Rattle.calls.specs.Calls.{set_bool_field}
+use Rattle.codegen.specs.Default.{value, prim_default}
+use Rattle.codegen.specs.Mask.{mask_or}
+use Rattle.setter_code.specs.Parts.{tag_line}
+use Rattle.setter_code.proofs.Laws.{only-text, bool_open, retext}
+use Rattle.setter_code.proofs.boolean.Goals as goal
+
+pub shape_of-buf : goal.shape_of-buf
+shape_of-buf c =
+    kept
+    (c.set_open-t.ensures ⨾ c.bytes-t.ensures ⨾ c.tag_line-t.ensures ⨾ c.bytes-t-2.ensures ⨾ c.set_bool-t.ensures
+    ⨾ c.bytes.ensures)
+
+pub returns : goal.returns
+returns c =
+    let slot = c.args.slot in
+    λ root. retext (only-text root c.args.tag (name_of c.args.name) slot.discriminant
+    (set_bool_field slot.offset (ascii "value") (mask_or (prim_default (value slot.default slot.bits)))) (ascii "bool"))
+    (retext (bool_open (name_of c.args.name) (tag_line c.args.tag slot.discriminant))
+    (c.set_open-t.ensures ⨾ c.bytes-t.ensures ⨾ c.tag_line-t.ensures ⨾ c.bytes-t-2.ensures)
+    ⨾ c.set_bool-t.ensures ⨾ c.bytes.ensures)
