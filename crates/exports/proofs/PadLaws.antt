@@ -1,6 +1,6 @@
 -- The three ways in which a sheet that is written by hand is answered, over the numbers that the code has: a fill count past the
 -- end, a sheet that does not fit, and one that does. Assumes nothing.
-use mathlib.Core.Path.{◌≡◌, ap, sym, ◌∙◌}
+use mathlib.Core.Path.{◌≡◌, ap, ◌∙◌}
 use Prim.Native.Nat.{ℕ, ◌-◌, ◌^◌, ◌<◌, ◌≤◌}
 use native.Mathlib.Omega.{arith}
 use lib.ListN.{length}

@@ -21,8 +21,7 @@ use text::Text;
 const GROUP: u64 = 19;
 
 // How many numbers the index of a sheet of so many bytes needs.
-#[unsafe(no_mangle)]
-pub extern "C" fn kitlubas_index_size(size: usize) -> usize
+pub fn kitlubas_index_size(size: usize) -> usize
     ensures { result ≡ index_size size }
 {
     nodes::index_size(size)
@@ -30,13 +29,7 @@ pub extern "C" fn kitlubas_index_size(size: usize) -> usize
 
 // The number of the sheet's refusal, 0 for a sheet that is admitted; `line` and `column` become the refusal's, or 0. The
 // index of an admitted sheet is put into `index`, if there is room for it.
-#[unsafe(no_mangle)]
-pub extern "C" fn kitlubas_index(
-    s: &[u8],
-    index: &mut [u64],
-    line: &mut usize,
-    column: &mut usize,
-) -> u64
+pub fn kitlubas_index(s: &[u8], index: &mut [u64], line: &mut usize, column: &mut usize) -> u64
     ensures told { Told (admitted s.now) result line.new column.new }
     ensures index { index_size (length s.now) ≤ length index.old
         → IndexOf s.now (admitted s.now) index.new }
@@ -61,8 +54,7 @@ pub extern "C" fn kitlubas_index(
 
 // The answer to the request with a number, in the sheet with this index. Over any index a refusal changes nothing; no byte before
 // the fill count changes, and the count neither falls nor passes the end.
-#[unsafe(no_mangle)]
-pub extern "C" fn kitlubas_answer_in(
+pub fn kitlubas_answer_in(
     s: &[u8],
     index: &[u64],
     id: u64,
@@ -88,8 +80,7 @@ pub extern "C" fn kitlubas_answer_in(
 // and the text from the start of the buffer on; 22 where it is longer than the buffer; or its refusal. `size` becomes the text's
 // length, 0 for a refusal. Where the answer is not 0, the bytes of the buffer may be any; where it is 0, the length is within the
 // buffer over any index.
-#[unsafe(no_mangle)]
-pub extern "C" fn kitlubas_text(
+pub fn kitlubas_text(
     s: &[u8],
     index: &[u64],
     node: usize,
@@ -126,8 +117,7 @@ pub extern "C" fn kitlubas_text(
 
 // The node with a number, from 0: its id, the place and the length of its module in the sheet, and the position of its first
 // field. 15 where there is none, and all of them become 0. There are at most 64.
-#[unsafe(no_mangle)]
-pub extern "C" fn kitlubas_node(
+pub fn kitlubas_node(
     s: &[u8],
     index: &[u64],
     number: usize,
@@ -160,8 +150,7 @@ pub extern "C" fn kitlubas_node(
 // The field that stands at a position: the kind of its type, or 19 for a group, the place and the length of its name in the
 // sheet, and the position after it. 15 where there is none, and all of them become 0. The field's numbers are put into `field`,
 // if there is room for them.
-#[unsafe(no_mangle)]
-pub extern "C" fn kitlubas_field(
+pub fn kitlubas_field(
     s: &[u8],
     from: usize,
     field: &mut [u64],

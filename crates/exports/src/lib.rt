@@ -1,4 +1,5 @@
-// The static library's boundary, for C, Rust and the comparison with capnpc; kitlubas.h declares it.
+// The boundary of the static library, for C, Rust and the comparison with capnpc: crate exports_c gives these functions to C,
+// and kitlubas.h declares them.
 //
 // The writers put their text at the fill count `at` and answer the new one, which stops at 18446744073709551614. Bytes past the
 // end of the buffer are counted and not written. What is not taken writes nothing and answers 18446744073709551615.
@@ -39,8 +40,7 @@ fn count(t: Text) -> usize
 }
 
 // The number in decimal.
-#[unsafe(no_mangle)]
-pub extern "C" fn kitlubas_number(at: usize, buf: &mut [u8], n: u64) -> usize
+pub fn kitlubas_number(at: usize, buf: &mut [u8], n: u64) -> usize
     ensures { Fills buf.old at (decimal n) buf.new result }
 {
     let t = Text::at(at).number(buf, n);
@@ -48,8 +48,7 @@ pub extern "C" fn kitlubas_number(at: usize, buf: &mut [u8], n: u64) -> usize
 }
 
 // The number with these bits in two's complement. Bits past the width are dropped; a width is taken that is 8, 16, 32 or 64.
-#[unsafe(no_mangle)]
-pub extern "C" fn kitlubas_signed(at: usize, buf: &mut [u8], width: u32, n: u64) -> usize
+pub fn kitlubas_signed(at: usize, buf: &mut [u8], width: u32, n: u64) -> usize
     ensures { Signed buf.old at width n buf.new result }
 {
     let t = Text::at(at);
@@ -63,24 +62,21 @@ pub extern "C" fn kitlubas_signed(at: usize, buf: &mut [u8], width: u32, n: u64)
 }
 
 // A line at a level of indentation; an empty line; what `stringify` makes of no lines.
-#[unsafe(no_mangle)]
-pub extern "C" fn kitlubas_line(at: usize, buf: &mut [u8], indent: usize, line: &[u8]) -> usize
+pub fn kitlubas_line(at: usize, buf: &mut [u8], indent: usize, line: &[u8]) -> usize
     ensures { Fills buf.old at (ended (to_lines (Line line.now) indent)) buf.new result }
 {
     let t = Text::at(at).line(buf, indent, line);
     count(t)
 }
 
-#[unsafe(no_mangle)]
-pub extern "C" fn kitlubas_blank_line(at: usize, buf: &mut [u8]) -> usize
+pub fn kitlubas_blank_line(at: usize, buf: &mut [u8]) -> usize
     ensures { Fills buf.old at (ended (to_lines BlankLine 0)) buf.new result }
 {
     let t = Text::at(at).blank_line(buf);
     count(t)
 }
 
-#[unsafe(no_mangle)]
-pub extern "C" fn kitlubas_no_lines(at: usize, buf: &mut [u8]) -> usize
+pub fn kitlubas_no_lines(at: usize, buf: &mut [u8]) -> usize
     ensures { Fills buf.old at (stringify (Branch none)) buf.new result }
 {
     let t = Text::at(at).no_lines(buf);
@@ -89,8 +85,7 @@ pub extern "C" fn kitlubas_no_lines(at: usize, buf: &mut [u8]) -> usize
 
 // The names made of a name: `camel_to_snake_case`, the name of its default's constant, `module_name`. A name is taken that has
 // at most 64 bytes, of ASCII and letters from U+00C0 to U+00FF in UTF-8.
-#[unsafe(no_mangle)]
-pub extern "C" fn kitlubas_snake(at: usize, buf: &mut [u8], name: &[u8]) -> usize
+pub fn kitlubas_snake(at: usize, buf: &mut [u8], name: &[u8]) -> usize
     ensures { FillsName buf.old at camel_to_snake_case name.now buf.new result }
 {
     if !names::takes(name) {
@@ -100,8 +95,7 @@ pub extern "C" fn kitlubas_snake(at: usize, buf: &mut [u8], name: &[u8]) -> usiz
     count(t)
 }
 
-#[unsafe(no_mangle)]
-pub extern "C" fn kitlubas_default_name(at: usize, buf: &mut [u8], name: &[u8]) -> usize
+pub fn kitlubas_default_name(at: usize, buf: &mut [u8], name: &[u8]) -> usize
     ensures { FillsName buf.old at default_name name.now buf.new result }
 {
     if !names::takes(name) {
@@ -111,8 +105,7 @@ pub extern "C" fn kitlubas_default_name(at: usize, buf: &mut [u8], name: &[u8]) 
     count(t)
 }
 
-#[unsafe(no_mangle)]
-pub extern "C" fn kitlubas_module_name(at: usize, buf: &mut [u8], name: &[u8]) -> usize
+pub fn kitlubas_module_name(at: usize, buf: &mut [u8], name: &[u8]) -> usize
     ensures { FillsName buf.old at module_name name.now buf.new result }
 {
     if !names::takes(name) {
@@ -123,8 +116,7 @@ pub extern "C" fn kitlubas_module_name(at: usize, buf: &mut [u8], name: &[u8]) -
 }
 
 // The number of the sheet's refusal, 0 for a sheet that is admitted; `line` and `column` become the refusal's, or 0.
-#[unsafe(no_mangle)]
-pub extern "C" fn kitlubas_admit(s: &[u8], line: &mut usize, column: &mut usize) -> u64
+pub fn kitlubas_admit(s: &[u8], line: &mut usize, column: &mut usize) -> u64
     ensures { Told (admitted s.now) result line.new column.new }
 {
     let mut none = [0u64; 0];
@@ -203,8 +195,7 @@ fn request_of(number: u64, place: u64, leaf: u64) -> Request
 }
 
 // The answer to the request with a number.
-#[unsafe(no_mangle)]
-pub extern "C" fn kitlubas_answer(
+pub fn kitlubas_answer(
     s: &[u8],
     id: u64,
     place: u64,

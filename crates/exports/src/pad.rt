@@ -6,8 +6,7 @@ use text::Text;
 
 // The sheet that a text says, put into the buffer at `fill`: 0 with `fill` moved past it, or 21 or 22 with nothing changed. It
 // is measured over an empty buffer first.
-#[unsafe(no_mangle)]
-pub extern "C" fn kitlubas_pad(s: &[u8], fill: &mut usize, buf: &mut [u8]) -> u64
+pub fn kitlubas_pad(s: &[u8], fill: &mut usize, buf: &mut [u8]) -> u64
     ensures { PadTold s.now buf.old fill.old buf.new fill.new result }
 {
     let start = Text::at(*fill);

@@ -1,3 +1,4 @@
+pub mod OtherLaws
 pub mod TypeLaws
 pub mod WordsLaws
 pub mod SlotLaws

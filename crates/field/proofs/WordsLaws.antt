@@ -58,7 +58,8 @@ words-fewer zero rs = omega arith
 words-fewer (suc n) [] =
     two (λ (f g : Reader (List ℕ)). Gets (f []) (λ ws q. length q ≤ length {A = Str} [])) (line_at []) _ _ (λ w. got []) (got [])
     (λ w. go w (read_words_up_to n []) (words-fewer n []))
-    (by_told (λ g. Gets g (λ ws q. length q ≤ length {A = Str} [])) (fault_of 87 (line_at [])) (got []) [] (λ k. tt) (omega arith))
+    (by_told (λ g. Gets g (λ ws q. length q ≤ length {A = Str} [])) (fault_of 87 (line_at [])) (got []) [] (λ k. tt)
+    (omega arith))
   where
     go : (w : ℕ) (g : Reading (List ℕ)) → Gets g (λ ws q. length q ≤ length {A = Str} [])
         → Gets (g then λ ws. got (w ∷ ws)) (λ ws q. length q ≤ length {A = Str} [])

@@ -250,7 +250,8 @@ fails_result sheet (parameter i k) a typ h lo n15 n17 any = refl
 -- the result type of a type, in an option or not
 result_of : Sheet → Ty → Leaf → Bool → Bool → Out Str
 result_of sheet t leaf option is_fn =
-    type_string t sheet leaf then λ inner. result_type sheet t (optional option inner) then λ result. ok (as_function is_fn result)
+    type_string t sheet leaf then λ inner. result_type sheet t (optional option inner) then λ result.
+    ok (as_function is_fn result)
 
 module _ (sheet : Sheet) (s : tree.Slot) (is_reader is_fn : Bool) (r : Slot) (is : SlotIs r s) where
   with-option : (option : Bool) → yes (is_option_field s) ≡ option

@@ -172,7 +172,8 @@ pub getter-here : {l₁ l₂ l₃ l₄ : List ℕ} {t₂ t₃ : Text} {p : Writt
     → of-default ≡ refusal_of (getter_fragment root name sl is_reader is_fn typ))
     → of_slot ≡ first_of of-option of-default → refusal_number q.refusal ≡ first_of (refusal_number p.refusal) of_slot
     → (f : SlotField) → SlotHere bytes r f → Writes (getter_request sheet f.name f.slot is_reader is_fn) l t l₄ q
-getter-here {p = p} {of-option} {of-default} q l t bytes r name sheet is_reader is_fn named x newline code decl o d own first f h =
+getter-here {p = p} {of-option} {of-default} q l t bytes r name sheet is_reader is_fn named x newline code decl o d own
+    first f h =
     rw (← named f h)
     (getter-told sheet name f.slot is_reader is_fn r h.slot q (x f h) newline
     (λ k. code_of r f.slot h.slot k sheet.root name is_reader is_fn code)

@@ -1,7 +1,7 @@
 -- Laws of a field that was read: which it is in the tree, and what its type's text and its accessors are there, by the field's
 -- arm. Assumes nothing.
 use mathlib.Core.Path.{◌≡◌, refl, sym}
-use mathlib.Core.List.{List, [], ◌∷◌}
+use mathlib.Core.List.{List}
 use mathlib.Core.Option.{Option, none, some}
 use mathlib.Core.Bool.{true, false, not}
 use Prim.Native.Nat.{ℕ, ◌-◌, ◌<◌}
@@ -9,8 +9,6 @@ use native.Mathlib.Omega.{arith}
 use borrow.Author.Tests.{ne_eqb}
 use lib.Dec.{eqb}
 use lib.ListN.{drop}
-use package.types.Run.{OneOf, miss}
-use denote.Enum.Declared.{tag_of}
 use Rattle.text.specs.Bytes.{Str}
 use Rattle.text.specs.Lines.{Branch, stringify}
 use Rattle.text.specs.declared.Text.{Text}
@@ -20,7 +18,6 @@ use Rattle.tree.specs.Tree.{Ty, Arm, slot, group, Node, Sheet}
 use Rattle.tree.specs.Fields.{FieldsHere}
 use Rattle.tree.specs.Read.{read_type}
 use Rattle.tree.specs.Reader.{Reading, got, no, On, Has}
-use Rattle.tree.proofs.OtherLines.{never}
 use Rattle.codegen_types.specs.Out.{Out, ok, refused, ◌then◌}
 use Rattle.codegen_types.specs.TypeString.{type_string}
 use Rattle.codegen_types.specs.Written.{Writes}
@@ -29,7 +26,6 @@ use Rattle.codegen_types.specs.declared.Written.{Written}
 use Rattle.codegen_types.proofs.WrittenLaws as written
 use Rattle.nodes.specs.Index.{by_id, nth, Indexed, Finds, lookup}
 use Rattle.nodes.specs.declared.Entry.{Entry}
-use Rattle.nodes.specs.declared.Found.{Found}
 use Rattle.nodes.specs.declared.Found.TheVariants as found
 use Rattle.nodes.proofs.Laws.{found-is}
 use Rattle.field.specs.Slot.{SlotField, SlotHere}
@@ -38,14 +34,12 @@ use Rattle.field.specs.declared.Slot as code
 use Rattle.field.specs.declared.Group.{Group}
 use Rattle.field.specs.declared.Field.{Field}
 use Rattle.field.specs.declared.Field.TheVariants as field
-use Rattle.field.specs.contracts.Field.{the_type}
 use Rattle.requests.specs.Parts.{may_have_scopes}
 use Rattle.codegen.specs.Zeroing.{Zeroing, zero_fields_of_group, zeroing_request}
 use Rattle.zeroing.specs.Told.{Zeroes}
 use Rattle.zeroing.specs.declared.Zeroed.{Zeroed}
 use Rattle.requests.specs.Requests.{there, leaf_of, field_at, type_text, slot_named, slot_field, group_of}
 use Rattle.requests.specs.Parts.{Locates}
-use Rattle.requests.specs.declared.Located.{Located}
 
 -- ---- where a field is
 
@@ -78,15 +72,9 @@ module _ (s : Str) (index : List ℕ) (nodes : List Node) (id place : ℕ) where
       go (some n) h = absurd h
       go none h = (refl, refl)
 
--- a field that was found is not nothing
-pub not-nothing : (f : Field) → OneOf (0 ∷ 1 ∷ []) (tag_of the_type f) → f ≡ field.Nothing → ⊥
-not-nothing (field.Slot r) o e = never cc
-not-nothing (field.Group g) o e = never cc
-not-nothing field.Nothing o e = miss (0 ∷ 1 ∷ []) 2 tt o
-
 -- whether it may have scopes: nothing but a slot, by the bytes between its type and its words
-pub scopes-none : (f : Field) → OneOf (1 ∷ 2 ∷ []) (tag_of the_type f) → false ≡ may_have_scopes f
-scopes-none (field.Slot r) o = absurd (miss (1 ∷ 2 ∷ []) 0 tt o)
+pub scopes-none : (f : Field) → ((r : code.Slot) → f ≡ field.Slot r → ⊥) → false ≡ may_have_scopes f
+scopes-none (field.Slot r) o = absurd (o r refl)
 scopes-none (field.Group g) o = refl
 scopes-none field.Nothing o = refl
 

@@ -11,10 +11,9 @@ bit_of-requires c = rw c.bit_address-a.ensures (mod-lt c.args.o.0 (zero-lt-suc 7
 
 pub returns-then-byte-section : goal.returns-then-byte-section
 returns-then-byte-section c =
-    let c1 = c in
-    let e = c1.bit_address-a.ensures in
-    let a = c1.args in
-    rw (c.flag.ensures, c.bit_of.ensures, e) (get-bit a.section.now a.o (rw e at c1.if-byte-section.true) a.mask)
+    let e = c.bit_address-a.ensures in
+    let a = c.args in
+    rw (c.flag.ensures, c.bit_of.ensures, e) (get-bit a.section.now a.o (rw e at c.if-byte-section.true) a.mask)
 
 pub returns-else-byte-section : goal.returns-else-byte-section
 returns-else-byte-section c =

@@ -12,28 +12,15 @@ load-requires c = (
 
 pub returns-then-inside : goal.returns-then-inside
 returns-then-inside c =
-    let t = c in
-    let b = t in
-    let start = b in
-    let e = b.element_address-at.ensures in
-    let h = leb-true _ _ (rw (t.inside.ensures, e, b.bytes-n.ensures) at t.if-inside.true) in
-    rw (
-      c.low_bits.ensures,
-      c.load.ensures,
-      e,
-      b.bytes-n.ensures,
-      get-data start.args.section.now start.args.width start.args.o h
-          (λ i. (c.type_inv.section i).fits)
-          start.args.mask,
-    )
+    let a = c.args in
+    let e = c.element_address-at.ensures in
+    let h = leb-true _ _ (rw (c.inside.ensures, e, c.bytes-n.ensures) at c.if-inside.true) in
+    let get = get-data a.section.now a.width a.o h (λ i. (c.type_inv.section i).fits) a.mask in
+    rw (c.low_bits.ensures, c.load.ensures, e, c.bytes-n.ensures, get)
 
 pub returns-else-inside : goal.returns-else-inside
 returns-else-inside c =
-    let t = c in
-    let b = t in
-    let start = b in
-    let e = b.element_address-at.ensures in
-    let h = leb-false _ _ (rw (t.inside.ensures, e, b.bytes-n.ensures) at t.if-inside.false) in
-    let w = start.args.width in
-    let o = start.args.o in
-    rw (c.low_bits-else-inside.ensures, get-past-bytes (data_at w o) start.args.section.now (data-past w o _ h))
+    let a = c.args in
+    let e = c.element_address-at.ensures in
+    let h = leb-false _ _ (rw (c.inside.ensures, e, c.bytes-n.ensures) at c.if-inside.false) in
+    rw (c.low_bits-else-inside.ensures, get-past-bytes (data_at a.width a.o) a.section.now (data-past a.width a.o _ h))

@@ -33,13 +33,12 @@ overflow_add-word c =
 
 pub loop-i-preserved : goal.loop-i-preserved
 loop-i-preserved c =
-    let k = c in
-    let inv = k.loop-i.invariant in
-    let l = k.args.section.now in
-    let i = k.loop-i.i in
-    let a = k.args.at + (i - 1) in
-    let n = k.args.n in
-    let e : suc a ≡ k.args.at + i = omega arith in
+    let inv = c.loop-i.invariant in
+    let l = c.args.section.now in
+    let i = c.loop-i.i in
+    let a = c.args.at + (i - 1) in
+    let n = c.args.n in
+    let e : suc a ≡ c.args.at + i = omega arith in
     let f : suc (n - i) ≡ n - (i - 1) = omega arith in
     (omega arith, inv.1, inv.2, rw (← f, little-turn l a (n - i) (omega arith), e, inv.3) (omega arith))
 

@@ -8,17 +8,12 @@ store-requires c = leb-true _ _ (rw c.inside.ensures at c.if-inside.true)
 
 pub returns-then-inside : goal.returns-then-inside
 returns-then-inside c =
-    let t = c in
-    let b = t in
-    let start = b in
-    let e = b.element_address-at.ensures in
-    let h = leb-true _ _ (rw (t.inside.ensures, e, b.bytes-n.ensures) at t.if-inside.true) in
-    rw (c.store.ensures, e, b.bytes-n.ensures) (put-data-done start.args.value start.args.mask h)
+    let e = c.element_address-at.ensures in
+    let h = leb-true _ _ (rw (c.inside.ensures, e, c.bytes-n.ensures) at c.if-inside.true) in
+    rw (c.store.ensures, e, c.bytes-n.ensures) (put-data-done c.args.value c.args.mask h)
 
 pub returns-else-inside : goal.returns-else-inside
 returns-else-inside c =
-    let b = c in
-    let start = b in
-    let e = b.element_address-at.ensures in
-    let h = leb-false _ _ (rw (c.inside.ensures, e, b.bytes-n.ensures) at c.if-inside.false) in
-    put-none (data-past start.args.width start.args.o _ h)
+    let e = c.element_address-at.ensures in
+    let h = leb-false _ _ (rw (c.inside.ensures, e, c.bytes-n.ensures) at c.if-inside.false) in
+    put-none (data-past c.args.width c.args.o _ h)

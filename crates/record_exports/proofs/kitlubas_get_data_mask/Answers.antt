@@ -6,16 +6,13 @@ use Rattle.record_exports.proofs.kitlubas_get_data_mask.Goals as goal
 
 pub returns-in_default : goal.returns-in_default
 returns-in_default c =
-    let b = c in
-    let a = b.args in
+    let a = c.args in
     let l = section_bits a.section.now in
-    rw (of_none a.width (elements a.offset) a.mask l b.width_of.ensures c.in_default.is) gave_nothing
+    rw (of_none a.width (elements a.offset) a.mask l c.width_of.ensures c.in_default.is) gave_nothing
 
 pub returns : goal.returns
 returns c =
-    let w = c in
-    let b = w in
-    let a = b.args in
+    let a = c.args in
     let l = section_bits a.section.now in
-    rw (of_width a.width w.in-Is.w (elements a.offset) a.mask l b.width_of.ensures w.in-Is.is)
+    rw (of_width a.width c.in-Is.w (elements a.offset) a.mask l c.width_of.ensures c.in-Is.is)
     (gave_value c.get_data_field_mask.ensures)

@@ -6,20 +6,13 @@ use Rattle.record_exports.proofs.kitlubas_set_data_mask.Goals as goal
 
 pub returns-in_default : goal.returns-in_default
 returns-in_default c =
-    let b = c in
-    let a = b.args in
+    let a = c.args in
     let l = section_bits a.section.now in
-    rw (put-no_width a.width (elements a.offset) a.value a.mask l b.width_of.ensures c.in_default.is)
-    left-none
+    rw (put-no_width a.width (elements a.offset) a.value a.mask l c.width_of.ensures c.in_default.is) left-none
 
 pub returns : goal.returns
 returns c =
-    let p = c in
-    let w = p in
-    let b = w in
-    let a = b.args in
-    rw
-    (put_width a.width w.in-Is.w (elements a.offset) a.value a.mask (section_bits a.section.now)
-    b.width_of.ensures
-    w.in-Is.is)
-    (left-put p.set_data_field_mask.ensures c.done.ensures)
+    let a = c.args in
+    let l = section_bits a.section.now in
+    rw (put_width a.width c.in-Is.w (elements a.offset) a.value a.mask l c.width_of.ensures c.in-Is.is)
+    (left-put c.set_data_field_mask.ensures c.done.ensures)

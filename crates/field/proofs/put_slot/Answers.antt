@@ -1,0 +1,14 @@
+-- `field::put_slot` meets its contract: fourteen stores, one after the other from the first place on. Assumes nothing.
+use native.Mathlib.Omega.{arith}
+use lib.ListN.{length-set}
+use Rattle.field.specs.Numbers.{slot_numbers}
+use Rattle.field.proofs.NumbersLaws.{begun_by}
+use Rattle.field.proofs.put_slot.Goals as goal
+
+pub returns : goal.returns
+returns c =
+    let a = c.args in
+    begun_by (slot_numbers a.slot) a.numbers.now (omega arith)
+
+pub shape_of-numbers : goal.shape_of-numbers
+shape_of-numbers c = simp length-set
