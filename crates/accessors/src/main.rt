@@ -8,10 +8,14 @@ fn main(rt: HostRuntime) -> io::Result<()> {
     // One byte more than a sheet may have: a longer one is then known to be longer.
     let mut sheet = [0u8; 65537];
     let Input::Bytes(n) = programs::read_input(&rt, &mut sheet) else {
-        return rt.stderr().write_all(b"accessors: cannot read standard input\n");
+        return rt
+            .stderr()
+            .write_all(b"accessors: cannot read standard input\n");
     };
     if !parts::print_sheet(&rt, &sheet[..n]) {
-        return rt.stderr().write_all(b"accessors: cannot write standard output\n");
+        return rt
+            .stderr()
+            .write_all(b"accessors: cannot write standard output\n");
     }
     Ok(())
 }

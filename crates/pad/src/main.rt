@@ -16,7 +16,9 @@ fn print_padded(rt: &HostRuntime, short: &[u8]) -> io::Result<()> {
     }
     let n = programs::filled(t, &sheet);
     if rt.write_all(&sheet[..n]).is_err() {
-        return rt.stderr().write_all(b"pad: cannot write standard output\n");
+        return rt
+            .stderr()
+            .write_all(b"pad: cannot write standard output\n");
     }
     Ok(())
 }

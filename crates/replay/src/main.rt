@@ -95,7 +95,9 @@ fn replay(rt: &HostRuntime, cases: &[u8], buf: &mut [u8]) -> io::Result<()> {
 fn main(rt: HostRuntime) -> io::Result<()> {
     let mut cases = [0u8; 65536];
     let Input::Bytes(n) = programs::read_input(&rt, &mut cases) else {
-        return rt.stderr().write_all(b"replay: cannot read standard input\n");
+        return rt
+            .stderr()
+            .write_all(b"replay: cannot read standard input\n");
     };
     let mut buf = [0u8; 4096];
     replay(&rt, &cases[..n], &mut buf)
