@@ -25,7 +25,7 @@ fn main() {
     write(&out.join("accessors.rs"), source::file(&sheets));
     write(&out.join("whole.rs"), whole_enum());
 
-    // The record crate's functions, which `rt staticlib record_exports` writes.
+    // The record crate's functions, which `tools/build record_exports` writes.
     let archives = package.join("../target/staticlib");
     println!("cargo:rerun-if-changed={}", archives.join("librecord_exports.a").display());
     println!("cargo:rustc-link-search=native={}", archives.display());

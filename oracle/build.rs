@@ -2,8 +2,8 @@
 //! and src/pointer_constants.rs include; and links the static library of Kitlubas and that of the bench.
 //!
 //! CAPNPC_SRC names the folder that holds capnpc/src; by default it is docs/src of the folder `shared` beside the
-//! project. KITLUBAS_LIB names the archive; by default the one that `rt staticlib exports` writes. The bench's is the one that
-//! `rt staticlib bench_ends` writes.
+//! project. KITLUBAS_LIB names the archive; by default the one that `tools/build exports` writes. The bench's is the one that
+//! `tools/build bench_ends` writes.
 
 #[path = "build/cut.rs"]
 mod cut;
@@ -75,7 +75,7 @@ fn main() {
 
 /// Tells cargo where an archive lies that src/boundary.rs links, and of which crate it is.
 fn link(archive: &Path, name: &str) {
-    assert!(archive.exists(), "{}: not there; `rt staticlib {name}` writes it", archive.display());
+    assert!(archive.exists(), "{}: not there; `tools/build {name}` writes it", archive.display());
     println!("cargo:rerun-if-changed={}", archive.display());
     let folder = archive.parent().expect("the archive lies in a folder");
     println!("cargo:rustc-link-search=native={}", folder.display());

@@ -1,4 +1,4 @@
-// Links the static library that `rt staticlib record_exports` writes.
+// Links the static library that `tools/build record_exports` writes.
 fn main() {
     let lib = std::path::Path::new(env!("CARGO_MANIFEST_DIR")).join("../target/staticlib");
     println!("cargo:rustc-link-search=native={}", lib.display());

@@ -1,5 +1,5 @@
 //! Links the static library of Kitlubas. KITLUBAS_LIB names the archive; by default it is the one that
-//! `rt staticlib exports` writes into the repository that this package lies in.
+//! `tools/build exports` writes into the repository that this package lies in.
 
 use std::env;
 use std::path::PathBuf;
@@ -12,7 +12,7 @@ fn main() {
     println!("cargo:rerun-if-changed={}", archive.display());
     assert!(
         archive.is_file(),
-        "no archive {}: `rt staticlib exports` writes it, KITLUBAS_LIB names it",
+        "no archive {}: `tools/build exports` writes it, KITLUBAS_LIB names it",
         archive.display()
     );
 

@@ -133,7 +133,7 @@
 //!
 //! # Building
 //!
-//! The archive is the one that `rt staticlib exports` writes to `target/staticlib/libexports.a` in the repository, or
+//! The archive is the one that `tools/build exports` writes to `target/staticlib/libexports.a` in the repository, or
 //! the file that the variable `KITLUBAS_LIB` names at build time.
 
 #![deny(missing_docs, unsafe_code, unsafe_op_in_unsafe_fn)]
