@@ -8,3 +8,4 @@ pub mod SetterLaws
 pub mod AloneLaws
 pub mod HaserLaws
 pub mod ClaimLaws
+pub mod Examples

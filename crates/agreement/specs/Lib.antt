@@ -1,4 +1,3 @@
 pub mod Slots
 pub mod Claims
-pub mod Examples
 pub mod Starred

@@ -36,7 +36,7 @@ use Rattle.nodes.specs.Index.{by_id, nth}
 use Rattle.requests.specs.Requests as requests
 use Rattle.requests.specs.Requests.{accessor_text, of_field, Outcome, gives, refuses, outcome_of}
 use Rattle.requests.specs.declared.Accessor.TheVariants.{Getter, Haser, Zeroing}
-use Rattle.agreement.specs.Examples.{ran_of}
+use Rattle.agreement.proofs.Examples.{ran_of}
 use Rattle.agreement.specs.Slots.{Ran, SlotAt, slot_kind}
 use Rattle.record.specs.Record.{Record, found, stored, get_bits, put_bits, null_flag, clear_flag}
 use Rattle.record.specs.Types as kinds

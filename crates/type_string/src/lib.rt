@@ -212,9 +212,8 @@ fn write_chain(
     ensures some { WroteSome buf.old first.text buf.new result.arguments.text }
 {
     let chain = types::chain(index, brand.id);
-    let ids = chain.ids;
     let count = chain.count;
-    let scopes = types::scopes(s, brand.scopes, brand.count, &ids[..count]);
+    let scopes = types::scopes(s, brand.scopes, brand.count, &chain.ids[..count]);
     let inward = buf.len() == 0;
     let mut done: usize = 0;
     let mut p = first;

@@ -56,7 +56,7 @@ fn header_and_declarations_of_sheets() {
 
 #[test]
 fn header_and_exported_functions_of_sheets() {
-    same(&of_sheets(), &exported("crates/exports/src"), "header and exported functions");
+    same(&of_sheets(), &exported("crates/exports_c/src"), "header and exported functions");
 }
 
 #[test]

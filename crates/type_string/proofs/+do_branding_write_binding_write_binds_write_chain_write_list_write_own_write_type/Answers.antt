@@ -104,8 +104,8 @@ write_binds-returns t c = record {
 
 -- ---- write_chain
 
-pub write_chain-slice_bounds-ids-end : goal.write_chain-slice_bounds-ids-end
-write_chain-slice_bounds-ids-end t c =
+pub write_chain-shared_ref_as_front-scopes : goal.write_chain-shared_ref_as_front-scopes
+write_chain-shared_ref_as_front-scopes t c =
     let h = c.chain-chain.ensures c.args.s.now in omega (arith, h.few, h.ids_size)
 
 pub write_chain-slice_bounds-scopes-end : goal.write_chain-slice_bounds-scopes-end
