@@ -1,6 +1,6 @@
 /*
  * Kitlubas: slot accessors from schema sheets. These are the functions of the static library libexports.a, which
- * `rt staticlib exports` writes to target/staticlib. docs/SHEET.md says what a sheet, a request and an answer are.
+ * `tools/build exports` writes to target/staticlib. docs/SHEET.md says what a sheet, a request and an answer are.
  *
  * A caller may pass anything: any bytes, any numbers, a buffer or an index of any length. Each function is proved for
  * every value of its arguments; it returns, and reads and writes nothing but what it is lent. What C leaves to the caller:

@@ -1,6 +1,6 @@
 /*
  * Kitlubas: what accessors do to a record. These are the functions of the static library librecord_exports.a, which
- * `rt staticlib record_exports` writes to target/staticlib.
+ * `tools/build record_exports` writes to target/staticlib.
  *
  * A record is a data section of bytes, and a list of pointers, of which each is a byte: 0 for null. A Bool's offset counts
  * bits, a number's counts its own widths, a pointer's counts pointers. A width is 1, 2, 4 or 8 bytes; of any other nothing
