@@ -1,4 +1,3 @@
-pub mod OtherLaws
 pub mod TypeLaws
 pub mod WordsLaws
 pub mod SlotLaws

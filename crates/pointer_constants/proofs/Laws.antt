@@ -5,7 +5,7 @@ use mathlib.Core.List.{List, [], ◌∷◌, ◌++◌, append_assoc}
 use Prim.Native.Nat.{ℕ, zero, suc, ◌-◌, ◌/◌, ◌%◌, ◌<◌, ◌≤◌}
 use native.Mathlib.Numerals.{sub-one}
 use native.Mathlib.Omega.{arith}
-use package.types.Run.{OneOf, hit}
+use package.types.Run.{OneOf}
 use denote.Enum.Declared.{tag_of}
 use lib.ListN.{length}
 use Rattle.row.specs.contracts.Line.{the_type}
@@ -22,7 +22,7 @@ use Rattle.row.specs.declared.Line.{Line as RowLine}
 use Rattle.row.specs.declared.Line.TheVariants as line
 use Rattle.tree.specs.Reader.{Rows, Reading, Reader, got, no, ◌then◌, On, Has}
 use Rattle.tree.specs.Read.{read_words_up_to, read_words}
-use Rattle.tree.proofs.OtherLines.{not-word}
+use Rattle.tree.proofs.OtherLines.{but_Word, not-word}
 use Rattle.tree.proofs.WalkLaws.{by_told}
 use Rattle.types.proofs.Laws.{on-map, on_one}
 use Rattle.codegen.specs.WordArray.{bytes_from, word_bytes, words_lines, word_array_declaration}
@@ -99,23 +99,6 @@ unfolding words_at
 words-none zero rs h = refl
 words-none (suc n) rs h = let z : ⊥ = omega arith in absurd z
 
--- the tag of a line that is no W row, as the `match` tells it
-abbrev no_word : List ℕ
-no_word = 0 ∷ 1 ∷ 2 ∷ 3 ∷ 4 ∷ 5 ∷ 6 ∷ 7 ∷ 8 ∷ 10 ∷ []
-
-pub no_word-tag : (l : RowLine) → ((w : ℕ) → l ≡ line.Word w → ⊥) → OneOf no_word (tag_of the_type l)
-no_word-tag line.Root h = hit no_word 0 tt
-no_word-tag (line.Node a b c d e f g) h = hit no_word 1 tt
-no_word-tag line.Parameter h = hit no_word 2 tt
-no_word-tag (line.Field a b c d) h = hit no_word 3 tt
-no_word-tag (line.Group a b) h = hit no_word 4 tt
-no_word-tag (line.Typ a b c d) h = hit no_word 5 tt
-no_word-tag (line.Scope a b c) h = hit no_word 6 tt
-no_word-tag line.Unbound h = hit no_word 7 tt
-no_word-tag (line.Value a b) h = hit no_word 8 tt
-no_word-tag (line.Word a) h = absurd (h a refl)
-no_word-tag (line.Bad x k c) h = hit no_word 10 tt
-
 -- what the code says of the first row, and the rows after it
 module _ (rs rest : Rows) (l : RowLine) (here : line_said l ≡ line_at rs) (after : rest ≡ rest_of rs) where
   pub words_more : (n w : ℕ) → 0 < n → l ≡ line.Word w → words_at n rs ≡ w ∷ words_at (n - 1) rest
@@ -123,7 +106,7 @@ module _ (rs rest : Rows) (l : RowLine) (here : line_said l ≡ line_at rs) (aft
   words_more zero w h is = let z : ⊥ = omega arith in absurd z
   words_more (suc n) w h is = rw (← here, is, ← after, sub-one (suc n)) refl
 
-  pub words-stop : (n : ℕ) → 0 < n → OneOf no_word (tag_of the_type l) → words_at n rs ≡ []
+  pub words-stop : (n : ℕ) → 0 < n → OneOf but_Word (tag_of the_type l) → words_at n rs ≡ []
   unfolding words_at
   words-stop zero h other = let z : ⊥ = omega arith in absurd z
   words-stop (suc n) h other = rw (← here) (not-word l _ _ other)

@@ -1,4 +1,3 @@
-pub mod OtherLaws
 pub mod FlagsLaws
 pub mod RoomLaws
 pub mod FieldsLaws

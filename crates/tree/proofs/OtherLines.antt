@@ -165,7 +165,72 @@ not_a_field (Value a b) h = refl
 not_a_field (Word a) h = refl
 not_a_field (Bad x k c) h = refl
 
--- the tag of a line that is not of one letter, or not bad, as the `match`es tell it
+-- the tag of a line that is not of one letter, or neither F nor G, or not bad, as the `match`es tell it
+abbrev but_Root : List ℕ
+but_Root = 1 ∷ 2 ∷ 3 ∷ 4 ∷ 5 ∷ 6 ∷ 7 ∷ 8 ∷ 9 ∷ 10 ∷ []
+
+pub not_root-tag : (l : Line) → (l ≡ Root → ⊥) → OneOf but_Root (tag_of the_type l)
+not_root-tag Root h = absurd (h refl)
+not_root-tag (Node a b c d e f g) h = hit but_Root 1 tt
+not_root-tag Parameter h = hit but_Root 2 tt
+not_root-tag (Field a b c d) h = hit but_Root 3 tt
+not_root-tag (Group a b) h = hit but_Root 4 tt
+not_root-tag (Typ a b c d) h = hit but_Root 5 tt
+not_root-tag (Scope a b c) h = hit but_Root 6 tt
+not_root-tag Unbound h = hit but_Root 7 tt
+not_root-tag (Value a b) h = hit but_Root 8 tt
+not_root-tag (Word a) h = hit but_Root 9 tt
+not_root-tag (Bad x k c) h = hit but_Root 10 tt
+
+abbrev but_Node : List ℕ
+but_Node = 0 ∷ 2 ∷ 3 ∷ 4 ∷ 5 ∷ 6 ∷ 7 ∷ 8 ∷ 9 ∷ 10 ∷ []
+
+pub not_node-tag : (l : Line) → ((a b c d e f g : ℕ) → l ≡ Node a b c d e f g → ⊥) → OneOf but_Node (tag_of the_type l)
+not_node-tag Root h = hit but_Node 0 tt
+not_node-tag (Node a b c d e f g) h = absurd (h a b c d e f g refl)
+not_node-tag Parameter h = hit but_Node 2 tt
+not_node-tag (Field a b c d) h = hit but_Node 3 tt
+not_node-tag (Group a b) h = hit but_Node 4 tt
+not_node-tag (Typ a b c d) h = hit but_Node 5 tt
+not_node-tag (Scope a b c) h = hit but_Node 6 tt
+not_node-tag Unbound h = hit but_Node 7 tt
+not_node-tag (Value a b) h = hit but_Node 8 tt
+not_node-tag (Word a) h = hit but_Node 9 tt
+not_node-tag (Bad x k c) h = hit but_Node 10 tt
+
+abbrev but_Parameter : List ℕ
+but_Parameter = 0 ∷ 1 ∷ 3 ∷ 4 ∷ 5 ∷ 6 ∷ 7 ∷ 8 ∷ 9 ∷ 10 ∷ []
+
+pub not_parameter-tag : (l : Line) → (l ≡ Parameter → ⊥) → OneOf but_Parameter (tag_of the_type l)
+not_parameter-tag Root h = hit but_Parameter 0 tt
+not_parameter-tag (Node a b c d e f g) h = hit but_Parameter 1 tt
+not_parameter-tag Parameter h = absurd (h refl)
+not_parameter-tag (Field a b c d) h = hit but_Parameter 3 tt
+not_parameter-tag (Group a b) h = hit but_Parameter 4 tt
+not_parameter-tag (Typ a b c d) h = hit but_Parameter 5 tt
+not_parameter-tag (Scope a b c) h = hit but_Parameter 6 tt
+not_parameter-tag Unbound h = hit but_Parameter 7 tt
+not_parameter-tag (Value a b) h = hit but_Parameter 8 tt
+not_parameter-tag (Word a) h = hit but_Parameter 9 tt
+not_parameter-tag (Bad x k c) h = hit but_Parameter 10 tt
+
+abbrev but_Field_and_Group : List ℕ
+but_Field_and_Group = 0 ∷ 1 ∷ 2 ∷ 5 ∷ 6 ∷ 7 ∷ 8 ∷ 9 ∷ 10 ∷ []
+
+pub not_a_field-tag : (l : Line) → ((a b c d : ℕ) → l ≡ Field a b c d → ⊥) → ((a b : ℕ) → l ≡ Group a b → ⊥)
+    → OneOf but_Field_and_Group (tag_of the_type l)
+not_a_field-tag Root u v = hit but_Field_and_Group 0 tt
+not_a_field-tag (Node a b c d e f g) u v = hit but_Field_and_Group 1 tt
+not_a_field-tag Parameter u v = hit but_Field_and_Group 2 tt
+not_a_field-tag (Field a b c d) u v = absurd (u a b c d refl)
+not_a_field-tag (Group a b) u v = absurd (v a b refl)
+not_a_field-tag (Typ a b c d) u v = hit but_Field_and_Group 5 tt
+not_a_field-tag (Scope a b c) u v = hit but_Field_and_Group 6 tt
+not_a_field-tag Unbound u v = hit but_Field_and_Group 7 tt
+not_a_field-tag (Value a b) u v = hit but_Field_and_Group 8 tt
+not_a_field-tag (Word a) u v = hit but_Field_and_Group 9 tt
+not_a_field-tag (Bad x k c) u v = hit but_Field_and_Group 10 tt
+
 abbrev but_Typ : List ℕ
 but_Typ = 0 ∷ 1 ∷ 2 ∷ 3 ∷ 4 ∷ 6 ∷ 7 ∷ 8 ∷ 9 ∷ 10 ∷ []
 
@@ -230,7 +295,7 @@ not_value-tag (Value a b) h = absurd (h a b refl)
 not_value-tag (Word a) h = hit but_Value 9 tt
 not_value-tag (Bad x k c) h = hit but_Value 10 tt
 
-abbrev but_Word : List ℕ
+abbrev pub but_Word : List ℕ
 but_Word = 0 ∷ 1 ∷ 2 ∷ 3 ∷ 4 ∷ 5 ∷ 6 ∷ 7 ∷ 8 ∷ 10 ∷ []
 
 pub not_word-tag : (l : Line) → ((a : ℕ) → l ≡ Word a → ⊥) → OneOf but_Word (tag_of the_type l)

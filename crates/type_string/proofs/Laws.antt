@@ -8,9 +8,6 @@ use native.Mathlib.Omega.{arith}
 use borrow.Author.Tests.{eq-eqb, ne_eqb}
 use lib.Dec.{eqb}
 use lib.ListN.{length, drop, take, get_or, replicate}
-use package.types.Run.{OneOf, hit}
-use denote.Enum.Declared.{tag_of}
-use Rattle.row.specs.contracts.Line.{the_type}
 use Rattle.text.specs.Bytes.{Str, ascii, unit, cond}
 use Rattle.text.specs.Text.{Wrote}
 use Rattle.text.specs.declared.Text.{Text}
@@ -18,12 +15,12 @@ use Rattle.text.proofs.Laws.{◌⨾◌}
 use Rattle.row.specs.Rows.{rows, rest_of}
 use Rattle.row.specs.Line.{line_said, line_at}
 use Rattle.row.specs.declared.Line.{Line}
-use Rattle.row.specs.declared.Line.TheVariants as letter
 use Rattle.row.specs.declared.Line.TheVariants.{Scope, Unbound}
 use Rattle.tree.specs.Tree.{list, struct, Scopes, end, Binds, stop, Node, Sheet}
 use Rattle.tree.specs.Reader.{Rows, Reading, got, no, times, On, Has}
 use Rattle.tree.specs.Read as read
 use Rattle.tree.specs.Read.{read_type, type_from, read_binding}
+use Rattle.tree.proofs.OtherLines.{not_scope-tag, not_unbound-tag}
 use Rattle.nodes.specs.Index.{names_of, sheet_of, Indexed}
 use Rattle.codegen_types.specs.Out.{Out, ok, refused, ◌then◌}
 use Rattle.codegen_types.specs.Leaf.{bare_name, display, lifetime_comma, maybe_colons, leaf_arguments}
@@ -62,39 +59,6 @@ clash {A} {r} {k} e f = absurd (subst go (sym e ∙ f) tt)
     go : Option ℕ → Type 0
     go none = Unit {0}
     go (some j) = ⊥
-
--- a line that is not of one letter is one of the others, by its tag
-abbrev but_Scope : List ℕ
-but_Scope = 0 ∷ 1 ∷ 2 ∷ 3 ∷ 4 ∷ 5 ∷ 7 ∷ 8 ∷ 9 ∷ 10 ∷ []
-
-other_scope : (l : Line) → ((i b m : ℕ) → l ≡ Scope i b m → ⊥) → OneOf but_Scope (tag_of the_type l)
-other_scope letter.Root h = hit but_Scope 0 tt
-other_scope (letter.Node a b c d e f g) h = hit but_Scope 1 tt
-other_scope letter.Parameter h = hit but_Scope 2 tt
-other_scope (letter.Field a b c d) h = hit but_Scope 3 tt
-other_scope (letter.Group a b) h = hit but_Scope 4 tt
-other_scope (letter.Typ a b c d) h = hit but_Scope 5 tt
-other_scope (Scope a b c) h = absurd (h a b c refl)
-other_scope Unbound h = hit but_Scope 7 tt
-other_scope (letter.Value a b) h = hit but_Scope 8 tt
-other_scope (letter.Word a) h = hit but_Scope 9 tt
-other_scope (letter.Bad x k c) h = hit but_Scope 10 tt
-
-abbrev but_Unbound : List ℕ
-but_Unbound = 0 ∷ 1 ∷ 2 ∷ 3 ∷ 4 ∷ 5 ∷ 6 ∷ 8 ∷ 9 ∷ 10 ∷ []
-
-other_unbound : (l : Line) → (l ≡ Unbound → ⊥) → OneOf but_Unbound (tag_of the_type l)
-other_unbound letter.Root h = hit but_Unbound 0 tt
-other_unbound (letter.Node a b c d e f g) h = hit but_Unbound 1 tt
-other_unbound letter.Parameter h = hit but_Unbound 2 tt
-other_unbound (letter.Field a b c d) h = hit but_Unbound 3 tt
-other_unbound (letter.Group a b) h = hit but_Unbound 4 tt
-other_unbound (letter.Typ a b c d) h = hit but_Unbound 5 tt
-other_unbound (Scope a b c) h = hit but_Unbound 6 tt
-other_unbound Unbound h = absurd (h refl)
-other_unbound (letter.Value a b) h = hit but_Unbound 8 tt
-other_unbound (letter.Word a) h = hit but_Unbound 9 tt
-other_unbound (letter.Bad x k c) h = hit but_Unbound 10 tt
 
 -- ---- lists
 
@@ -279,7 +243,7 @@ module _ (left : ℕ) (sheet : Sheet) (q ps : Rows) (line : Line) (at : line_sai
       go : (q : Rows) → line_said line ≡ line_at q → ScopeAt left sheet q o
           → Lists (arguments_of sheet.root (names_of ps) o) l p l' r
       go [] e h = rw (h, map-replicate (any_owned sheet.root) (names_of ps), ← count) (all_listed w f)
-      go (x ∷ rs) e h = absurd (scope-not left sheet (x ∷ rs) o line e (other_scope line other) h)
+      go (x ∷ rs) e h = absurd (scope-not left sheet (x ∷ rs) o line e (not_scope-tag line other) h)
 
   module _ (i b m : ℕ) (is : line ≡ Scope i b m) where
     pub own-inherit : b ≡ 0 → Listed l p (texts_of own ps) l' r.arguments → refusal_number r.refusal ≡ none
@@ -374,4 +338,4 @@ module _ (sheet : Sheet) (left : ℕ) (rs : Rows) (line : Line) (at : line_said 
       → On (read_binding (read_type left) rs) (λ f. Writes (only_of (bindings_of (f stop) sheet)) l t l' r)
   unfolding bindings_of
   bind-typed other h = read-law.bind-typed left rs (λ f. Writes (only_of (bindings_of (f stop) sheet)) l t l' r) line at
-      (other_unbound line other) h
+      (not_unbound-tag line other) h

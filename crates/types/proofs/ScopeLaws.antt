@@ -5,7 +5,6 @@ use mathlib.Core.List.{List, [], ◌∷◌}
 use mathlib.Core.Option.{Option, none, some}
 use Prim.Native.Nat.{ℕ, zero, suc, ◌+◌, ◌-◌, ◌<◌, ◌≤◌}
 use native.Mathlib.Omega.{arith}
-use borrow.Author.Rules.{rules}
 use native.Mathlib.Numerals.{sub-one}
 use borrow.Author.Tests.{eq-eqb, ne_eqb, eqb-true, eqb-false}
 use lib.Dec.{eqb}
@@ -34,21 +33,6 @@ use Rattle.types.specs.Find.{last_scope, past_rows, AllParts, Past}
 use Rattle.types.specs.Find.{or_none, LastScopes, Noted, ScopeIs, ScopeAt, ScopeHere}
 use Rattle.types.proofs.Laws.{on-two, parts_next, parts-split, scopes-parts}
 use Rattle.types.proofs.Laws.{scope_counts, scope-none, scope_other, scope_this, scope-next}
-
--- a line that is no S line is one of the others, by its tag
-pub other_scope : (l : Line) → ((i b m : ℕ) → l ≡ line.Scope i b m → ⊥)
-    → OneOf (0 ∷ 1 ∷ 2 ∷ 3 ∷ 4 ∷ 5 ∷ 7 ∷ 8 ∷ 9 ∷ 10 ∷ []) (tag_of the_type l)
-other_scope line.Root h = search rules
-other_scope (line.Node a b c d e f g) h = search rules
-other_scope line.Parameter h = search rules
-other_scope (line.Field a b c d) h = search rules
-other_scope (line.Group a b) h = search rules
-other_scope (line.Typ k a b c) h = search rules
-other_scope (line.Scope i b m) h = absurd (h i b m refl)
-other_scope line.Unbound h = search rules
-other_scope (line.Value a b) h = search rules
-other_scope (line.Word a) h = search rules
-other_scope (line.Bad x k c) h = search rules
 
 -- ---- noting a position
 

@@ -6,7 +6,6 @@ use mathlib.Core.List.{[], ◌∷◌}
 use mathlib.Core.Option.{Option, some}
 use Prim.Native.Nat.{ℕ, zero, suc, ◌-◌, ◌<◌, ◌≤◌}
 use native.Mathlib.Omega.{arith}
-use borrow.Author.Rules.{rules}
 use native.Mathlib.Numerals.{sub-one}
 use borrow.Author.Tests.{eq-eqb, ne_eqb, lt-ltb, le-ltb, eqb-true, eqb-false, ltb-true, ltb-false}
 use lib.Dec.{eqb, ltb}
@@ -62,21 +61,6 @@ type_row_lem s at r (suc l) P w z h =
           ap (λ (q : TypeRow). q.c) e,
           w.next,
         ) at h
-
--- a line that is no T line is one of the others, by its tag
-pub other_type : (l : Line) → ((k a b c : ℕ) → l ≡ line.Typ k a b c → ⊥)
-    → OneOf (0 ∷ 1 ∷ 2 ∷ 3 ∷ 4 ∷ 6 ∷ 7 ∷ 8 ∷ 9 ∷ 10 ∷ []) (tag_of the_type l)
-other_type line.Root h = search rules
-other_type (line.Node a b c d e f g) h = search rules
-other_type line.Parameter h = search rules
-other_type (line.Field a b c d) h = search rules
-other_type (line.Group a b) h = search rules
-other_type (line.Typ k a b c) h = absurd (h k a b c refl)
-other_type (line.Scope a b c) h = search rules
-other_type line.Unbound h = search rules
-other_type (line.Value a b) h = search rules
-other_type (line.Word a) h = search rules
-other_type (line.Bad x k c) h = search rules
 
 -- another line as a T row
 pub row_other : (l : Line) (next : ℕ) → OneOf (0 ∷ 1 ∷ 2 ∷ 3 ∷ 4 ∷ 6 ∷ 7 ∷ 8 ∷ 9 ∷ 10 ∷ []) (tag_of the_type l)

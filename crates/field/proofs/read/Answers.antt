@@ -1,6 +1,6 @@
 -- `field::read` meets its contract: each letter of the first row is one law. Assumes nothing.
 use Rattle.field.proofs.FieldLaws.{first_slot, fewer-slot, first_group, fewer-group, first-none}
-use Rattle.field.proofs.OtherLaws.{other_field}
+use Rattle.tree.proofs.OtherLines.{not_a_field-tag}
 use Rattle.field.proofs.read.Goals as goal
 
 pub returns-in-Field : goal.returns-in-Field
@@ -29,6 +29,6 @@ returns-in_default c =
     let g = c.next-g in
     record {
       first = first-none c.args.s.now c.args.at g.result.next _ g.ensures.line_value g.ensures.s_value
-          (other_field _ c.in_default.not-Field c.in_default.not-Group);
+          (not_a_field-tag _ c.in_default.not-Field c.in_default.not-Group);
       fewer = tt;
     }

@@ -8,7 +8,7 @@ use Rattle.field.specs.Parts.{SlotRead}
 use Rattle.field.specs.declared.Slot.{Slot}
 use Rattle.field.specs.declared.Field.TheVariants as field
 use Rattle.field.proofs.SlotLaws.{slot-no-value, slot-no-words, slot-told}
-use Rattle.field.proofs.OtherLaws.{other_value}
+use Rattle.tree.proofs.OtherLines.{not_value-tag}
 use Rattle.field.proofs.slot_from.Goals as goal
 
 pub returns-in_default : goal.returns-in_default
@@ -17,7 +17,7 @@ returns-in_default c =
     let t = c.type_span-t in
     record {
       is = λ after. slot-no-value a.s.now a.typ t.result t.ensures.is _ c.next-g.ensures.line_value _ _ _
-          (SlotRead a.s.now field.Nothing a.at a.discriminant) (other_value _ c.in_default.not-Value);
+          (SlotRead a.s.now field.Nothing a.at a.discriminant) (not_value-tag _ c.in_default.not-Value);
       fewer = tt;
     }
 

@@ -2,14 +2,14 @@
 use mathlib.Core.Path.{refl}
 use Rattle.field.proofs.TypeLaws.{type_other, type-plain, type-list, type_brand, type-pointer, rest-fewer, nested_fewer}
 use native.Mathlib.Omega.{arith}
-use Rattle.field.proofs.OtherLaws.{other_type}
+use Rattle.tree.proofs.OtherLines.{not_type-tag}
 use Rattle.field.proofs.type_span.Goals as goal
 
 pub returns-in_default : goal.returns-in_default
 returns-in_default c =
     let g = c.next-g.ensures in
     record {
-      is = type_other c.args.s.now _ _ _ _ g.line_value g.s_value (other_type _ c.in_default.not-Typ);
+      is = type_other c.args.s.now _ _ _ _ g.line_value g.s_value (not_type-tag _ c.in_default.not-Typ);
       fewer = rest-fewer _ _ g.s_value;
     }
 

@@ -2,7 +2,8 @@
 use lib.ListN.{drop}
 use Rattle.text.proofs.Laws.{left-all, left-more, left-none}
 use Rattle.row.specs.Rows.{rows}
-use Rattle.pointer_constants.proofs.Laws.{no_word-tag, words_more, words-stop, words-none, text-more, text-none}
+use Rattle.tree.proofs.OtherLines.{not_word-tag}
+use Rattle.pointer_constants.proofs.Laws.{words_more, words-stop, words-none, text-more, text-none}
 use Rattle.pointer_constants.proofs.words.Goals as goal
 
 pub loop-n-init : goal.loop-n-init
@@ -11,7 +12,7 @@ loop-n-init c = left-all
 pub returns-in_default : goal.returns-in_default
 returns-in_default c =
     left-none (rw (text-none _ _ (words-stop _ _ _ c.next-g.ensures.line_value c.next-g.ensures.s_value _ c.loop-n-test.true
-    (no_word-tag _ c.in_default.not-Word))) at c.loop-n.invariant)
+    (not_word-tag _ c.in_default.not-Word))) at c.loop-n.invariant)
 
 pub loop-n-preserved : goal.loop-n-preserved
 loop-n-preserved c =

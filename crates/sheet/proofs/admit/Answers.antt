@@ -3,7 +3,7 @@ use Rattle.row.specs.Line.{line_said, fault_of}
 use Rattle.tree.proofs.WalkLaws.{walked_wrong}
 use Rattle.sheet.proofs.AdmitLaws.{too_long, no-root, nodes-told}
 use lib.ListN.{length}
-use Rattle.sheet.proofs.OtherLaws.{other_root}
+use Rattle.tree.proofs.OtherLines.{not_root-tag}
 use Rattle.sheet.proofs.admit.Goals as goal
 
 pub returns-then-s-gt65536 : goal.returns-then-s-gt65536
@@ -16,7 +16,7 @@ returns-in_default c =
     let s = c.args.s.now in
     let wrong = walked_wrong s 0 (fault_of 82 (line_said c.next-g.result.line)) _ c.wrong_at.ensures in
     let says = no-root s c.if-s-gt65536.false _ c.next-g.ensures.line_value (length c.args.index.now) c.args.index.now
-    c.wrong_at.result c.answer_for.result c.answer_for.ensures (other_root _ c.in_default.not-Root) wrong in
+    c.wrong_at.result c.answer_for.result c.answer_for.ensures (not_root-tag _ c.in_default.not-Root) wrong in
     record { answer = says.0; index = says.1 }
 
 pub returns : goal.returns

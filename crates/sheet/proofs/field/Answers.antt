@@ -12,7 +12,7 @@ use Rattle.sheet.specs.Steps.{groups_after}
 use Rattle.tree.proofs.WalkLaws.{came, refused}
 use Rattle.row.specs.Rows.{rows}
 use Rattle.row.specs.Line.{line_said, fault_of}
-use Rattle.sheet.proofs.OtherLaws.{other_field}
+use Rattle.tree.proofs.OtherLines.{not_a_field-tag}
 use Rattle.sheet.proofs.field.Goals as goal
 
 pub known-requires : goal.known-requires
@@ -78,7 +78,7 @@ returns-in_default c =
     let ends = c.no_field.ensures in (
       walked-ends c.args.s.now _ (fault_of 70 line) (fault_of 71 line) _ ends _
           ∙ groups-stop _ _ _ c.next-g.ensures.line_value c.next-g.ensures.s_value _
-          (other_field _ c.in_default.not-Field c.in_default.not-Group),
+          (not_a_field-tag _ c.in_default.not-Field c.in_default.not-Group),
       omega (arith, p.1, ends-left c.args.s.now _ (fault_of 70 line) (fault_of 71 line) _ ends),
       p.2,
     )

@@ -3,14 +3,14 @@ use mathlib.Core.Path.{refl}
 use Rattle.row.specs.Line.{line_said, fault_of}
 use Rattle.tree.proofs.WalkLaws.{walked_wrong}
 use Rattle.sheet.proofs.NodeLaws.{node-refused, node_other, node-double, ready_after, node-begun, node-whole}
-use Rattle.sheet.proofs.OtherLaws.{other_node}
+use Rattle.tree.proofs.OtherLines.{not_node-tag}
 use Rattle.sheet.proofs.node.Goals as goal
 
 pub returns-in_default : goal.returns-in_default
 returns-in_default c =
     let line = line_said c.next-g.result.line in
     rw c.refused.ensures (node-refused _ _ _ _ _ _ _ _ _ _ c.requires.1
-    (node_other _ _ c.next-g.ensures.line_value _ _ (other_node _ c.in_default.not-Node))
+    (node_other _ _ c.next-g.ensures.line_value _ _ (not_node-tag _ c.in_default.not-Node))
     (walked_wrong c.args.s.now _ (fault_of 78 line) _ c.wrong_at.ensures))
 
 pub returns-then-seen : goal.returns-then-seen

@@ -4,7 +4,7 @@ use mathlib.Core.Path.{refl, ◌∙◌}
 use native.Mathlib.Omega.{arith}
 use Rattle.sheet.proofs.FieldsLaws.{params_less}
 use Rattle.sheet.proofs.ParamsLaws.{passing_first, passing_done, passing-room, passing-few, passing-on}
-use Rattle.sheet.proofs.OtherLaws.{other_parameter}
+use Rattle.tree.proofs.OtherLines.{not_parameter-tag}
 use Rattle.sheet.proofs.params.Goals as goal
 
 pub loop-walk-init : goal.loop-walk-init
@@ -13,7 +13,7 @@ loop-walk-init c = (refl, passing_first _ _ _ _)
 pub returns-in_default : goal.returns-in_default
 returns-in_default c =
     passing_done _ _ _ _ _ _ _ _ c.loop-walk.invariant.1 _ c.next-g.ensures.line_value
-    (other_parameter _ c.in_default.not-Parameter) _ c.end_at-walk.ensures c.requires
+    (not_parameter-tag _ c.in_default.not-Parameter) _ c.end_at-walk.ensures c.requires
 
 pub mark-place-requires : goal.mark-place-requires
 mark-place-requires c =

@@ -1,5 +1,6 @@
 -- `types::scopes` meets its contract: `Passing` says what is known at each turn, for every id at once. Assumes nothing.
-use Rattle.types.proofs.ScopeLaws.{pass_start, pass-none, pass-other, pass-last, pass-next, other_scope}
+use Rattle.tree.proofs.OtherLines.{not_scope-tag}
+use Rattle.types.proofs.ScopeLaws.{pass_start, pass-none, pass-other, pass-last, pass-next}
 use Rattle.types.proofs.scopes.Goals as goal
 
 pub loop-n-init : goal.loop-n-init
@@ -7,7 +8,7 @@ loop-n-init c = pass_start _ _ _ _
 
 pub returns-in_default : goal.returns-in_default
 returns-in_default c =
-    pass-other _ _ _ _ _ _ _ c.loop-n.invariant _ c.next-g.ensures.line_value (other_scope _ c.in_default.not-Scope)
+    pass-other _ _ _ _ _ _ _ c.loop-n.invariant _ c.next-g.ensures.line_value (not_scope-tag _ c.in_default.not-Scope)
 
 pub returns-then-n-eq1 : goal.returns-then-n-eq1
 returns-then-n-eq1 c =
