@@ -1,4 +1,4 @@
--- Worked cases of the claims, computed from the bytes of a sheet: is_free with default true, the bed's status with default 2
+-- Worked cases of the claims, computed from the bytes of a sheet: isFree with default true, the bed's status with default 2
 -- without and with its flag, a Float32 with default -0.0, and members of a union. Each text is what a run of the entry left in a
 -- longer buffer. The record is sixteen bytes 165 and two pointers, of which the first is null; on shorter ones getters give their
 -- defaults, hasers find a tag of 0 and null pointers, and setters have no meaning. Assumes nothing.
@@ -25,7 +25,8 @@ use Rattle.tree.specs.Reader.{times}
 use Rattle.tree.specs.Read as read
 use Rattle.tree.specs.Read.{sheet, admitted}
 use Rattle.tree.specs.Read.{read_binding, read_scope, type_from, read_type, value_of, read_words_up_to, read_words, read_slot}
-use Rattle.tree.specs.Read.{among, overlap, fields_up_to, read_fields, group_ids, read_params, read_members, read_node, read_nodes}
+use Rattle.tree.specs.Read.{among, overlap, fields_up_to, read_fields, group_ids, read_params, read_members, read_node}
+use Rattle.tree.specs.Read.{read_nodes}
 use Rattle.tree.specs.Read.{read_sheet}
 use Rattle.tree.specs.Print.{scope_count, type_rows, word_rows, field_rows, param_rows, node_rows, sheet_rows, printed}
 use Rattle.tree.specs.Worked.{slot_of, slot_with, named_field, node, worked_sheet}
@@ -46,7 +47,8 @@ use Rattle.record.specs.declared.Width.TheVariants.{One}
 use Rattle.meaning.specs.Claims.{TagHolds, TagClear, setter_leaves, void_leaves}
 use Rattle.meaning.specs.Examples.{some16}
 use Rattle.meaning.specs.Reading.{bind_o, type_name, truth, get_mask_of, set_mask_of, data_arg, bool_arg}
-use Rattle.meaning.specs.Meaning.{writes, gets, gets_in, tests, run_op, run_line, run_lines, run_setter, run_getter, tests_of, run_tests}
+use Rattle.meaning.specs.Meaning.{writes, gets, gets_in, tests, run_op, run_line, run_lines, run_setter, run_getter, tests_of}
+use Rattle.meaning.specs.Meaning.{run_tests}
 use Rattle.meaning.specs.Meaning.{run_haser}
 use Rattle.requests.specs.Requests.{field_at, accessor_text, of_field, refuses, outcome_of, outcome}
 use Rattle.requests.specs.Requests as requests
@@ -136,12 +138,12 @@ abbrev bytes : Str
 bytes = printed tree
 
 is-admitted : admitted bytes ≡ sheet tree
-unfolding joined printed sheet_rows node_rows param_rows field_rows word_rows type_rows scope_count row_text columns padded decimal
-    admitted read_sheet read_nodes read_node read_members read_params group_ids read_fields fields_up_to read.read_field overlap among
-    read_slot read_words read_words_up_to value_of read_type type_from read_scope read_binding times rest_of onto rows text_at text_of
-    text_start line_at line_of reader root_line node_line parameter_line field_line group_line type_line scope_line unbound_line
-    value_line word_line most_a most_b most_c most_count most_bits column_of unpadded digits trimmed is_graphic_text is_name is_field_name
-    are_chars all is_graphic is_word ends_in
+unfolding joined printed sheet_rows node_rows param_rows field_rows word_rows type_rows scope_count row_text columns padded
+    decimal admitted read_sheet read_nodes read_node read_members read_params group_ids read_fields fields_up_to read.read_field
+    overlap among read_slot read_words read_words_up_to value_of read_type type_from read_scope read_binding times rest_of onto
+    rows text_at text_of text_start line_at line_of reader root_line node_line parameter_line field_line group_line type_line
+    scope_line unbound_line value_line word_line most_a most_b most_c most_count most_bits column_of unpadded digits trimmed
+    is_graphic_text is_name is_field_name are_chars all is_graphic is_word ends_in
 is-admitted = refl
 
 -- a slot of the bed by its place
@@ -198,7 +200,7 @@ example place name d s k setter getter v x = record {
   reads = x;
 }
 
--- is_free, with the value v
+-- isFree, with the value v
 abbrev free : ℕ → Example
 free v =
     example 0 "isFree" 65535 is_free bool
@@ -295,10 +297,11 @@ module _ (x : Example) (e : field_at tree.nodes 7 x.place ≡ ok (bed, x.field))
 
 -- all of them
 pub all-worked : All (free 1 ∷ free 0 ∷ no_flag ∷ with_flag ∷ negative_zero ∷ member ∷ [])
-unfolding field_at by_id nth accessor_text same are_chars taken snake_from camel_to_snake_case type_string types.node_of get_bool_field
-    get_data_field set_bool_field set_data_field prim_default getter_mask getter_text getter_request generate_setter setter_request
-    to_lines flat_map join stringify decimal signed kind_of found stored get_bits put_bits type_name truth get_mask_of set_mask_of
-    data_arg bool_arg writes gets gets_in run_op run_line run_lines run_setter run_getter text.answer_of text.buffer_of text.placed
+unfolding field_at by_id nth accessor_text same are_chars taken snake_from camel_to_snake_case type_string types.node_of
+    get_bool_field get_data_field set_bool_field set_data_field prim_default getter_mask getter_text getter_request
+    generate_setter setter_request to_lines flat_map join stringify decimal signed kind_of found stored get_bits put_bits
+    type_name truth get_mask_of set_mask_of data_arg bool_arg writes gets gets_in run_op run_line run_lines run_setter
+    run_getter text.answer_of text.buffer_of text.placed
 all-worked =
     add (worked (free 1) refl refl refl refl refl refl refl (omega arith) (omega arith) tt tt refl refl (λ h. omega arith) refl)
     (add (worked (free 0) refl refl refl refl refl refl refl (omega arith) (omega arith) tt tt refl refl (λ h. omega arith) refl)
@@ -313,7 +316,7 @@ all-worked =
 
 -- ---- a getter alone, a setter alone
 
--- is_free at its place
+-- isFree at its place
 pub free_at : SlotAt bytes 7 0
 unfolding field_at by_id nth
 free_at = slot_at 0 (named_field "isFree" 65535 (slot is_free)) is_free refl refl
@@ -325,15 +328,16 @@ three_bits = record { bits = true ∷ false ∷ true ∷ []; pointers = [] }
 abbrev four_bits : Record
 four_bits = record { bits = three_bits.bits ++ (true ∷ []); pointers = [] }
 
--- The getter of is_free gives its bit, 1 of the four and 0 in a byte 165, exclusive or its default true; on a record that does not
+-- The getter of isFree gives its bit, 1 of the four and 0 in a byte 165, exclusive or its default true; on a record that does not
 -- reach to its bit it gives the default.
 pub free-read :
     (kind_of (slot_kind free_at) ≡ some bool) × Ran bytes 7 0 (Getter true false) (free 1).getter
     × (run_getter (free 1).getter some16 ≡ some 1) × (get (place_at free_at bool) 1 some16 ≡ 1)
     × (run_getter (free 1).getter four_bits ≡ some 0) × (get (place_at free_at bool) 1 four_bits ≡ 0)
     × (run_getter (free 1).getter three_bits ≡ some 1) × (get (place_at free_at bool) 1 three_bits ≡ 1)
-unfolding free_at field_at by_id nth accessor_text type_string get_bool_field getter_mask getter_text getter_request to_lines flat_map join
-    stringify decimal kind_of found get_bits type_name truth get_mask_of gets gets_in run_getter text.answer_of text.buffer_of text.placed
+unfolding free_at field_at by_id nth accessor_text type_string get_bool_field getter_mask getter_text getter_request to_lines
+    flat_map join stringify decimal kind_of found get_bits type_name truth get_mask_of gets gets_in run_getter text.answer_of
+    text.buffer_of text.placed
 free-read = (refl, ran_bytes 0 (Getter true false) (free 1).getter refl refl, refl, refl, refl, refl, refl, refl)
 
 -- status at its place
@@ -368,8 +372,9 @@ abbrev uint8 : Kind
 uint8 = num (uint One)
 
 pub nights-case : SetCase nights_at uint8 member.setter
-unfolding nights_at field_at by_id nth accessor_text are_chars taken snake_from camel_to_snake_case type_string set_data_field prim_default
-    generate_setter setter_request to_lines flat_map join stringify decimal kind_of text.answer_of text.buffer_of text.placed
+unfolding nights_at field_at by_id nth accessor_text are_chars taken snake_from camel_to_snake_case type_string set_data_field
+    prim_default generate_setter setter_request to_lines flat_map join stringify decimal kind_of text.answer_of text.buffer_of
+    text.placed
 nights-case = record {
   has-bits = refl;
   own_default = refl;
@@ -394,7 +399,8 @@ one_byte = record { bits = section_bits (165 ∷ []); pointers = [] }
 pub nights-set :
     (run_setter member.setter 9 some16 ≡ some nine) × (leaves some16 ≡ some nine) × Holds (place_at nights_at uint8) one_byte
     × (run_setter member.setter 9 one_byte ≡ none) × (leaves one_byte ≡ none)
-unfolding nights_at found stored get_bits put_bits type_name truth set_mask_of data_arg bool_arg writes run_op run_line run_lines run_setter
+unfolding nights_at found stored get_bits put_bits type_name truth set_mask_of data_arg bool_arg writes run_op run_line
+    run_lines run_setter
 nights-set = (refl, refl, omega arith, refl, refl)
 
 -- A default that is not of the slot's kind: there is no getter, and the setter masks with what is no Bool, so that it has no
@@ -408,7 +414,8 @@ pub odd-worked :
 unfolding field_at by_id nth accessor_text are_chars taken snake_from camel_to_snake_case type_string getter_text getter_request
     set_bool_field prim_default generate_setter setter_request to_lines flat_map join stringify decimal signed type_name truth
     set_mask_of data_arg bool_arg writes run_op run_line run_lines run_setter text.answer_of text.buffer_of text.placed
-odd-worked = (ap (λ x. outcome_of x 7 (of_field 7 (Getter true false))) is-admitted, ran_bytes 7 Setter odd_setter refl refl, refl)
+odd-worked =
+    (ap (λ x. outcome_of x 7 (of_field 7 (Getter true false))) is-admitted, ran_bytes 7 Setter odd_setter refl refl, refl)
 
 -- ---- the Void setter and hasers
 
@@ -430,9 +437,9 @@ pub vacant-worked :
     × TagHolds (tag_at vacant_at) some16 × (run_setter vacant_setter 0 some16 ≡ some tag_two)
     × (void_leaves (tag_at vacant_at) some16 ≡ some tag_two)
     × (TagHolds (tag_at vacant_at) one_byte → ⊥) × (run_setter vacant_setter 0 one_byte ≡ none)
-unfolding vacant_at field_at by_id nth accessor_text are_chars taken snake_from camel_to_snake_case set_data_field generate_setter
-    setter_request to_lines flat_map join stringify decimal stored put_bits type_name truth data_arg bool_arg writes run_op run_line
-    run_lines run_setter text.answer_of text.buffer_of text.placed
+unfolding vacant_at field_at by_id nth accessor_text are_chars taken snake_from camel_to_snake_case set_data_field
+    generate_setter setter_request to_lines flat_map join stringify decimal stored put_bits type_name truth data_arg bool_arg
+    writes run_op run_line run_lines run_setter text.answer_of text.buffer_of text.placed
 vacant-worked = (refl, ran_bytes 6 Setter vacant_setter refl refl, omega arith, refl, refl, (λ h. omega arith), refl)
 
 -- a haser of the second pointer, by what stands after `has_` and the tag's number
@@ -457,9 +464,9 @@ pub guest-worked :
     × (run_haser guest_haser some16 ≡ some true)
     × (HoldsPointer (record { 0 = guest_at.slot.offset }) no_pointers → ⊥) × (run_haser guest_haser no_pointers ≡ some false)
     × (TagHolds (tag_at guest_at) no_bytes → ⊥) × (run_haser guest_haser no_bytes ≡ some false)
-unfolding guest_at field_at by_id nth accessor_text are_chars taken snake_from camel_to_snake_case not_null tag_test generate_haser
-    haser_request to_lines flat_map join stringify decimal found get_bits null_flag type_name tests tests_of run_tests run_haser
-    text.answer_of text.buffer_of text.placed
+unfolding guest_at field_at by_id nth accessor_text are_chars taken snake_from camel_to_snake_case not_null tag_test
+    generate_haser haser_request to_lines flat_map join stringify decimal found get_bits null_flag type_name tests tests_of
+    run_tests run_haser text.answer_of text.buffer_of text.placed
 guest-worked =
     (refl, ran_bytes 5 (Haser true) guest_haser refl refl, refl, (λ h. omega arith), refl, (λ h. omega arith), refl)
 
@@ -478,9 +485,9 @@ pub visitor-worked :
     × (run_haser visitor_haser some16 ≡ some false)
     × (TagHolds (tag_at visitor_at) no_bytes → ⊥) × (run_haser visitor_haser no_bytes ≡ some true)
     × (run_haser visitor_haser three_bytes ≡ some false)
-unfolding visitor_at field_at by_id nth accessor_text are_chars taken snake_from camel_to_snake_case not_null tag_test generate_haser
-    haser_request to_lines flat_map join stringify decimal found get_bits null_flag type_name tests tests_of run_tests run_haser
-    text.answer_of text.buffer_of text.placed
+unfolding visitor_at field_at by_id nth accessor_text are_chars taken snake_from camel_to_snake_case not_null tag_test
+    generate_haser haser_request to_lines flat_map join stringify decimal found get_bits null_flag type_name tests tests_of
+    run_tests run_haser text.answer_of text.buffer_of text.placed
 visitor-worked = (refl, ran_bytes 8 (Haser true) visitor_haser refl refl, refl, (λ h. omega arith), refl, refl)
 
 -- the haser of a Bool is one newline
@@ -495,7 +502,7 @@ no-haser-worked = (refl, ran_bytes 0 (Haser true) (unit 10) refl refl)
 pub answered-worked :
     Answered (0 ∷ 0 ∷ 0 ∷ []) (record { at = 1 }) (outcome_of (admitted bytes) 7 (of_field 0 (Haser true))) (0 ∷ 10 ∷ 0 ∷ [])
     (Done (record { at = 2 }))
-unfolding field_at by_id nth accessor_text generate_haser haser_request to_lines flat_map join stringify text.answer_of text.buffer_of
-    text.placed
+unfolding field_at by_id nth accessor_text generate_haser haser_request to_lines flat_map join stringify text.answer_of
+    text.buffer_of text.placed
 answered-worked =
     rw (given-bytes 0 (Haser true) (unit 10) refl) (record { answer = refl; buffer = refl })

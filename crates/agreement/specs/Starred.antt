@@ -24,7 +24,8 @@ use Rattle.tree.specs.Reader.{times}
 use Rattle.tree.specs.Read as read
 use Rattle.tree.specs.Read.{admitted}
 use Rattle.tree.specs.Read.{read_binding, read_scope, type_from, read_type, value_of, read_words_up_to, read_words, read_slot}
-use Rattle.tree.specs.Read.{among, overlap, fields_up_to, read_fields, group_ids, read_params, read_members, read_nodes, read_sheet}
+use Rattle.tree.specs.Read.{among, overlap, fields_up_to, read_fields, group_ids, read_params, read_members, read_nodes}
+use Rattle.tree.specs.Read.{read_sheet}
 use Rattle.tree.specs.Print.{scope_count, type_rows, word_rows, field_rows, param_rows, node_rows, sheet_rows, printed}
 use Rattle.tree.specs.Worked.{named_field, lone_slot, node, worked_sheet}
 use Rattle.codegen_types.specs.TypeString as types
@@ -195,15 +196,16 @@ table =
 
 -- every row's text is what it must be
 pub starred : map (λ (r : StarredCase). r.computed) table ≡ map (λ (r : StarredCase). r.expected) table
-unfolding table same keywords.is_one_of is_keyword are_chars taken snake_from camel_to_snake_case default_name module_name joined
-    printed sheet_rows node_rows param_rows field_rows word_rows type_rows scope_count row_text columns padded decimal admitted
-    read_sheet read_nodes read.read_node read_members read_params group_ids read_fields fields_up_to read.read_field overlap among
-    read_slot read_words read_words_up_to value_of read_type type_from read_scope read_binding times rest_of onto rows text_at text_of
-    text_start line_at line_of reader root_line node_line parameter_line field_line group_line type_line scope_line unbound_line
-    value_line word_line most_a most_b most_c most_count most_bits column_of unpadded digits trimmed is_graphic_text is_name is_field_name
-    all is_graphic is_word ends_in leaf_of field_at by_id nth type_text accessor_text type_string scopes_of node_of types.scope_of
-    arguments_of accumulate outermost_first angled do_branding to_lines flat_map join stringify ended signed get_data_field
-    set_data_field prim_default getter_mask getter_text getter_request generate_haser haser_request generate_setter setter_request
-    zero_line contains zero_fields zero_fields_of_group zeroing_request found stored get_bits put_bits type_name truth get_mask_of
-    set_mask_of data_arg writes gets gets_in run_op run_line run_lines run_setter run_getter
+unfolding table same keywords.is_one_of is_keyword are_chars taken snake_from camel_to_snake_case default_name module_name
+    joined printed sheet_rows node_rows param_rows field_rows word_rows type_rows scope_count row_text columns padded decimal
+    admitted read_sheet read_nodes read.read_node read_members read_params group_ids read_fields fields_up_to read.read_field
+    overlap among read_slot read_words read_words_up_to value_of read_type type_from read_scope read_binding times rest_of onto
+    rows text_at text_of text_start line_at line_of reader root_line node_line parameter_line field_line group_line type_line
+    scope_line unbound_line value_line word_line most_a most_b most_c most_count most_bits column_of unpadded digits trimmed
+    is_graphic_text is_name is_field_name all is_graphic is_word ends_in leaf_of field_at by_id nth type_text accessor_text
+    type_string scopes_of node_of types.scope_of arguments_of accumulate outermost_first angled do_branding to_lines flat_map
+    join stringify ended signed get_data_field set_data_field prim_default getter_mask getter_text getter_request generate_haser
+    haser_request generate_setter setter_request zero_line contains zero_fields zero_fields_of_group zeroing_request found
+    stored get_bits put_bits type_name truth get_mask_of set_mask_of data_arg writes gets gets_in run_op run_line run_lines
+    run_setter run_getter
 starred = refl

@@ -21,7 +21,8 @@ use Rattle.tree.specs.Reader.{times}
 use Rattle.tree.specs.Read.{sheet, admitted}
 use Rattle.tree.specs.Read as read
 use Rattle.tree.specs.Read.{read_binding, read_scope, type_from, read_type, value_of, read_words_up_to, read_words}
-use Rattle.tree.specs.Read.{among, overlap, read_field, fields_up_to, read_fields, group_ids, read_params, read_members, read_node}
+use Rattle.tree.specs.Read.{among, overlap, read_field, fields_up_to, read_fields, group_ids, read_params, read_members}
+use Rattle.tree.specs.Read.{read_node}
 use Rattle.tree.specs.Read.{read_nodes, read_sheet}
 use Rattle.tree.specs.Print.{scope_count, type_rows, word_rows, field_rows, param_rows, node_rows, sheet_rows, printed}
 use Rattle.tree.specs.Worked.{slot_with, named_field, lone_slot, worked_node, node, worked_sheet}
@@ -46,7 +47,7 @@ use Rattle.meaning.specs.Meaning.{writes, gets, gets_in, tests, run_op, run_line
 use Rattle.meaning.specs.Meaning.{tests_of, run_tests, run_haser}
 use Rattle.agreement_zeroing.specs.Zeroing.{GroupAt, Inside, here, deeper, LongEnough}
 
--- A ward has a group bed, and that has a group state. The bed's rank (default 7) and the state's status (default 2) and is_free
+-- A ward has a group bed, and that has a group state. The bed's rank (default 7) and the state's status (default 2) and isFree
 -- (default true) share bits; note is a pointer in the bed's union, and memo one with a tag that no line touches.
 abbrev rank : Field
 rank = lone_slot "rank" (plain 7) 2 0 7
@@ -80,12 +81,12 @@ ward_bytes : Str
 ward_bytes = printed ward
 
 ward-read : admitted ward_bytes ≡ sheet ward
-unfolding ward_bytes joined printed sheet_rows node_rows param_rows field_rows word_rows type_rows scope_count row_text columns padded
-    decimal admitted read_sheet read_nodes read_node read_members read_params group_ids read_fields fields_up_to read_field overlap
-    among read.read_slot read_words read_words_up_to value_of read_type type_from read_scope read_binding times rest_of onto rows text_at
-    text_of text_start line_at line_of reader root_line node_line parameter_line field_line group_line type_line scope_line unbound_line
-    value_line word_line most_a most_b most_c most_count most_bits column_of unpadded digits trimmed is_graphic_text is_name is_field_name
-    are_chars all is_graphic is_word ends_in
+unfolding ward_bytes joined printed sheet_rows node_rows param_rows field_rows word_rows type_rows scope_count row_text columns
+    padded decimal admitted read_sheet read_nodes read_node read_members read_params group_ids read_fields fields_up_to
+    read_field overlap among read.read_slot read_words read_words_up_to value_of read_type type_from read_scope read_binding
+    times rest_of onto rows text_at text_of text_start line_at line_of reader root_line node_line parameter_line field_line
+    group_line type_line scope_line unbound_line value_line word_line most_a most_b most_c most_count most_bits column_of
+    unpadded digits trimmed is_graphic_text is_name is_field_name are_chars all is_graphic is_word ends_in
 ward-read = refl
 
 -- ---- the conditions are met
@@ -125,8 +126,9 @@ zero_text =
     ++ ascii "self.builder.reborrow().get_pointer_field(1).clear();\n"
 
 zeroing_ran : Ran ward_bytes 1 0 Zeroing zero_text
-unfolding requests.field_at by_id nth accessor_text zeroing_request zero_fields_of_group zero_fields zero_line contains types.node_of
-    same stringify join to_lines flat_map decimal set_bool_field set_data_field clear_pointer text.answer_of text.buffer_of text.placed
+unfolding requests.field_at by_id nth accessor_text zeroing_request zero_fields_of_group zero_fields zero_line contains
+    types.node_of same stringify join to_lines flat_map decimal set_bool_field set_data_field clear_pointer text.answer_of
+    text.buffer_of text.placed
 zeroing_ran = ran_of ward_bytes 1 0 Zeroing zero_text (rw ward-read refl) refl
 
 -- six bytes, of which those of the bed's tag are zero, and two pointers that are not null; the state's tag is past the end
@@ -160,8 +162,8 @@ status_text =
     ++ ascii "::core::convert::TryFrom::try_from(self.reader.get_data_field_mask::<u16>(2, 2))\n"
 
 status_ran : Ran ward_bytes 3 0 (Getter true false) status_text
-unfolding requests.field_at by_id nth accessor_text getter_request getter_text type_string types.node_of getter_mask get_data_field decimal
-    stringify join to_lines flat_map text.answer_of text.buffer_of text.placed
+unfolding requests.field_at by_id nth accessor_text getter_request getter_text type_string types.node_of getter_mask
+    get_data_field decimal stringify join to_lines flat_map text.answer_of text.buffer_of text.placed
 status_ran = ran_of ward_bytes 3 0 (Getter true false) status_text (rw ward-read refl) refl
 
 -- the pointer slot, and its haser
@@ -184,8 +186,8 @@ note_text =
     ++ ascii "    !self.reader.get_pointer_field(0).is_null()\n}\n"
 
 note_ran : (is_pointer note_slot.slot.ty ≡ true) × Ran ward_bytes 2 1 (Haser true) note_text
-unfolding note_slot requests.field_at by_id nth accessor_text haser_request generate_haser camel_to_snake_case taken are_chars snake_from
-    not_null tag_test decimal stringify join to_lines flat_map text.answer_of text.buffer_of text.placed
+unfolding note_slot requests.field_at by_id nth accessor_text haser_request generate_haser camel_to_snake_case taken are_chars
+    snake_from not_null tag_test decimal stringify join to_lines flat_map text.answer_of text.buffer_of text.placed
 note_ran = (refl, ran_of ward_bytes 2 1 (Haser true) note_text (rw ward-read refl) refl)
 
 -- ---- what is left
@@ -212,18 +214,20 @@ get r id place is_reader is_fn = reads r (outcome_of (sheet ward) id (of_field p
 abbrev has : Record → ℕ → ℕ → Option Bool
 has r id place = says r (outcome_of (sheet ward) id (of_field place (Haser true)))
 
--- rank in two forms, status and is_free: not their defaults before, their defaults after
+-- rank in two forms, status and isFree: not their defaults before, their defaults after
 defaults-read :
     (get before 2 0 true false ≡ some 65528) × (get before 3 0 true false ≡ some 65533) × (get before 3 1 false false ≡ some 0)
     × (get after 2 0 true false ≡ some 7) × (get after 2 0 false true ≡ some 7) × (get after 3 0 true false ≡ some 2)
     × (get after 3 1 false false ≡ some 1)
-unfolding requests.field_at by_id nth accessor_text getter_request getter_text type_string types.node_of getter_mask get_bool_field
-    get_data_field decimal stringify join to_lines flat_map same found get_bits type_name truth get_mask_of gets gets_in run_getter
+unfolding requests.field_at by_id nth accessor_text getter_request getter_text type_string types.node_of getter_mask
+    get_bool_field get_data_field decimal stringify join to_lines flat_map same found get_bits type_name truth get_mask_of gets
+    gets_in run_getter
 defaults-read = (refl, refl, refl, refl, refl, refl, refl)
 
 -- note and memo are there before, and absent after
 pointers-absent :
     (has before 2 1 ≡ some true) × (has before 3 2 ≡ some true) × (has after 2 1 ≡ some false) × (has after 3 2 ≡ some false)
-unfolding requests.field_at by_id nth accessor_text haser_request generate_haser camel_to_snake_case taken are_chars snake_from not_null
-    tag_test decimal stringify join to_lines flat_map found get_bits null_flag type_name tests tests_of run_tests run_haser
+unfolding requests.field_at by_id nth accessor_text haser_request generate_haser camel_to_snake_case taken are_chars snake_from
+    not_null tag_test decimal stringify join to_lines flat_map found get_bits null_flag type_name tests tests_of run_tests
+    run_haser
 pointers-absent = (refl, refl, refl, refl)

@@ -82,7 +82,8 @@ pub record Zeroed (s : Str) (g : ℕ) (w : Str) (r : Record) : Type 0 where
       → (is_reader : Bool) (h : Str) → Ran s id place (Haser is_reader) h → run_haser h left ≡ some false
   pub lengths : (length left.bits ≡ length r.bits) × (length left.pointers ≡ length r.pointers)
   pub bits-same : (b : ℕ) → EachWrite (SparesBit b) w → slice_index_or left.bits b false ≡ slice_index_or r.bits b false
-  pub pointers-same : (j : ℕ) → EachWrite (SparesPointer j) w → slice_index_or left.pointers j false ≡ slice_index_or r.pointers j false
+  pub pointers-same :
+      (j : ℕ) → EachWrite (SparesPointer j) w → slice_index_or left.pointers j false ≡ slice_index_or r.pointers j false
 
 -- for every sheet, every group of it with a zeroing, and every record that is long enough for the text
 abbrev pub ZeroingHolds : Type 0

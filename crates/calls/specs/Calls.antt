@@ -13,7 +13,8 @@ member false = ascii "builder"
 -- ---- gets (getter_text)
 
 unfoldable pub get_bool_field : Bool → ℕ → Option Str → Str
-get_bool_field is_reader offset none = ascii "self." ++ member is_reader ++ ascii ".get_bool_field(" ++ decimal offset ++ ascii ")"
+get_bool_field is_reader offset none =
+    ascii "self." ++ member is_reader ++ ascii ".get_bool_field(" ++ decimal offset ++ ascii ")"
 get_bool_field is_reader offset (some mask) =
     ascii "self." ++ member is_reader ++ ascii ".get_bool_field_mask(" ++ decimal offset ++ ascii ", " ++ mask ++ ascii ")"
 

@@ -94,6 +94,6 @@ table =
     ∷ []
 
 worked : map (λ (r : Row). type_string r.type sheet r.leaf) table ≡ map (λ (r : Row). r.answer) table
-unfolding table chained type_string scopes_of bindings_of node_of by_id nth scope_of all_of arguments_of accumulate outermost_first join
-    angled do_branding list_string parameter_name parameter_string
+unfolding table chained type_string scopes_of bindings_of node_of by_id nth scope_of all_of arguments_of accumulate
+    outermost_first join angled do_branding list_string parameter_name parameter_string
 worked = refl

@@ -104,7 +104,8 @@ angled (a ∷ more) = ascii "<" ++ join (ascii ",") (a ∷ more) ++ ascii ">"
 unfoldable pub do_branding : Sheet → ℕ → List (ℕ × Scope) → Leaf → Str → Out Str
 do_branding sheet id scopes leaf the_mod =
     accumulate sheet scopes 16 id then λ accumulator.
-    ok (the_mod ++ ascii "::" ++ bare_name leaf ++ maybe_colons leaf ++ angled (leaf_arguments leaf ++ outermost_first accumulator))
+    ok (the_mod ++ ascii "::" ++ bare_name leaf ++ maybe_colons leaf
+    ++ angled (leaf_arguments leaf ++ outermost_first accumulator))
 
 -- ---- type_string
 

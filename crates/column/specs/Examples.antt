@@ -1,6 +1,7 @@
 -- Worked names, by computation: letters with accents by their code points, each bound and one past it, torn and other sequences.
 -- Assumes nothing.
-use Rattle.std.specs.Prelude.{◌≡◌, refl, Bool, true, false, not, List, [], ◌∷◌, ◌++◌, map, ℕ, zero, suc, ◌+◌, ◌/◌, ◌%◌, eqb, ltb, length, replicate}
+use Rattle.std.specs.Prelude.{◌≡◌, refl, Bool, true, false, not, List, [], ◌∷◌, ◌++◌, map, ℕ, zero, suc, ◌+◌, ◌/◌, ◌%◌, eqb}
+use Rattle.std.specs.Prelude.{ltb, length, replicate}
 use Prim.Native.Char.{code}
 use Prim.Native.String as S
 use Rattle.text.specs.Bytes.{Str, unit, cond, both, either}

@@ -6,7 +6,8 @@ use Rattle.std.proofs.Math.Option.{Option, none, some}
 use Rattle.text.specs.Bytes.{Str, cond, both}
 use Rattle.text.specs.Lines.{FormattedText, to_lines, stringify}
 use Rattle.calls.specs.Calls.{clear_pointer}
-use Rattle.record.specs.Lines.{Tag, get_line, setter_text, void_setter_text, getter_lines, haser_text, Zero, of_slot, of_tag, of_pointer}
+use Rattle.record.specs.Lines.{Tag, get_line, setter_text, void_setter_text, getter_lines, haser_text, Zero, of_slot, of_tag}
+use Rattle.record.specs.Lines.{of_pointer}
 use Rattle.record.specs.Lines.{zero_call, zero_texts}
 use Rattle.record.specs.Masks.{get_mask, set_mask, get_mask_text, set_mask_text, mask_bits}
 use Rattle.record.specs.Offsets.{Place, bit_count}
@@ -52,7 +53,8 @@ TagIs (some t) r = get (tag_place t.0) 0 r ≡ t.1
 abbrev pub TextGetHolds : Type 0
 TextGetHolds =
     (typ : Str) (is_reader : Bool) (k : Kind) (o : ℕ) (mg : Option ℕ) (r : Record) → whole typ ≡ true → MaskFits k mg
-    → run_getter (getter_lines typ (get_line is_reader k o (map_o (get_mask_text k) mg))) r ≡ some (get (place_of k o) (mask_bits mg) r)
+    → run_getter (getter_lines typ (get_line is_reader k o (map_o (get_mask_text k) mg))) r
+    ≡ some (get (place_of k o) (mask_bits mg) r)
 
 -- what the tag's line leaves, and after it the value's line
 abbrev pub void_leaves : Option Tag → Record → Option Record
@@ -67,7 +69,8 @@ abbrev pub TextSetHolds : Type 0
 TextSetHolds =
     (opening : Str) (tag : Option Tag) (k : Kind) (o : ℕ) (ms : Option ℕ) (v : ℕ) (r : Record) → whole opening ≡ true
     → TagFits tag → MaskFits k ms
-    → run_setter (setter_text opening tag k o (map_o (set_mask_text k) ms)) v r ≡ setter_leaves tag (place_of k o) v (mask_bits ms) r
+    → run_setter (setter_text opening tag k o (map_o (set_mask_text k) ms)) v r
+    ≡ setter_leaves tag (place_of k o) v (mask_bits ms) r
 
 -- It has a meaning exactly where the section holds its slot and its tag whole.
 abbrev pub SetterMeansHolds : Type 0
@@ -191,7 +194,8 @@ pub record TextZeroed (zs : List Zero) (ft : FormattedText) (r : Record) : Type 
   pub hasers : (i : ℕ) → In (clear_pointer i) (zero_texts zs) → (opening : Str) → whole opening ≡ true
       → (is_reader : Bool) (tag : Option Tag) → run_haser (haser_text opening is_reader tag i) left ≡ some false
   pub lengths : (length left.bits ≡ length r.bits) × (length left.pointers ≡ length r.pointers)
-  pub bits-same : (b : ℕ) → ((z : Zero) → In z zs → ZeroHas z b → ⊥) → slice_index_or left.bits b false ≡ slice_index_or r.bits b false
+  pub bits-same :
+      (b : ℕ) → ((z : Zero) → In z zs → ZeroHas z b → ⊥) → slice_index_or left.bits b false ≡ slice_index_or r.bits b false
   pub pointers-same : (j : ℕ) → ((z : Zero) → In z zs → ZeroClears z j → ⊥)
       → slice_index_or left.pointers j false ≡ slice_index_or r.pointers j false
 

@@ -43,7 +43,7 @@ worked_slot k o d e s g v x =
 
 abbrev pub worked_slots : List WorkedSlot
 worked_slots =
-    -- is_free, a Bool with default true
+    -- isFree, a Bool with default true
     worked_slot bool 3 1 true "self.builder.set_bool_field_mask(3, value, true);" "self.reader.get_bool_field_mask(3, true)" 1 1
     ∷ worked_slot bool 3 1 true "self.builder.set_bool_field_mask(3, value, true);" "self.reader.get_bool_field_mask(3, true)" 0 0
     -- Int8 with default -5
@@ -104,9 +104,9 @@ all_hold f [] = true
 all_hold f (x ∷ l) = both (f x) (all_hold f l)
 
 pub worked-right : all_hold slot_right worked_slots ≡ true
-unfolding to_lines flat_map join stringify same decimal signed get_bool_field get_data_field set_bool_field set_data_field function_text
-    getter_lines get_mask_text set_mask_text found stored get_bits put_bits type_name truth get_mask_of set_mask_of data_arg bool_arg writes
-    gets gets_in run_op run_line run_lines run_setter run_getter
+unfolding to_lines flat_map join stringify same decimal signed get_bool_field get_data_field set_bool_field set_data_field
+    function_text getter_lines get_mask_text set_mask_text found stored get_bits put_bits type_name truth get_mask_of
+    set_mask_of data_arg bool_arg writes gets gets_in run_op run_line run_lines run_setter run_getter
 worked-right = refl
 
 -- ---- texts without a meaning
@@ -141,8 +141,8 @@ no_sets =
     ∷ []
 
 pub no-sets : all_hold no_set no_sets ≡ true
-unfolding to_lines flat_map join stringify function_text found stored get_bits put_bits clear_flag type_name truth get_mask_of set_mask_of
-    data_arg bool_arg writes run_op run_line run_lines run_setter
+unfolding to_lines flat_map join stringify function_text found stored get_bits put_bits clear_flag type_name truth get_mask_of
+    set_mask_of data_arg bool_arg writes run_op run_line run_lines run_setter
 no-sets = refl
 
 -- a getter with two gets has no meaning, nor has one with none
@@ -194,32 +194,33 @@ abbrev pub in_union : ℕ → Option Record
 in_union o = run_setter (setter_text (ascii "pub fn set_x(&mut self, value: bool)  {") (some (o, 1)) bool 0 none) 0 some16
 
 pub tag_held : (is_some (in_union 7) ≡ true) × (in_union 8 ≡ none)
-unfolding to_lines flat_map join stringify decimal set_bool_field set_data_field function_text found stored put_bits type_name truth
-    set_mask_of data_arg bool_arg writes run_op run_line run_lines run_setter
+unfolding to_lines flat_map join stringify decimal set_bool_field set_data_field function_text found stored put_bits type_name
+    truth set_mask_of data_arg bool_arg writes run_op run_line run_lines run_setter
 tag_held = (refl, refl)
 
 -- a setter whose tag is inside and whose slot is past the section has no meaning, though its tag's line alone has one
 abbrev pub slot_past : Option Record
-slot_past = run_setter (setter_text (ascii "pub fn set_x(&mut self, value: u64)  {") (some (0, 1)) (num (uint Eight)) 2 none) 9 some16
+slot_past =
+    run_setter (setter_text (ascii "pub fn set_x(&mut self, value: u64)  {") (some (0, 1)) (num (uint Eight)) 2 none) 9 some16
 
 abbrev pub tag_alone : Option Record
 tag_alone = run_setter (void_setter_text (ascii "pub fn set_x(&mut self, _value: ())  {") (some (0, 1))) 9 some16
 
 pub slot_held : (is_some tag_alone ≡ true) × (slot_past ≡ none)
-unfolding to_lines flat_map join stringify decimal set_bool_field set_data_field function_text found stored put_bits type_name truth
-    set_mask_of data_arg bool_arg writes run_op run_line run_lines run_setter
+unfolding to_lines flat_map join stringify decimal set_bool_field set_data_field function_text found stored put_bits type_name
+    truth set_mask_of data_arg bool_arg writes run_op run_line run_lines run_setter
 slot_held = (refl, refl)
 
 -- ---- a haser of the second pointer in a union, whose tag is 42405 = 165 * 257; a zeroing
 
 pub has-second : run_haser (haser_text (ascii "pub fn has_x(&self) -> bool {") true (some (3, 42405)) 1) some16 ≡ some true
-unfolding to_lines flat_map join stringify decimal not_null tag_test function_text found get_bits null_flag type_name tests tests_of
-    run_tests run_haser
+unfolding to_lines flat_map join stringify decimal not_null tag_test function_text found get_bits null_flag type_name tests
+    tests_of run_tests run_haser
 has-second = refl
 
 pub has_other_tag : run_haser (haser_text (ascii "pub fn has_x(&self) -> bool {") false (some (3, 7)) 1) some16 ≡ some false
-unfolding to_lines flat_map join stringify decimal not_null tag_test function_text found get_bits null_flag type_name tests tests_of
-    run_tests run_haser
+unfolding to_lines flat_map join stringify decimal not_null tag_test function_text found get_bits null_flag type_name tests
+    tests_of run_tests run_haser
 has_other_tag = refl
 
 -- a tag past the section reads 0: the member with discriminant 0 goes on to its pointer, any other says false
@@ -227,13 +228,14 @@ pub tag_past :
     (run_haser (haser_text (ascii "pub fn has_x(&self) -> bool {") true (some (8, 0)) 1) some16 ≡ some true)
     × (run_haser (haser_text (ascii "pub fn has_x(&self) -> bool {") true (some (8, 0)) 0) some16 ≡ some false)
     × (run_haser (haser_text (ascii "pub fn has_x(&self) -> bool {") true (some (8, 1)) 1) some16 ≡ some false)
-unfolding to_lines flat_map join stringify decimal not_null tag_test function_text found get_bits null_flag type_name tests tests_of
-    run_tests run_haser
+unfolding to_lines flat_map join stringify decimal not_null tag_test function_text found get_bits null_flag type_name tests
+    tests_of run_tests run_haser
 tag_past = (refl, refl, refl)
 
 -- a pointer past the pointers is absent
 pub no_third : run_haser (haser_text (ascii "pub fn has_x(&self) -> bool {") true none 2) some16 ≡ some false
-unfolding to_lines flat_map join stringify decimal not_null function_text found null_flag type_name tests tests_of run_tests run_haser
+unfolding to_lines flat_map join stringify decimal not_null function_text found null_flag type_name tests tests_of run_tests
+    run_haser
 no_third = refl
 
 abbrev pub zeros : List Zero → FormattedTexts
@@ -247,6 +249,6 @@ pub zeroed :
     (stringify (Branch (zeros (of_tag 4 ∷ of_slot (num (uint Two)) 4 ∷ of_slot enum 4 ∷ of_slot bool 0 ∷ of_pointer 1 ∷ []))))
     some16)
     ≡ some (false ∷ false ∷ [])
-unfolding to_lines flat_map join stringify decimal set_bool_field set_data_field clear_pointer found stored put_bits clear_flag type_name
-    truth data_arg bool_arg writes run_op run_line run_lines run_zeroing
+unfolding to_lines flat_map join stringify decimal set_bool_field set_data_field clear_pointer found stored put_bits clear_flag
+    type_name truth data_arg bool_arg writes run_op run_line run_lines run_zeroing
 zeroed = refl

@@ -17,27 +17,27 @@ use Rattle.names.specs.Keywords.{rust_keywords, is_one_of, is_keyword}
 use Rattle.names.specs.Words.{cut, cut_words}
 
 -- the words of n bytes
-abbrev pub of_length_lem : ℕ → List Str → List Str
-of_length_lem n [] = []
-of_length_lem n (w ∷ ws) = cond (eqb (length w) n) (w ∷ []) [] ++ of_length_lem n ws
+abbrev pub of_length : ℕ → List Str → List Str
+of_length n [] = []
+of_length n (w ∷ ws) = cond (eqb (length w) n) (w ∷ []) [] ++ of_length n ws
 
-among-length : (s : Str) (ws : List Str) → is_one_of s (of_length_lem (length s) ws) ≡ is_one_of s ws
+among-length : (s : Str) (ws : List Str) → is_one_of s (of_length (length s) ws) ≡ is_one_of s ws
 unfolding is_one_of
 among-length s [] = refl
 among-length s (w ∷ ws) = go (eqb (length w) (length s)) refl (among-length s ws)
   where
-    go : (b : Bool) → eqb (length w) (length s) ≡ b → is_one_of s (of_length_lem (length s) ws) ≡ is_one_of s ws
-        → is_one_of s (cond b (w ∷ []) [] ++ of_length_lem (length s) ws) ≡ either (same s w) (is_one_of s ws)
+    go : (b : Bool) → eqb (length w) (length s) ≡ b → is_one_of s (of_length (length s) ws) ≡ is_one_of s ws
+        → is_one_of s (cond b (w ∷ []) [] ++ of_length (length s) ws) ≡ either (same s w) (is_one_of s ws)
     go true e f = ap (either (same s w)) f
     go false e f = rw (unlike s w (λ q. eqb-false (length w) (length s) e (sym q))) f
 
 -- the words of a byte string, where they are the keywords of the name's length
-pub of_length : (s words : Str) (r : Bool) (n : ℕ) → length s ≡ n → r ≡ is_one_of s (cut_words (length s) words)
-    → cut n n [] words ≡ of_length_lem n rust_keywords → r ≡ is_keyword s
+pub of_length_lem : (s words : Str) (r : Bool) (n : ℕ) → length s ≡ n → r ≡ is_one_of s (cut_words (length s) words)
+    → cut n n [] words ≡ of_length n rust_keywords → r ≡ is_keyword s
 unfolding is_keyword cut_words
-of_length s words r n e f g =
+of_length_lem s words r n e f g =
     f ∙ ap (λ (k : ℕ). is_one_of s (cut k k [] words)) e ∙ ap (is_one_of s) g
-    ∙ ap (λ (k : ℕ). is_one_of s (of_length_lem k rust_keywords)) (sym e) ∙ among-length s rust_keywords
+    ∙ ap (λ (k : ℕ). is_one_of s (of_length k rust_keywords)) (sym e) ∙ among-length s rust_keywords
 
 -- whether each word has 2 to 8 bytes
 abbrev sized : List Str → Bool

@@ -1,6 +1,7 @@
 -- Names in generated code: `camel_to_snake_case` and `module_name` of codegen.rs, and the name of a default's constant. A name
 -- is its bytes in UTF-8. Assumes nothing.
-use Rattle.std.specs.Prelude.{◌≡◌, Bool, true, false, not, [], ◌∷◌, ◌++◌, map, ℕ, ◌+◌, ◌-◌, ◌≤◌, leb, ltb, length, get_or, take, replicate}
+use Rattle.std.specs.Prelude.{◌≡◌, Bool, true, false, not, [], ◌∷◌, ◌++◌, map, ℕ, ◌+◌, ◌-◌, ◌≤◌, leb, ltb, length, get_or, take}
+use Rattle.std.specs.Prelude.{replicate}
 use Rattle.text.specs.Bytes.{Str, ascii, unit, cond, both, either}
 use Rattle.column.specs.Texts.{between, is_lead, is_accented, are_chars, is_field_name}
 use Rattle.names.specs.Keywords.{is_keyword}

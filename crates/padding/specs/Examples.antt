@@ -13,7 +13,8 @@ use Rattle.tree.specs.Tree.{plain}
 use Rattle.tree.specs.Reader.{times}
 use Rattle.tree.specs.Read.{sheet, admitted}
 use Rattle.tree.specs.Read.{read_binding, read_scope, type_from, read_type, value_of, read_words_up_to, read_words, read_slot}
-use Rattle.tree.specs.Read.{read_field, among, overlap, fields_up_to, read_fields, group_ids, read_params, read_members, read_node}
+use Rattle.tree.specs.Read.{read_field, among, overlap, fields_up_to, read_fields, group_ids, read_params, read_members}
+use Rattle.tree.specs.Read.{read_node}
 use Rattle.tree.specs.Read.{read_nodes, read_sheet}
 use Rattle.tree.specs.Worked.{lone_slot, node, worked_sheet}
 use Rattle.padding.specs.Padded.{number_count, space_len, word_len, right_justified, words_padded}
@@ -34,10 +35,10 @@ is_free =
 -- it is a sheet: the bed with one slot
 is-free-admitted : admitted is_free ≡ sheet (worked_sheet (node 7 "bed" 0 0 (lone_slot "isFree" (plain 1) 3 1 1 ∷ []) ∷ []))
 unfolding is_free row_text columns padded decimal admitted read_sheet read_nodes read_node read_members read_params group_ids
-    read_fields fields_up_to read_field overlap among read_slot read_words read_words_up_to value_of read_type type_from read_scope
-    read_binding times rest_of onto rows text_at text_of text_start line_at line_of reader root_line node_line parameter_line field_line
-    group_line type_line scope_line unbound_line value_line word_line most_a most_b most_c most_count most_bits column_of unpadded digits
-    trimmed is_graphic_text is_name is_field_name are_chars all is_graphic is_word ends_in
+    read_fields fields_up_to read_field overlap among read_slot read_words read_words_up_to value_of read_type type_from
+    read_scope read_binding times rest_of onto rows text_at text_of text_start line_at line_of reader root_line node_line
+    parameter_line field_line group_line type_line scope_line unbound_line value_line word_line most_a most_b most_c most_count
+    most_bits column_of unpadded digits trimmed is_graphic_text is_name is_field_name are_chars all is_graphic is_word ends_in
 is-free-admitted = refl
 
 is-free-short : short is_free ≡ is_free_short
@@ -45,14 +46,14 @@ unfolding is_free is_free_short short row_text columns padded decimal
 is-free-short = refl
 
 is-free-padded : padded_text is_free_short ≡ is_free
-unfolding is_free is_free_short padded_text padded_rows padded_row words_padded right_justified word_len space_len number_count rows onto
-    row_text columns padded decimal
+unfolding is_free is_free_short padded_text padded_rows padded_row words_padded right_justified word_len space_len number_count
+    rows onto row_text columns padded decimal
 is-free-padded = refl
 
 -- and it stays as it is
 is-free-kept : padded_text is_free ≡ is_free
-unfolding is_free padded_text padded_rows padded_row words_padded right_justified word_len space_len number_count rows onto row_text columns
-    padded decimal
+unfolding is_free padded_text padded_rows padded_row words_padded right_justified word_len space_len number_count rows onto
+    row_text columns padded decimal
 is-free-kept = refl
 
 -- rows with more spaces, with too few words, with words that are no numbers, and a last row without byte 10

@@ -230,8 +230,8 @@ fn print_pieces(rt: &HostRuntime, s: &[u8], index: &[u64], start: Place, out: &m
     }
 }
 
-// The same over the small buffer, from the start of a short sheet; a longer one is left to the large buffer, so that no unit of it
-// is tried in the small one first. Each buffer has its own function, so that the stack holds one of them at a time.
+// The same over the small buffer, from the start of a short sheet; a longer one is left to the large buffer, so that no unit of
+// it is tried in the small one first. Each buffer has its own function, so that the stack holds one of them at a time.
 fn print_small(rt: &HostRuntime, s: &[u8], index: &[u64], start: Place) -> Came
     requires { Left s.now index.now start (program_text (admitted s.now)) }
     ensures { Comes s.now index.now 32768 result }

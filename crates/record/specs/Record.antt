@@ -1,6 +1,7 @@
 -- A record and what can be done to it (document 01, "What a line does to a record"). A section, of data bits or of the pointers'
 -- flags, is a list of Bools, so that one get and one set serve Bools, numbers and pointers. Assumes nothing.
-use Rattle.std.specs.Prelude.{ℕ, ◌+◌, ◌≤◌, ◌<◌, ◌≡◌, Bool, true, false, List, [], ◌∷◌, ◌++◌, eqb, leb, length, take, drop, get_or, replicate}
+use Rattle.std.specs.Prelude.{ℕ, ◌+◌, ◌≤◌, ◌<◌, ◌≡◌, Bool, true, false, List, [], ◌∷◌, ◌++◌, eqb, leb, length, take, drop}
+use Rattle.std.specs.Prelude.{get_or, replicate}
 use Rattle.std.proofs.Math.Option.{Option, none, some}
 use Rattle.text.specs.Bytes.{cond}
 use Rattle.record.specs.Bits.{to_bits, of_bits, xors}

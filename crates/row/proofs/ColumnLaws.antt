@@ -1,5 +1,6 @@
 -- Lines that are read column by column: what a call says of the number in some columns, and how a line goes on by it. A return
--- cites what was said of each number before it, and what decides there. Assumes nothing.
+-- cites what was said of each number before it, and what decides there. The same as a record of what is left to read of a line:
+-- `Left` between two columns, `Column` where one was looked at. Assumes nothing.
 use mathlib.Core.Path.{◌≡◌, refl, sym, ap, ◌∙◌}
 use mathlib.Core.Bool.{Bool, true, false}
 use mathlib.Core.Option.{Option, none, some}
@@ -23,6 +24,53 @@ is-there e h = sym e ∙ ap number_said h
 
 pub not-there : {n : Number} {x : Option ℕ} → number_said n ≡ x → n ≡ Not → x ≡ none
 not-there e h = sym e ∙ ap number_said h
+
+-- a line's bytes, and what the line is by what is left to read of it
+pub record Left (line : Str → Content) : Type 0 where
+  pub bytes : Str
+  pub rest : Content
+  pub is : rest ≡ line bytes
+
+-- the same where the number from a place on was looked at: what was got there, and how the line goes on with it
+pub record Column (line : Str → Content) : Type 0 where
+  pub bytes : Str
+  pub place : ℕ
+  pub got : Number
+  pub on : ℕ → Content
+  pub is : given bytes place (number_said got) on ≡ line bytes
+
+-- nothing was read
+abbrev pub unread : (line : Str → Content) (t : Str) → Left line
+unread line t = record { bytes = t; rest = line t; is = refl }
+
+-- a number is looked at: `column w a _ refl n e`, where e is what the call says of n
+abbrev pub column :
+    {line : Str → Content} (w : Left line) (a : ℕ) {x : Option ℕ} (f : ℕ → Content) → w.rest ≡ given w.bytes a x f
+    → (n : Number) → number_said n ≡ x → Column line
+column w a f k n e = record {
+  bytes = w.bytes;
+  place = a;
+  got = n;
+  on = f;
+  is = ap (λ x. given w.bytes a x f) e ∙ sym k ∙ w.is;
+}
+
+-- one stands there: the line is what it goes on with
+pub on-with : {line : Str → Content} (r : Column line) {v : ℕ} → r.got ≡ Is v → r.on v ≡ line r.bytes
+on-with r h = rw h at r.is
+
+abbrev pub past : {line : Str → Content} (r : Column line) {v : ℕ} → r.got ≡ Is v → Left line
+past r {v} h = record { bytes = r.bytes; rest = r.on v; is = on-with r h }
+
+-- none stands there: the line is bad
+pub none-there :
+    {line : Str → Content} (r : Column line) {l : Content} → r.got ≡ Not
+    → l ≡ Bad (letter_of r.bytes) (fault 16 (r.place + 1)) → l ≡ line r.bytes
+none-there r h z = z ∙ rw h at r.is
+
+-- the end of the line is left
+pub at-end : {line : Str → Content} (w : Left line) {l : Content} → l ≡ w.rest → l ≡ line w.bytes
+at-end w e = e ∙ w.is
 
 -- the text at the end is none, and is one
 pub no_text : {p b : Bool} → p ≡ b → p ≡ false → b ≡ false

@@ -185,8 +185,9 @@ expected cs = map (λ c. c.says) cs
 
 all-cases : read_all (numbers ++ kinds ++ texts ++ faults) ≡ expected (numbers ++ kinds ++ texts ++ faults)
 unfolding justified row ◌says◌ bad nothing sixty node numbers kinds texts faults read_all expected trimmed digits unpadded
-    column_of is_word is_graphic all are_chars is_name is_field_name is_graphic_text ends_in root_line node_line parameter_line field_line
-    group_line type_line scope_line unbound_line value_line word_line most_a most_b most_c most_count most_bits reader line_of
+    column_of is_word is_graphic all are_chars is_name is_field_name is_graphic_text ends_in root_line node_line parameter_line
+    field_line group_line type_line scope_line unbound_line value_line word_line most_a most_b most_c most_count most_bits
+    reader line_of
 all-cases = refl
 
 -- document 01's example: the rows of the sheet, what each says, its text; and the same printed
@@ -211,7 +212,8 @@ printed_all (l ∷ ls) (t ∷ ts) = print_line l t ++ printed_all ls ts
 
 sheet-lines : map line_of (rows sheet) ≡ lines
 unfolding justified row sheet lines rows onto trimmed digits unpadded column_of is_word is_graphic all are_chars is_name
-    is_field_name is_graphic_text ends_in root_line node_line field_line type_line value_line most_a most_b most_c most_bits reader line_of
+    is_field_name is_graphic_text ends_in root_line node_line field_line type_line value_line most_a most_b most_c most_bits
+    reader line_of
 sheet-lines = refl
 
 sheet-texts : map text_of (rows sheet) ≡ names

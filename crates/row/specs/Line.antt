@@ -247,13 +247,15 @@ cases r n p f g t s u v w z (Bad x k) = z x k
 
 -- each letter alone: y for its lines, z for all others
 abbrev pub as_root : {A : Type 0} → Content → A → A → A
-as_root l y z = cases y (λ _ _ _ _ _ _ _. z) z (λ _ _ _ _. z) (λ _ _. z) (λ _ _ _ _. z) (λ _ _ _. z) z (λ _ _. z) (λ _. z) (λ _ _. z) l
+as_root l y z =
+    cases y (λ _ _ _ _ _ _ _. z) z (λ _ _ _ _. z) (λ _ _. z) (λ _ _ _ _. z) (λ _ _ _. z) z (λ _ _. z) (λ _. z) (λ _ _. z) l
 
 abbrev pub as_node : {A : Type 0} → Content → (ℕ → ℕ → ℕ → ℕ → ℕ → ℕ → ℕ → A) → A → A
 as_node l y z = cases z y z (λ _ _ _ _. z) (λ _ _. z) (λ _ _ _ _. z) (λ _ _ _. z) z (λ _ _. z) (λ _. z) (λ _ _. z) l
 
 abbrev pub as_parameter : {A : Type 0} → Content → A → A → A
-as_parameter l y z = cases z (λ _ _ _ _ _ _ _. z) y (λ _ _ _ _. z) (λ _ _. z) (λ _ _ _ _. z) (λ _ _ _. z) z (λ _ _. z) (λ _. z) (λ _ _. z) l
+as_parameter l y z =
+    cases z (λ _ _ _ _ _ _ _. z) y (λ _ _ _ _. z) (λ _ _. z) (λ _ _ _ _. z) (λ _ _ _. z) z (λ _ _. z) (λ _. z) (λ _ _. z) l
 
 abbrev pub as_field : {A : Type 0} → Content → (ℕ → ℕ → ℕ → ℕ → A) → A → A
 as_field l y z = cases z (λ _ _ _ _ _ _ _. z) z y (λ _ _. z) (λ _ _ _ _. z) (λ _ _ _. z) z (λ _ _. z) (λ _. z) (λ _ _. z) l
@@ -268,7 +270,8 @@ abbrev pub as_scope : {A : Type 0} → Content → (ℕ → ℕ → ℕ → A) �
 as_scope l y z = cases z (λ _ _ _ _ _ _ _. z) z (λ _ _ _ _. z) (λ _ _. z) (λ _ _ _ _. z) y z (λ _ _. z) (λ _. z) (λ _ _. z) l
 
 abbrev pub as_unbound : {A : Type 0} → Content → A → A → A
-as_unbound l y z = cases z (λ _ _ _ _ _ _ _. z) z (λ _ _ _ _. z) (λ _ _. z) (λ _ _ _ _. z) (λ _ _ _. z) y (λ _ _. z) (λ _. z) (λ _ _. z) l
+as_unbound l y z =
+    cases z (λ _ _ _ _ _ _ _. z) z (λ _ _ _ _. z) (λ _ _. z) (λ _ _ _ _. z) (λ _ _ _. z) y (λ _ _. z) (λ _. z) (λ _ _. z) l
 
 abbrev pub as_value : {A : Type 0} → Content → (ℕ → ℕ → A) → A → A
 as_value l y z = cases z (λ _ _ _ _ _ _ _. z) z (λ _ _ _ _. z) (λ _ _. z) (λ _ _ _ _. z) (λ _ _ _. z) z y (λ _. z) (λ _ _. z) l

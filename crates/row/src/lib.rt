@@ -102,8 +102,8 @@ pub struct Span {
     pub end: usize,
 }
 
-// The least bytes that a good line with a letter has. Where a byte 10 stands before that, the fault is the same whether the line is
-// read up to it or further.
+// The least bytes that a good line with a letter has. Where a byte 10 stands before that, the fault is the same whether the line
+// is read up to it or further.
 fn least_length(letter: u8) -> usize
     ensures { (u w : Str) → 0 < length u → length u < result → reader letter u ≡ reader letter (u ++ 10 ∷ w) }
 {

@@ -1,6 +1,7 @@
 -- What the steps of admission promise one another: group ids with their flags and their room, the marks of P rows, a node and its
 -- entry. Only the code needs them: what admission promises stands in Admission. Assumes nothing.
-use Rattle.std.specs.Prelude.{◌≡◌, Bool, true, List, ◌++◌, ℕ, ◌+◌, ◌-◌, ◌*◌, ◌/◌, ◌%◌, ◌≤◌, ◌<◌, eqb, ltb, length, drop, take, get_or, set}
+use Rattle.std.specs.Prelude.{◌≡◌, Bool, true, List, ◌++◌, ℕ, ◌+◌, ◌-◌, ◌*◌, ◌/◌, ◌%◌, ◌≤◌, ◌<◌, eqb, ltb, length, drop, take}
+use Rattle.std.specs.Prelude.{get_or, set}
 use Rattle.std.proofs.Math.Option.{Option, none, some}
 use Rattle.text.specs.Bytes.{Str, cond, both}
 use Rattle.row.specs.Rows.{rows, rest_of, size, line_no}

@@ -146,8 +146,8 @@ fn params(s: &[u8], index: &mut [u64], from: usize, marks: usize) -> ParamsRun
     }
 }
 
-// Where a field may stand and this line stands, which is none: a bad F or G line is refused by its fault, and at any other the walk
-// ends.
+// Where a field may stand and this line stands, which is none: a bad F or G line is refused by its fault, and at any other the
+// walk ends.
 fn no_field(line: Line, at: usize) -> Walk
     ensures { result ≡ refused_by (fault_of (byte "F") (line_said line)) at (end_at (byte "G") (line_said line) at) }
 {

@@ -15,7 +15,8 @@ use Rattle.tree.specs.Tree.{Slot, slot, group, Field, Node, Sheet}
 use Rattle.tree.specs.Reader.{Rows, times}
 use Rattle.tree.specs.Read.{Admitted, sheet, refused, admitted}
 use Rattle.tree.specs.Read.{read_binding, read_scope, type_from, read_type, value_of, read_words_up_to, read_words, read_slot}
-use Rattle.tree.specs.Read.{among, overlap, read_field, fields_up_to, read_fields, group_ids, read_params, read_members, read_node}
+use Rattle.tree.specs.Read.{among, overlap, read_field, fields_up_to, read_fields, group_ids, read_params, read_members}
+use Rattle.tree.specs.Read.{read_node}
 use Rattle.tree.specs.Read.{read_nodes, read_sheet}
 use Rattle.tree.specs.Print.{scope_count, bind_count, type_rows, word_rows, field_rows, param_rows, node_rows, sheet_rows}
 use Rattle.tree.specs.Print.{printed}
@@ -175,17 +176,17 @@ expected (c ∷ cs) = c.answer ∷ expected cs
 -- what is admitted of each sheet is what the table says
 worked : answers table ≡ expected table
 unfolding answers expected table rich down groups worded bed7 lists typed one_slot free_tree bed_with free_as joined printed
-    sheet_rows node_rows param_rows field_rows word_rows type_rows bind_count scope_count row_text columns padded decimal admitted
-    read_sheet read_nodes read_node read_members read_params group_ids read_fields fields_up_to read_field overlap among read_slot
-    read_words read_words_up_to value_of read_type type_from read_scope read_binding times line_no size newlines rest_of onto rows text_at
-    text_of text_start line_at line_of reader root_line node_line parameter_line field_line group_line type_line scope_line unbound_line
-    value_line word_line most_a most_b most_c most_count most_bits column_of unpadded digits trimmed is_graphic_text is_name is_field_name
-    are_chars all is_graphic is_word ends_in
+    sheet_rows node_rows param_rows field_rows word_rows type_rows bind_count scope_count row_text columns padded decimal
+    admitted read_sheet read_nodes read_node read_members read_params group_ids read_fields fields_up_to read_field overlap
+    among read_slot read_words read_words_up_to value_of read_type type_from read_scope read_binding times line_no size newlines
+    rest_of onto rows text_at text_of text_start line_at line_of reader root_line node_line parameter_line field_line group_line
+    type_line scope_line unbound_line value_line word_line most_a most_b most_c most_count most_bits column_of unpadded digits
+    trimmed is_graphic_text is_name is_field_name are_chars all is_graphic is_word ends_in
 worked = refl
 
 -- the two trees with most in them are well-formed
 fit : (well_formed free_tree ≡ true) × (well_formed rich ≡ true)
-unfolding well_formed every distinct type_fits node_ids all_group_ids group_ids among most_bits is_graphic_text is_name is_field_name
-    are_chars all is_graphic is_word free_tree rich groups bed_with joined printed sheet_rows node_rows param_rows field_rows word_rows
-    type_rows bind_count scope_count row_text columns padded decimal
+unfolding well_formed every distinct type_fits node_ids all_group_ids group_ids among most_bits is_graphic_text is_name
+    is_field_name are_chars all is_graphic is_word free_tree rich groups bed_with joined printed sheet_rows node_rows param_rows
+    field_rows word_rows type_rows bind_count scope_count row_text columns padded decimal
 fit = (refl, refl)

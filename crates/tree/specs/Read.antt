@@ -11,7 +11,8 @@ use Rattle.tree.specs.Tree.{Ty, plain, list, enum, struct, interface, any_pointe
 use Rattle.tree.specs.Tree.{Scopes, end, inherit, bind, Binds, stop, unbound, bound}
 use Rattle.tree.specs.Tree.{Value, Slot, Arm, slot, group, Field, Node, Sheet}
 use Rattle.tree.specs.Reader.{Reading, got, no, Reader, ◌then◌, map_r, times, at_end}
-use Rattle.tree.specs.Reader.{on_root, on_node, on_parameter, on_field, on_group, on_type, on_scope, on_unbound, on_value, on_word}
+use Rattle.tree.specs.Reader.{on_root, on_node, on_parameter, on_field, on_group, on_type, on_scope, on_unbound, on_value}
+use Rattle.tree.specs.Reader.{on_word}
 
 -- a binding: a U line, or a type
 unfoldable pub read_binding : Reader Ty → Reader (Binds → Binds)

@@ -58,14 +58,16 @@ module _ {A : Type 0} where
       (or_fault (byte "N") other) rs
 
   abbrev pub on_parameter : (Str → Reader A) → Reader A → Reader A
-  on_parameter f other rs = as_parameter {A = Reader A} (line_at rs) (λ rs. f (text_at rs) (rest_of rs)) (or_fault (byte "P") other) rs
+  on_parameter f other rs =
+      as_parameter {A = Reader A} (line_at rs) (λ rs. f (text_at rs) (rest_of rs)) (or_fault (byte "P") other) rs
 
   abbrev pub on_field : (ℕ → ℕ → ℕ → ℕ → Str → Reader A) → Reader A → Reader A
   on_field f other rs = as_field {A = Reader A} (line_at rs) (λ o d e p rs. f o d e p (text_at rs) (rest_of rs))
       (or_fault (byte "F") other) rs
 
   abbrev pub on_group : (ℕ → ℕ → Str → Reader A) → Reader A → Reader A
-  on_group f other rs = as_group {A = Reader A} (line_at rs) (λ i d rs. f i d (text_at rs) (rest_of rs)) (or_fault (byte "G") other) rs
+  on_group f other rs =
+      as_group {A = Reader A} (line_at rs) (λ i d rs. f i d (text_at rs) (rest_of rs)) (or_fault (byte "G") other) rs
 
   abbrev pub on_type : (ℕ → ℕ → ℕ → ℕ → Reader A) → Reader A → Reader A
   on_type f other rs = as_type {A = Reader A} (line_at rs) (λ k a b c rs. f k a b c (rest_of rs)) (or_fault (byte "T") other) rs

@@ -57,6 +57,6 @@ worked_sheet nodes = record { root = ascii "::capnp"; nodes = nodes }
 abbrev pub bed : Rows
 bed = print_root (ascii "::capnp") ∷ print_node 7 0 0 1 0 0 0 (ascii "bed") ∷ []
 
--- document 01's example: the bed with the slot is_free, a Bool at 3 with default true
+-- document 01's example: the bed with the slot isFree, a Bool at 3 with default true
 abbrev pub free : Rows
 free = bed ++ (print_field 3 65535 1 0 (ascii "isFree") ∷ print_type 1 0 0 0 ∷ print_value 1 1 ∷ [])

@@ -53,8 +53,8 @@ pub fn end_at(line: Line, letter: u8, at: usize) -> Walk
     }
 }
 
-// Where a line with a letter must stand and this one stands: a bad line with that letter is refused by its fault, any other as one
-// that may not stand there.
+// Where a line with a letter must stand and this one stands: a bad line with that letter is refused by its fault, any other as
+// one that may not stand there.
 pub fn wrong_at(line: Line, letter: u8, at: usize) -> Walk
     ensures { result ≡ wrong_at letter (line_said line) at }
 {

@@ -90,6 +90,6 @@ table =
     ∷ []
 
 worked : map (λ (r : Row). zeroing r.group) table ≡ map (λ (r : Row). r.answer) table
-unfolding table chained decimal same join stringify ended to_lines flat_map node_of by_id set_bool_field set_data_field clear_pointer
-    zero_line contains zero_fields zero_fields_of_group
+unfolding table chained decimal same join stringify ended to_lines flat_map node_of by_id set_bool_field set_data_field
+    clear_pointer zero_line contains zero_fields zero_fields_of_group
 worked = refl

@@ -47,7 +47,8 @@ own_place type offset = (offset % 65536 * 13 + type) % table_size
 -- there is none at all
 abbrev pub table_place : List ℕ → List ℕ → ℕ → ℕ → ℕ
 table_place offsets types type offset =
-    place_below offsets types type offset (place_below offsets types type offset table_size table_size) (own_place type offset + 1)
+    place_below offsets types type offset (place_below offsets types type offset table_size table_size)
+    (own_place type offset + 1)
 
 -- the table keeps the lines that some fields have: what it has is one of them, and a line whose place is free is none of them
 pub record Kept (offsets types : List ℕ) (has : ℕ → ℕ → Bool) : Type 0 where
