@@ -27,7 +27,9 @@ module _ (s : Str) (r : Answer) (told : answer_numbers r ≡ refusal_in (admitte
       (λ nodes x. enters.left s nodes x)
 
   -- it is refused
-  pub start-refused : (k line column : ℕ) → r ≡ answer.Refused k line column → Left s index (Refused k line column) (program_text (admitted s))
+  pub start-refused :
+      (k line column : ℕ) → r ≡ answer.Refused k line column
+      → Left s index (Refused k line column) (program_text (admitted s))
   unfolding program_text
   start-refused k line column e =
       of_refusal s r index told (λ (a : Admitted). Left s index (Refused k line column) (program_text a)) k line column e refl

@@ -20,7 +20,9 @@ counted n l h = (h, sym (length-take-le n l h))
 -- where a line ends and where it goes on
 pub line-here : (s : Str) (i : ℕ) → i < length s → get_or s i 0 ≡ 10 → line_end s i ≡ i
 unfolding line_length
-line-here s i h e = let z : line_length (drop i s) ≡ 0 = rw (drop-cons s i 0, line_length, eq-eqb (get_or s i 0) 10 e) in omega arith
+line-here s i h e =
+    let z : line_length (drop i s) ≡ 0 = rw (drop-cons s i 0, line_length, eq-eqb (get_or s i 0) 10 e) in
+    omega arith
 
 pub line_on : (s : Str) (i : ℕ) → i < length s → (get_or s i 0 ≡ 10 → ⊥) → line_end s i ≡ line_end s (i + 1)
 unfolding line_length

@@ -5,7 +5,4 @@ use Rattle.parts.proofs.header.Goals as goal
 
 pub returns : goal.returns
 unfolding header_text
-returns c =
-    let at-bytes = c in
-    let at-opening = at-bytes in
-    at-opening.opening-t.ensures ⨾ at-bytes.bytes-t.ensures ⨾ c.byte.ensures
+returns c = c.opening-t.ensures ⨾ c.bytes-t.ensures ⨾ c.byte.ensures

@@ -15,14 +15,9 @@ room c = search rules
 pub returns : goal.returns
 unfolding refused_text
 returns c =
-    let at_byte = c in
-    let at-number = at_byte in
-    let at-bytes = at-number in
-    let at_at = at-bytes in
-    let start = at_at in
-    let written = at-bytes.bytes-t.ensures ⨾ at-number.number-t.ensures ⨾ at_byte.byte-t.ensures in
-    let z = at_at.at.ensures in
-    let a = start.args in
+    let written = c.bytes-t.ensures ⨾ c.number-t.ensures ⨾ c.byte-t.ensures in
+    let z = c.at.ensures in
+    let a = c.args in
     let few = refused-few a.number (search rules) in
     let i = c.taken.ensures in
     record {

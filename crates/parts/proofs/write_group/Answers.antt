@@ -4,13 +4,12 @@ use Rattle.parts.proofs.write_group.Goals as goal
 
 pub returns : goal.returns
 returns c =
-    let at-write-parts = c in
-    let at_name = at-write-parts in
-    let start = at_name in
-    let a = start.args in
-    let written = at-write-parts.write_parts in
+    let a = c.args in
+    let written = c.write_parts in
     let put = written.ensures in
     record {
       within = put.within;
-      said = group-unit a.root.now a.s.now a.index.now a.tag at_name.name-name.result.now a.out.now written.new.out written.result a.group at_name.name-name.ensures.name put.fits put.said;
+      said =
+          group-unit a.root.now a.s.now a.index.now a.tag c.name-name.result.now a.out.now written.new.out written.result
+          a.group c.name-name.ensures.name put.fits put.said;
     }

@@ -16,12 +16,9 @@ room c = search rules
 
 pub returns-then-out-n : goal.returns-then-out-n
 returns-then-out-n c =
-    let at-header = c in
-    let at_at = at-header in
-    let start = at_at in
-    let a = start.args in
-    let written = at-header.header-t.ensures in
-    let z = at_at.at.ensures in
+    let a = c.args in
+    let written = c.header-t.ensures in
+    let z = c.at.ensures in
     let long = c.fill-n.ensures ∙ text-end z written in
     let few = header-few a.job.part a.name.now in
     record {
@@ -32,61 +29,47 @@ returns-then-out-n c =
 
 pub overflow_add-result : goal.overflow_add-result
 overflow_add-result c =
-    let at-under-header = c in
-    let at-if1 = at-under-header in
-    let at_fill_lem = at-if1 in
-    let at-header = at_fill_lem in
-    let start = at-header in
-    let l = at-header.header-t.new.buf in
-    let m = rw c.in-Whole.is at at-under-header.under_header.ensures.within in
-    let same = at-under-header.under_header.auto.buf in
-    let size = at-header.header-t.auto.buf in
-    omega (arith, m, same, size, at-if1.if-out-n.false, lent_length l at_fill_lem.fill-n.result, room (goal.at.overflow_add-result c).Start)
+    let l = c.header-t.new.buf in
+    let m = rw c.in-Whole.is at c.under_header.ensures.within in
+    let same = c.under_header.auto.buf in
+    let size = c.header-t.auto.buf in
+    omega (arith, m, same, size, c.if-out-n.false, lent_length l c.fill-n.result, room (goal.at.overflow_add-result c).Start)
 
 pub returns-in-Whole : goal.returns-in-Whole
 returns-in-Whole c =
-    let at-under-header = c in
-    let at-if1 = at-under-header in
-    let at_fill_lem = at-if1 in
-    let at-header = at_fill_lem in
-    let at_at = at-header in
-    let start = at_at in
-    let a = start.args in
-    let written = at-header.header-t.ensures in
-    let z = at_at.at.ensures in
-    let long = at_fill_lem.fill-n.ensures ∙ text-end z written in
+    let a = c.args in
+    let written = c.header-t.ensures in
+    let z = c.at.ensures in
+    let long = c.fill-n.ensures ∙ text-end z written in
     let few = header-few a.job.part a.name.now in
-    let l = at-header.header-t.new.buf in
-    let l' = at-under-header.under_header.new.buf in
-    let n = at_fill_lem.fill-n.result in
-    let under = rw c.in-Whole.is at at-under-header.under_header.ensures in
-    let within : n ≤ length l = at-if1.if-out-n.false in
-    let end = at_fill_lem.fill-n.ensures in
-    let there = rw (← end) at (text-whole z written (room (goal.at.returns-in-Whole c).Start) (omega (arith, end, within, kept written))) in
+    let l = c.header-t.new.buf in
+    let l' = c.under_header.new.buf in
+    let n = c.fill-n.result in
+    let under = rw c.in-Whole.is at c.under_header.ensures in
+    let within : n ≤ length l = c.if-out-n.false in
+    let end = c.fill-n.ensures in
+    let there = rw (← end) at
+    (text-whole z written (room (goal.at.returns-in-Whole c).Start) (omega (arith, end, within, kept written))) in
     record {
       within = on-within l l' n within _ under.within;
       fits = omega (arith, under.fits, long, few);
-      said = λ ns x at named. part-whole (sheet_of a.root.now ns) at a.job.part a.name.now l l' n _ named.name-is within under.within there (under.said ns x at named.tag_is named.field_is);
+      said = λ ns x at named.
+          part-whole (sheet_of a.root.now ns) at a.job.part a.name.now l l' n _ named.name-is within under.within there
+          (under.said ns x at named.tag_is named.field_is);
     }
 
 pub returns-in-Short : goal.returns-in-Short
 returns-in-Short c =
-    let at-under-header = c in
-    let at-if1 = at-under-header in
-    let at_fill_lem = at-if1 in
-    let at-header = at_fill_lem in
-    let at_at = at-header in
-    let start = at_at in
-    let a = start.args in
-    let written = at-header.header-t.ensures in
-    let z = at_at.at.ensures in
-    let long = at_fill_lem.fill-n.ensures ∙ text-end z written in
+    let a = c.args in
+    let written = c.header-t.ensures in
+    let z = c.at.ensures in
+    let long = c.fill-n.ensures ∙ text-end z written in
     let few = header-few a.job.part a.name.now in
-    let l = at-header.header-t.new.buf in
-    let n = at_fill_lem.fill-n.result in
-    let under : length (lent l n) < 65536 = rw c.in-Short.is at at-under-header.under_header.ensures.fits in
+    let l = c.header-t.new.buf in
+    let n = c.fill-n.result in
+    let under : length (lent l n) < 65536 = rw c.in-Short.is at c.under_header.ensures.fits in
     record {
       within = tt;
-      fits = omega (arith, under, lent_length l n, at-if1.if-out-n.false, long, few, kept written);
+      fits = omega (arith, under, lent_length l n, c.if-out-n.false, long, few, kept written);
       said = λ ns x at named. tt;
     }

@@ -15,16 +15,13 @@ room c = search rules
 
 pub loop-m-init : goal.loop-m-init
 loop-m-init c =
-    let start = c in
-    let a = start.args in
+    let a = c.args in
     parts_none a.root.now a.s.now a.index.now a.tag a.field a.name.now a.first.part a.out.now
 
 pub returns-in_default : goal.returns-in_default
 returns-in_default c =
-    let at-write-part = c in
-    let at-loop = at-write-part in
-    let short = rw c.in_default.is at at-write-part.write_part-fit.ensures.fits in
-    let l = at-loop.loop-m in
+    let short = rw c.in_default.is at c.write_part-fit.ensures.fits in
+    let l = c.loop-m in
     record {
       within = tt;
       fits = parts-short _ _ _ _ _ _ _ _ l.out l.n l.job.part l.invariant short;
@@ -33,28 +30,22 @@ returns-in_default c =
 
 pub overflow_add-n : goal.overflow_add-n
 overflow_add-n c =
-    let at-write-part = c in
-    let at-loop = at-write-part in
-    let start = at-loop in
-    let l = at-loop.loop-m.out in
-    let n = at-loop.loop-m.n in
-    let so_far = at-loop.loop-m.invariant in
-    let same = at-write-part.write_part-fit.auto.out in
-    let put = rw c.in-Whole.is at at-write-part.write_part-fit.ensures in
+    let l = c.loop-m.out in
+    let n = c.loop-m.n in
+    let so_far = c.loop-m.invariant in
+    let same = c.write_part-fit.auto.out in
+    let put = rw c.in-Whole.is at c.write_part-fit.ensures in
     omega (arith, put.within, same, lent_length l n, so_far.within, so_far.size, room (goal.at.overflow_add-n c).Start)
 
 pub returns-in_default-next_part : goal.returns-in_default-next_part
 returns-in_default-next_part c =
-    let at-fit = c in
-    let at-write-part = at-fit in
-    let at-loop = at-write-part in
-    let l = at-loop.loop-m.out in
-    let l' = at-write-part.write_part-fit.new.out in
-    let n = at-loop.loop-m.n in
-    let put = rw at-fit.in-Whole.is at at-write-part.write_part-fit.ensures in
+    let l = c.loop-m.out in
+    let l' = c.write_part-fit.new.out in
+    let n = c.loop-m.n in
+    let put = rw c.in-Whole.is at c.write_part-fit.ensures in
     let after = rw c.in_default-next_part.is at c.next_part.ensures in
-    let same = at-write-part.write_part-fit.auto.out in
-    let done = parts_more _ _ _ _ _ _ _ _ l n at-loop.loop-m.job.part at-loop.loop-m.invariant l' _ _ after same put.within
+    let same = c.write_part-fit.auto.out in
+    let done = parts_more _ _ _ _ _ _ _ _ l n c.loop-m.job.part c.loop-m.invariant l' _ _ after same put.within
     put.fits put.said in
     record {
       within = done.within;
@@ -64,21 +55,16 @@ returns-in_default-next_part c =
 
 pub loop-m-smaller : goal.loop-m-smaller
 loop-m-smaller c =
-    let at-next-part = c in
-    let after = rw c.in-Is.is at at-next-part.next_part.ensures in
+    let after = rw c.in-Is.is at c.next_part.ensures in
     omega (arith, ap length after)
 
 pub loop-m-preserved : goal.loop-m-preserved
 loop-m-preserved c =
-    let at-next-part = c in
-    let at-fit = at-next-part in
-    let at-write-part = at-fit in
-    let at-loop = at-write-part in
-    let l = at-loop.loop-m.out in
-    let l' = at-write-part.write_part-fit.new.out in
-    let n = at-loop.loop-m.n in
-    let put = rw at-fit.in-Whole.is at at-write-part.write_part-fit.ensures in
-    let after = rw c.in-Is.is at at-next-part.next_part.ensures in
-    let same = at-write-part.write_part-fit.auto.out in
-    parts_more _ _ _ _ _ _ _ _ l n at-loop.loop-m.job.part at-loop.loop-m.invariant l' _ _ after same put.within put.fits
+    let l = c.loop-m.out in
+    let l' = c.write_part-fit.new.out in
+    let n = c.loop-m.n in
+    let put = rw c.in-Whole.is at c.write_part-fit.ensures in
+    let after = rw c.in-Is.is at c.next_part.ensures in
+    let same = c.write_part-fit.auto.out in
+    parts_more _ _ _ _ _ _ _ _ l n c.loop-m.job.part c.loop-m.invariant l' _ _ after same put.within put.fits
     put.said

@@ -1,3 +1,4 @@
+-- `replay_requests::replay` is safe and ends: each turn goes past a sheet and its requests. Assumes nothing.
 use Rattle.std.proofs.Common.{ℕ, ◌+◌, ◌-◌, ◌<◌, ◌≤◌, min, length, arith}
 use Rattle.replay_requests.proofs.replay.Goals as goal
 

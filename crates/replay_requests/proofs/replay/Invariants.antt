@@ -1,4 +1,3 @@
--- `replay_requests::replay` is safe and ends: each turn goes past a sheet and its requests. Assumes nothing.
 use Rattle.std.proofs.Common.{length, ◌-◌}
 use Rattle.replay_requests.proofs.replay.Given as goal
 

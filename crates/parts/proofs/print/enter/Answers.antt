@@ -6,12 +6,7 @@ pub returns-then-node-ge-NODES : goal.returns-then-node-ge-NODES
 returns-then-node-ge-NODES c = enter_out _ _ c.if-node-ge-NODES.true
 
 pub returns-in-At : goal.returns-in-At
-returns-in-At c =
-    let at-nth = c in
-    let at-if1 = at-nth in
-    enter-found _ _ at-if1.if-node-ge-NODES.false _ at-nth.nth.ensures _ c.in-At.is
+returns-in-At c = enter-found _ _ c.if-node-ge-NODES.false _ c.nth.ensures _ c.in-At.is
 
 pub returns-in-Nothing : goal.returns-in-Nothing
-returns-in-Nothing c =
-    let at-if1 = c in
-    enter-none _ _ at-if1.if-node-ge-NODES.false _ c.nth.ensures c.in-Nothing.is
+returns-in-Nothing c = enter-none _ _ c.if-node-ge-NODES.false _ c.nth.ensures c.in-Nothing.is

@@ -14,8 +14,7 @@ room c = search rules
 
 pub loop-next-init : goal.loop-next-init
 loop-next-init c =
-    let start = c in
-    let a = start.args in
+    let a = c.args in
     filling_none a.s.now a.index.now a.place a.out.now
 
 pub returns-in-End : goal.returns-in-End
@@ -28,45 +27,34 @@ returns-in-End c =
 
 pub returns-in_default-fit : goal.returns-in_default-fit
 returns-in_default-fit c =
-    let at-step = c in
-    let at-loop = at-step in
-    let start = at-loop in
-    let a = start.args in
-    let so_far = at-loop.loop-next.invariant in
-    let l = at-loop.loop-next.out in
-    let l' = at-step.step-turn.new.out in
-    let n = at-loop.loop-next.n in
-    let turn = rw c.in_default-fit.is at at-step.step-turn.ensures.said in
+    let a = c.args in
+    let so_far = c.loop-next.invariant in
+    let l = c.loop-next.out in
+    let l' = c.step-turn.new.out in
+    let n = c.loop-next.n in
+    let turn = rw c.in_default-fit.is at c.step-turn.ensures.said in
     record {
       count = counted _ _ (kept-within l l' n so_far.within);
-      filled = filled-short a.s.now a.index.now _ _ l n at-loop.loop-next.next so_far l' at-step.step-turn.result.next turn;
+      filled = filled-short a.s.now a.index.now _ _ l n c.loop-next.next so_far l' c.step-turn.result.next turn;
     }
 
 pub overflow_add-n : goal.overflow_add-n
 overflow_add-n c =
-    let at-step = c in
-    let at-loop = at-step in
-    let start = at-loop in
-    let l = at-loop.loop-next.out in
-    let n = at-loop.loop-next.n in
-    let so_far = at-loop.loop-next.invariant in
-    let turn = rw c.in-Whole.is at at-step.step-turn.ensures in
-    omega (arith, turn.within, at-step.step-turn.auto.out, lent_length l n, so_far.within, so_far.size, room (goal.at.overflow_add-n c).Start)
+    let l = c.loop-next.out in
+    let n = c.loop-next.n in
+    let so_far = c.loop-next.invariant in
+    let turn = rw c.in-Whole.is at c.step-turn.ensures in
+    let size = room (goal.at.overflow_add-n c).Start in
+    omega (arith, turn.within, c.step-turn.auto.out, lent_length l n, so_far.within, so_far.size, size)
 
 pub loop-next-smaller : goal.loop-next-smaller
-loop-next-smaller c =
-    let at-step = c in
-    let at-match = at-step in
-    at-step.step-turn.ensures.fewer (at-match.in_default.not-End)
+loop-next-smaller c = c.step-turn.ensures.fewer (c.in_default.not-End)
 
 pub loop-next-preserved : goal.loop-next-preserved
 loop-next-preserved c =
-    let at-step = c in
-    let at-match = at-step in
-    let at-loop = at-match in
-    let l = at-loop.loop-next.out in
-    let l' = at-step.step-turn.new.out in
-    let n = at-loop.loop-next.n in
-    let turn = rw c.in-Whole.is at at-step.step-turn.ensures in
-    filling-more _ _ _ _ l n _ at-loop.loop-next.invariant l' _ _ at-step.step-turn.auto.out turn.within turn.said
-    (at-step.step-turn.ensures.fewer (at-match.in_default.not-End))
+    let l = c.loop-next.out in
+    let l' = c.step-turn.new.out in
+    let n = c.loop-next.n in
+    let turn = rw c.in-Whole.is at c.step-turn.ensures in
+    filling-more _ _ _ _ l n _ c.loop-next.invariant l' _ _ c.step-turn.auto.out turn.within turn.said
+    (c.step-turn.ensures.fewer (c.in_default.not-End))

@@ -18,17 +18,12 @@ room c = search rules
 pub returns : goal.returns
 unfolding refused_sheet_text
 returns c =
-    let at_byte = c in
-    let at-column = at_byte in
-    let at-line = at-column in
-    let at-refused = at-line in
-    let at_at = at-refused in
-    let start = at_at in
-    let written = at-refused.write_labelled-t.ensures ⨾ at-line.write_labelled-t-2.ensures ⨾ at-column.write_labelled-t-3.ensures
-    ⨾ at_byte.byte-t.ensures in
-    let z = at_at.at.ensures in
-    let a = start.args in
-    let few = refused-sheet-few a.number a.line a.column (small (goal.at.returns c).Start).0 (small (goal.at.returns c).Start).1 (small (goal.at.returns c).Start).2 in
+    let written = c.write_labelled-t.ensures ⨾ c.write_labelled-t-2.ensures ⨾ c.write_labelled-t-3.ensures
+    ⨾ c.byte-t.ensures in
+    let z = c.at.ensures in
+    let a = c.args in
+    let sizes = small (goal.at.returns c).Start in
+    let few = refused-sheet-few a.number a.line a.column sizes.0 sizes.1 sizes.2 in
     let i = c.taken.ensures in
     record {
       within = taken-within _ _ _ i;

@@ -8,6 +8,4 @@ returns-in-Sheet c =
     λ room. start-sheet _ _ admitted.answer _ _ (admitted.index room) c.in-Sheet.is c.enter.ensures
 
 pub returns-in-Refused : goal.returns-in-Refused
-returns-in-Refused c =
-    let at-admit = c in
-    λ room. start-refused _ _ at-admit.admit-verdict.ensures.answer at-admit.admit-verdict.new.index _ _ _ c.in-Refused.is
+returns-in-Refused c = λ room. start-refused _ _ c.admit-verdict.ensures.answer c.admit-verdict.new.index _ _ _ c.in-Refused.is

@@ -5,9 +5,8 @@ use Rattle.parts.proofs.print.step.Goals as goal
 
 pub returns-in-At : goal.returns-in-At
 returns-in-At c =
-    let at_place = c in
     let turn = c.field_turn.ensures in
-    let is = at_place.in-At.is in
+    let is = c.in-At.is in
     record {
       within = turn.within;
       said = rw is turn.said;
@@ -16,22 +15,21 @@ returns-in-At c =
 
 pub returns-in-Refused : goal.returns-in-Refused
 returns-in-Refused c =
-    let at-refused-sheet = c in
-    let at-place2 = at-refused-sheet in
-    let start = at-place2 in
-    let a = start.args in
-    let put = at-refused-sheet.refused_sheet.ensures in
-    let is = at-place2.in-Refused.is in
+    let a = c.args in
+    let put = c.refused_sheet.ensures in
+    let is = c.in-Refused.is in
     record {
       within = put.within;
-      said = rw is (refused-turn a.s.now a.index.now _ _ _ a.out.now at-refused-sheet.refused_sheet.new.buf at-refused-sheet.refused_sheet.result put.fits put.said);
+      said =
+          rw is
+          (refused-turn a.s.now a.index.now _ _ _ a.out.now c.refused_sheet.new.buf c.refused_sheet.result put.fits
+          put.said);
       fewer = λ more. rw is (omega arith);
     }
 
 pub returns-in-End : goal.returns-in-End
 returns-in-End c =
-    let start = c in
-    let a = start.args in
+    let a = c.args in
     let is = c.in-End.is in
     record {
       within = omega arith;

@@ -5,9 +5,8 @@ use Rattle.parts.proofs.print.tag_of.Goals as goal
 
 pub returns-in-At : goal.returns-in-At
 returns-in-At c =
-    let at-nth = c in
     λ s ns n x i.
-    let e = node-found s ns _ _ n _ at-nth.nth.ensures x i in
+    let e = node-found s ns _ _ n _ c.nth.ensures x i in
     sym (rw c.in-At.is at e).tag-offset
 
 pub returns-in-Nothing : goal.returns-in-Nothing

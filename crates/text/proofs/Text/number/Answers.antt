@@ -1,5 +1,5 @@
--- `text::Text::number` meets its contract. The loop's invariant (`Found`): the digits that are left to write, and those found so
--- far, are the number's; and what is left has at most as many digits as there are places. Assumes nothing.
+-- `text::Text::number` meets its contract. The loop's invariant (`Found`): the digits that are left to write, and those found
+-- so far, are the number's; and what is left has at most as many digits as there are places. Assumes nothing.
 use mathlib.Core.Path.{refl, sym, ◌∙◌}
 use Prim.Native.Nat.{◌+◌, ◌-◌, ◌<◌}
 use native.Mathlib.Omega.{arith}
@@ -65,6 +65,7 @@ returns c =
     let w = c in
     let e = w in
     let f = one_left (goal.at.returns c).Joined-left-ge10 in
-    let whole = take_all (20 - e.if-left-ge10.i) (drop e.if-left-ge10.i (set e.if-left-ge10.digits e.if-left-ge10.i (48 + e.if-left-ge10.left)))
+    let whole = take_all (20 - e.if-left-ge10.i)
+    (drop e.if-left-ge10.i (set e.if-left-ge10.digits e.if-left-ge10.i (48 + e.if-left-ge10.left)))
     (simp (length-drop, length-set) (omega (arith, f.0))) in
     rw (first-digit f.0 f.1 ∙ sym whole) w.bytes.ensures
