@@ -86,10 +86,10 @@ module _ (root s index : List ℕ) (tag : ℕ) (name l l' : Str) (r : Fit) where
       → PartsPut root s index tag (field_is.Slot sl) name GetterReader l' r
       → FieldPut root s index tag (field_is.Slot sl) l l' r
   unfolding field_text
-  slot-unit sl named fits put ns x at tag_is is few =
+  slot-unit sl named fits put ns x at tag-is is few =
       let (i, parts) = go at.1.arm is in (
         fits_unit 5 l name r (omega arith) (rw i few) fits,
-        rw parts (put ns x at (record { tag_is = tag_is; field_is = is; name-is = i })),
+        rw parts (put ns x at (record { tag-is = tag-is; field_is = is; name-is = i })),
       )
     where
       go : (arm : Arm) → SlotIn s sl at.1.name at.1.discriminant arm
@@ -104,10 +104,10 @@ module _ (root s index : List ℕ) (tag : ℕ) (name l l' : Str) (r : Fit) where
       → PartsPut root s index tag (field_is.Group g) name Zero l' r
       → FieldPut root s index tag (field_is.Group g) l l' r
   unfolding field_text
-  group-unit g named fits put ns x at tag_is is few =
+  group-unit g named fits put ns x at tag-is is few =
       let (i, parts) = go at.1.arm is in (
         fits_unit 1 l name r (omega arith) (rw i few) fits,
-        rw parts (put ns x at (record { tag_is = tag_is; field_is = is; name-is = i })),
+        rw parts (put ns x at (record { tag-is = tag-is; field_is = is; name-is = i })),
       )
     where
       go : (arm : Arm) → GroupIn s g at.1.name at.1.discriminant arm

@@ -279,7 +279,7 @@ module _ (s index : List ℕ) (place : Place) (l₀ : Str) where
     filled-end e = record {
       gives = so_far.gives;
       fewer = so_far.fewer;
-      some_bytes = λ more room text left. absurd (more e);
+      some-bytes = λ more room text left. absurd (more e);
     }
 
     -- the next unit does not fit
@@ -289,7 +289,7 @@ module _ (s index : List ℕ) (place : Place) (l₀ : Str) where
     filled-short l' after turn = record {
       gives = rw (before-kept l l' n so_far.within) so_far.gives;
       fewer = so_far.fewer;
-      some_bytes = λ more room text left.
+      some-bytes = λ more room text left.
           let f = so_far.gives.goes text left in
           let short : length (lent l n) < unit_most = turn f.rest f.left in
           omega (arith, short, room, so_far.size, lent_length l n);
@@ -329,7 +329,7 @@ module _ (s index : List ℕ) (place : Place) (l l' : Str) (r : Piece) (here : R
     λ room.
         at-end r.next
         (λ more.
-        let some = filled.some_bytes more (omega (arith, e, room)) here.rest here.left in
+        let some = filled.some-bytes more (omega (arith, e, room)) here.rest here.left in
         let z : ⊥ = omega (arith, some, empty) in
         absurd z),
   )

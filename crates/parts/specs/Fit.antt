@@ -55,7 +55,7 @@ parts_after Nothing = []
 
 -- a field that was read and its name, against a node and its field in the tree
 pub record Named (s : Str) (tag : ℕ) (field : Field) (name : Str) (at : Node × tree.Field) : Type 0 where
-  pub tag_is : at.0.tag_offset ≡ tag
+  pub tag-is : at.0.tag_offset ≡ tag
   pub field_is : FieldIs s field at.1
   pub name-is : name ≡ at.1.name
 

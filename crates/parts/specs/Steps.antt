@@ -39,7 +39,7 @@ Turns s index place l l' Short next = (text : Str) → Left s index place text �
 pub record Filled (s index : List ℕ) (place : Place) (l l' : Str) (r : Piece) : Type 0 where
   pub gives : Gives s index place (take r.n l') r.next
   pub fewer : 0 < r.n → most_left s r.next < most_left s place
-  pub some_bytes : (r.next ≡ End → ⊥) → unit_most ≤ length l → (text : Str) → Left s index place text → 0 < r.n
+  pub some-bytes : (r.next ≡ End → ⊥) → unit_most ≤ length l → (text : Str) → Left s index place text → 0 < r.n
 
 -- a place of the sheet s: what is printed of s is something, and then what is left at the place
 pub record Reached (s index : List ℕ) (place : Place) : Type 0 where

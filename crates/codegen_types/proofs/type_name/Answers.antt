@@ -13,5 +13,4 @@ slice_bounds-bytes-end-2 c =
 
 pub returns : goal.returns
 returns c =
-    let c2 = c in let c1 = c2 in
-    rw c1.primitive-name.ensures.bytes at c2.bytes.ensures
+    rw c.primitive-name.ensures.bytes at c.bytes.ensures

@@ -22,8 +22,8 @@ returns-in-Number c =
     record {
       within = done.within;
       fits = done.fits;
-      said = λ ns x at tag_is is.
-          rw (← said-number _ _ _ c.in-Number.is (c.early_refusal-early.ensures ns x at tag_is is)) done.said;
+      said = λ ns x at tag-is is.
+          rw (← said-number _ _ _ c.in-Number.is (c.early_refusal-early.ensures ns x at tag-is is)) done.said;
     }
 
 pub returns-in-Number-refusal : goal.returns-in-Number-refusal
@@ -35,9 +35,9 @@ returns-in-Number-refusal c =
     record {
       within = done.within;
       fits = fits-same 65536 a.buf.now after c.refused-in-Number-refusal.result same done.fits;
-      said = λ ns x at tag_is is.
+      said = λ ns x at tag-is is.
           let o = accessor_text (sheet_of a.root.now ns) at (accessor_of a.job.part) in
-          let w = c.write_text-written.ensures ns x at tag_is is in
+          let w = c.write_text-written.ensures ns x at tag-is is in
           rw (← refused-part refl o _ w c.in-Number-refusal.is) done.said;
     }
 
@@ -50,9 +50,9 @@ returns-then-fill-gt-TEXT_SIZE c =
     record {
       within = done.within;
       fits = fits-same 65536 a.buf.now after c.refused-then-fill-gt-TEXT_SIZE.result same done.fits;
-      said = λ ns x at tag_is is.
+      said = λ ns x at tag-is is.
           let o = accessor_text (sheet_of a.root.now ns) at (accessor_of a.job.part) in
-          let w = c.write_text-written.ensures ns x at tag_is is in
+          let w = c.write_text-written.ensures ns x at tag-is is in
           let none = c.in_default-refusal.is in
           rw (← long-part refl o w none (omega (arith, c.fill.ensures, c.if-fill-gt-TEXT_SIZE.true))) done.said;
     }
@@ -68,9 +68,9 @@ returns c =
       fits =
           fits-same 65536 a.buf.now after c.taken.result same
           (taken-most _ after _ 65536 (omega (arith, c.fill.ensures, c.if-fill-gt-TEXT_SIZE.false)) i);
-      said = λ ns x at tag_is is.
+      said = λ ns x at tag-is is.
           let o = accessor_text (sheet_of a.root.now ns) at (accessor_of a.job.part) in
-          let w = c.write_text-written.ensures ns x at tag_is is in
+          let w = c.write_text-written.ensures ns x at tag-is is in
           whole_part refl o _ w c.in_default-refusal.is (room (goal.at.returns c).Start)
           (omega (arith, c.fill.ensures, c.if-fill-gt-TEXT_SIZE.false)) i;
     }

@@ -55,7 +55,7 @@ returns-in-Whole c =
       fits = omega (arith, under.fits, long, few);
       said = λ ns x at named.
           part-whole (sheet_of a.root.now ns) at a.job.part a.name.now l l' n _ named.name-is within under.within there
-          (under.said ns x at named.tag_is named.field_is);
+          (under.said ns x at named.tag-is named.field_is);
     }
 
 pub returns-in-Short : goal.returns-in-Short

@@ -3,5 +3,5 @@ use Rattle.parts.proofs.write_text.Goals as goal
 
 pub returns : goal.returns
 returns c =
-    λ ns x at tag_is is. rw (c.asked-accessor.ensures, c.at-t.ensures) at
-    (c.field_accessor.ensures.text ns x at tag_is is)
+    λ ns x at tag-is is. rw (c.asked-accessor.ensures, c.at-t.ensures) at
+    (c.field_accessor.ensures.text ns x at tag-is is)

@@ -8,14 +8,12 @@ use Rattle.programs.proofs.number.Goals as goal
 
 pub overflow_add-n : goal.overflow_add-n
 overflow_add-n c =
-    let turn = c in
-    omega (arith, digit-most (get_or turn.args.digits.now turn.loop-i.i 0))
+    omega (arith, digit-most (get_or c.args.digits.now c.loop-i.i 0))
 
 pub loop-i-preserved : goal.loop-i-preserved
 loop-i-preserved c =
-    let turn = c in
-    let l = turn.loop-i in
-    number-on turn.args.digits.now l.i l.n c.digit.result turn.loop-i-test.true
+    let l = c.loop-i in
+    number-on c.args.digits.now l.i l.n c.digit.result c.loop-i-test.true
     c.digit.ensures
     ∙ l.invariant
 

@@ -14,14 +14,13 @@ loop-i-init c =
 
 pub loop-i-preserved : goal.loop-i-preserved
 loop-i-preserved c =
-    let k = c in
-    let i = k.loop-i.i in
-    let a = k.args.at in
-    let n = k.args.n in
+    let i = c.loop-i.i in
+    let a = c.args.at in
+    let n = c.args.n in
     let e : suc (a + i) ≡ a + (i + 1) = omega arith in
     let f : suc (n - (i + 1)) ≡ n - i = omega arith in
-    let kept = length-set k.loop-i.section (a + i) (k.loop-i.left % 256) in
-    (omega arith, rw kept k.loop-i.invariant.1, kept ∙ k.loop-i.invariant.2, rw (← e) (rw (← f) at k.loop-i.invariant.3))
+    let kept = length-set c.loop-i.section (a + i) (c.loop-i.left % 256) in
+    (omega arith, rw kept c.loop-i.invariant.1, kept ∙ c.loop-i.invariant.2, rw (← e) (rw (← f) at c.loop-i.invariant.3))
 
 pub returns : goal.returns
 returns c =

@@ -27,11 +27,10 @@ loop-i-init c = (omega arith, search rules, refl)
 
 pub returns-then-a-i : goal.returns-then-a-i
 returns-then-a-i c =
-    let a = c in
-    let h = a.loop-i-test.true in
-    let i = a.loop-i.i in
-    let d = a.args in
-    rw (turn d.a.now d.b.now i h (omega arith), ne_eqb _ _ c.if-a-i.true) at a.loop-i.invariant.2
+    let h = c.loop-i-test.true in
+    let i = c.loop-i.i in
+    let d = c.args in
+    rw (turn d.a.now d.b.now i h (omega arith), ne_eqb _ _ c.if-a-i.true) at c.loop-i.invariant.2
 
 pub overflow_add-i : goal.overflow_add-i
 overflow_add-i c = omega arith
@@ -41,14 +40,13 @@ loop-i-smaller c = omega arith
 
 pub loop-i-preserved : goal.loop-i-preserved
 loop-i-preserved c =
-    let a = c in
-    let h = a.loop-i-test.true in
-    let i = a.loop-i.i in
-    let d = a.args in (
+    let h = c.loop-i-test.true in
+    let i = c.loop-i.i in
+    let d = c.args in (
       omega arith,
       search rules,
       rw (turn d.a.now d.b.now i h (omega arith), eq-eqb _ _ c.if-a-i.false) at
-          a.loop-i.invariant.2,
+          c.loop-i.invariant.2,
     )
 
 pub returns : goal.returns

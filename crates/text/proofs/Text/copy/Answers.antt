@@ -15,13 +15,12 @@ loop-i-init c = (omega arith, refl, rw add-zero left-all)
 
 pub loop-i-preserved : goal.loop-i-preserved
 loop-i-preserved c =
-    let d = c in
-    let l = d.loop-i in
-    let at = d.args.self.at in (
+    let l = c.loop-i in
+    let at = c.args.self.at in (
       omega arith,
       simp length-set (omega arith),
       rw (← add_assoc)
-          (left-more (rw (drop-unit _ _ d.loop-i-test.true) at l.invariant.2)
+          (left-more (rw (drop-unit _ _ c.loop-i-test.true) at l.invariant.2)
           (stored l.buf (state_at (at + l.i)) _ (omega arith))),
     )
 

@@ -7,13 +7,12 @@ use Rattle.text.proofs.Laws.{left-all, left-more, left-none, drop-unit}
 use Rattle.text.proofs.Text.each.Goals as goal
 
 pub loop-i-preserved : goal.loop-i-preserved
-loop-i-preserved c =
-    let a = c in (
-      omega arith,
-      omega arith,
-      left-more (rw (drop-unit _ _ a.loop-i-test.true) at a.loop-i.invariant.2)
-          c.byte-t.ensures,
-    )
+loop-i-preserved c = (
+  omega arith,
+  omega arith,
+  left-more (rw (drop-unit _ _ c.loop-i-test.true) at c.loop-i.invariant.2)
+      c.byte-t.ensures,
+)
 
 pub returns : goal.returns
 returns c =

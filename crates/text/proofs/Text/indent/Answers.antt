@@ -7,12 +7,11 @@ use Rattle.text.proofs.LinesLaws.{spaces-step}
 use Rattle.text.proofs.Text.indent.Goals as goal
 
 pub loop-left-preserved : goal.loop-left-preserved
-loop-left-preserved c =
-    let a = c in (
-      omega arith,
-      left-more (rw (spaces-step a.loop-left.left a.loop-left-test.true) at a.loop-left.invariant.1)
-          c.bytes-t.ensures,
-    )
+loop-left-preserved c = (
+  omega arith,
+  left-more (rw (spaces-step c.loop-left.left c.loop-left-test.true) at c.loop-left.invariant.1)
+      c.bytes-t.ensures,
+)
 
 pub returns : goal.returns
 returns c =

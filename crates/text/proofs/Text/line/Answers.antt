@@ -6,7 +6,4 @@ use Rattle.text.proofs.Text.line.Goals as goal
 pub returns : goal.returns
 unfolding to_lines ended
 returns c =
-    let c3 = c in
-    let c2 = c3 in
-    let c1 = c2 in
-    c1.indent-t.ensures ⨾ c2.bytes-t.ensures ⨾ c3.byte.ensures
+    c.indent-t.ensures ⨾ c.bytes-t.ensures ⨾ c.byte.ensures

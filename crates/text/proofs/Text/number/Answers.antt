@@ -62,10 +62,8 @@ slice_bounds-bytes-end c = simp length-set (omega (arith, (one_left (goal.at.sli
 
 pub returns : goal.returns
 returns c =
-    let w = c in
-    let e = w in
     let f = one_left (goal.at.returns c).Joined-left-ge10 in
-    let whole = take_all (20 - e.if-left-ge10.i)
-    (drop e.if-left-ge10.i (set e.if-left-ge10.digits e.if-left-ge10.i (48 + e.if-left-ge10.left)))
+    let whole = take_all (20 - c.if-left-ge10.i)
+    (drop c.if-left-ge10.i (set c.if-left-ge10.digits c.if-left-ge10.i (48 + c.if-left-ge10.left)))
     (simp (length-drop, length-set) (omega (arith, f.0))) in
-    rw (first-digit f.0 f.1 ∙ sym whole) w.bytes.ensures
+    rw (first-digit f.0 f.1 ∙ sym whole) c.bytes.ensures

@@ -15,21 +15,12 @@ past h n l = omega arith
 
 pub returns-then-n-half : goal.returns-then-n-half
 returns-then-n-half c =
-    let c2 = c in
-    let c1 = c2 in
-    rw (signed_low _ _ c1.if-n-half.true) c2.number.ensures
+    rw (signed_low _ _ c.if-n-half.true) c.number.ensures
 
 pub returns-then-n-half-2 : goal.returns-then-n-half-2
 returns-then-n-half-2 c =
-    let c3 = c in
-    let c2 = c3 in
-    let c1 = c2 in
-    rw (signed_high _ _ c1.if-n-half.false, ← turned _ _ c1.if-n-half.false) (c2.byte-t.ensures ⨾ c3.number-then-n-half-2.ensures)
+    rw (signed_high _ _ c.if-n-half.false, ← turned _ _ c.if-n-half.false) (c.byte-t.ensures ⨾ c.number-then-n-half-2.ensures)
 
 pub returns : goal.returns
 returns c =
-    let c4 = c in
-    let c3 = c4 in
-    let c2 = c3 in
-    let c1 = c2 in
-    rw (signed_high _ _ c1.if-n-half.false, ← past _ _ c3.if-n-half-2.false) (c2.byte-t.ensures ⨾ c4.number-2.ensures)
+    rw (signed_high _ _ c.if-n-half.false, ← past _ _ c.if-n-half-2.false) (c.byte-t.ensures ⨾ c.number-2.ensures)
