@@ -246,7 +246,7 @@ fn print_small(rt: &HostRuntime, s: &[u8], index: &[u64], start: Place) -> Came
 // The same over a buffer that holds any unit, from a place where something is left.
 fn print_large(rt: &HostRuntime, s: &[u8], index: &[u64], start: Place) -> Came
     requires reached { Reached s.now index.now start }
-    requires fact { start ≡ End → ⊥ }
+    requires more { start ≡ End → ⊥ }
     ensures { Comes s.now index.now unit_most result }
 {
     let mut out = [0u8; UNIT_SIZE];

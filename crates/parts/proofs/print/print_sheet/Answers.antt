@@ -11,5 +11,5 @@ print_large-requires c =
     let came = rw c.in-To.is at c.print_small.ensures in
     record {
       reached = came.0;
-      fact = c.in_default-next.not-End;
+      more = c.in_default-next.not-End;
     }
