@@ -2,7 +2,7 @@
 -- conditions follow from the sheet being admitted and the default being of the slot's kind. Assumes nothing.
 use Rattle.std.specs.Prelude.{◌≡◌, ℕ, ◌^◌, ◌<◌, ◌≤◌, Bool, true, false, eqb}
 use mathlib.Core.Path.{sym, ap, ◌∙◌}
-use mathlib.Core.Option.{none, some}
+use Rattle.std.specs.Prelude.{None, Some}
 use native.Mathlib.Omega.{arith}
 use Rattle.text.specs.Bytes.{Str, cond, either}
 use Rattle.row.specs.Line.{most_bits}
@@ -23,11 +23,11 @@ use Rattle.agreement.proofs.SetterLaws.{setter-given}
 use Rattle.agreement.proofs.SheetLaws.{bounds}
 
 -- a default of the slot's kind has the slot's width
-default-fits : (d n : ℕ) (k : Kind) → kind_of n ≡ some k → d ≤ most_bits n → d < 2 ^ slot_bits k
+default-fits : (d n : ℕ) (k : Kind) → kind_of n ≡ Some k → d ≤ most_bits n → d < 2 ^ slot_bits k
 default-fits d n k h b = omega (arith, most-bits n k h)
 
 -- so both masks have it
-fits-unless : (k : Kind) (d : ℕ) (t : Bool) → d < 2 ^ slot_bits k → MaskFits k (cond t none (some d))
+fits-unless : (k : Kind) (d : ℕ) (t : Bool) → d < 2 ^ slot_bits k → MaskFits k (cond t None (Some d))
 fits-unless k d true h = tt
 fits-unless k d false h = h
 
@@ -47,7 +47,7 @@ set-fits enum d false h = tt
 tag_fits : (to d : ℕ) → d < 2 ^ 16 → TagFits (tag_of to d)
 tag_fits to d h = go (eqb d 65535)
   where
-    go : (t : Bool) → TagFits (cond t none (some (to, d)))
+    go : (t : Bool) → TagFits (cond t None (Some (to, d)))
     go true = tt
     go false = h
 
@@ -55,14 +55,14 @@ pub tag_fits-at : {s : Str} {id place : ℕ} (a : SlotAt s id place) → TagFits
 tag_fits-at a = tag_fits a.node.tag_offset a.field.discriminant (bounds a).discriminant
 
 -- a slot of kind k
-module _ {s : Str} {id place : ℕ} (a : SlotAt s id place) (k : Kind) (h : kind_of (slot_kind a) ≡ some k) where
+module _ {s : Str} {id place : ℕ} (a : SlotAt s id place) (k : Kind) (h : kind_of (slot_kind a) ≡ Some k) where
   -- a default of the slot's own kind has its width
   pub own_fits : OwnDefault a → a.slot.default.bits < 2 ^ slot_bits k
   own_fits own = default-fits a.slot.default.bits a.slot.default.kind k (rw (← own) at h) (bounds a).bits
 
   -- what the text of a getter's request answers
   pub get-alone : (is_reader is_fn : Bool) (g : Str) → getter_request a.tree a.field.name a.slot is_reader is_fn ≡ ok g
-      → (r : Record) → run_getter g r ≡ some (get (place_at a k) a.slot.default.bits r)
+      → (r : Record) → run_getter g r ≡ Some (get (place_at a k) a.slot.default.bits r)
   get-alone is_reader is_fn g is r =
       let d = a.slot.default.bits in
       let e = is_explicit a.slot in
@@ -70,7 +70,7 @@ module _ {s : Str} {id place : ℕ} (a : SlotAt s id place) (k : Kind) (h : kind
       ap (λ (x : Str). run_getter x r) getter.text
       ∙ setting.get_holds getter.typ is_reader k a.slot.offset (get_mask k d e) r getter.one_line.is
       (get-fits k d e (own_fits (sym getter.same_kind)))
-      ∙ ap (λ (m : ℕ). some (get (place_at a k) m r)) (get_mask_bits k d e)
+      ∙ ap (λ (m : ℕ). Some (get (place_at a k) m r)) (get_mask_bits k d e)
 
   -- what the text of a setter's request leaves, where the default is of the slot's kind
   pub set-alone : OwnDefault a → (w : Str)

@@ -2,7 +2,7 @@
 -- Set and get follows from what a setter alone leaves and what a getter alone answers. Assumes nothing.
 use Rattle.std.specs.Prelude.{◌≡◌, ℕ, Bool}
 use mathlib.Core.Path.{refl, sym, ap, ◌∙◌}
-use mathlib.Core.Option.{Option, none, some}
+use Rattle.std.specs.Prelude.{Option, None, Some}
 use native.Mathlib.Omega.{arith}
 use lib.Bits.{bit_xor}
 use lib.Pow.{pow_pos}
@@ -85,7 +85,7 @@ default-holds s id place a k is_reader is_fn g r h x past =
     let fits = own_fits a k h (own_default-holds s id place a is_reader is_fn g x) in
     let n = slot-size k a.slot.offset in
     get_holds s id place a k is_reader is_fn g r h x
-    ∙ ap some (get-past (place_at a k) a.slot.default.bits r (rw n fits) past)
+    ∙ ap Some (get-past (place_at a k) a.slot.default.bits r (rw n fits) past)
 
 pub set_holds : SetHolds
 set_holds s id place a k w v r c =
@@ -108,13 +108,13 @@ no_meaning_holds s id place a k w is_reader is_fn g v r bits setter getter =
         let own = own_default-holds s id place a is_reader is_fn g getter in
         set_means_holds s id place a k w v r (record { has-bits = bits; own_default = own; setter = setter })
 
-    clash : (left : Record) → none ≡ some left → ⊥
+    clash : (left : Record) → None ≡ Some left → ⊥
     clash left e = let z : ◌≡◌ {A = ℕ} 0 1 = cc in omega arith
 
     go : (Holds (place_at a k) r × TagHolds (tag_at a) r → ⊥) → (o : Option Record) → run_setter w v r ≡ o
-        → run_setter w v r ≡ none
-    go past none e = e
-    go past (some left) e = absurd (past (means.1 (left, e)))
+        → run_setter w v r ≡ None
+    go past None e = e
+    go past (Some left) e = absurd (past (means.1 (left, e)))
 
 -- ---- set and get, from the two: the getter is given, so the default is of the slot's kind
 
@@ -135,9 +135,9 @@ set-get-holds s id place a k w is_reader is_fn g v r c =
       runs = run.1;
       answers =
           get_holds s id place a k is_reader is_fn g run.0 c.has-bits c.getter
-          ∙ ap some (x.reads d (rw n fits))
-          ∙ ap (λ (m : ℕ). some (bit_xor (bit_xor v (setter_mask a k)) m)) (sym (get_mask_bits k d e))
-          ∙ ap some (expected-holds k d e v);
+          ∙ ap Some (x.reads d (rw n fits))
+          ∙ ap (λ (m : ℕ). Some (bit_xor (bit_xor v (setter_mask a k)) m)) (sym (get_mask_bits k d e))
+          ∙ ap Some (expected-holds k d e v);
       same = x.same;
       tagged = x.tagged c.clear;
     }
@@ -162,9 +162,9 @@ void-set-holds s id place a w v r h x tag_long =
     }
 
 -- where the tag's line leaves a record, the tag was held
-tag_held : (tag : Option Tag) (r left : Record) → void_leaves tag r ≡ some left → TagHolds tag r
-tag_held none r left e = tt
-tag_held (some t) r left e = put-held (tag_place t.0) t.1 0 r left e
+tag_held : (tag : Option Tag) (r left : Record) → void_leaves tag r ≡ Some left → TagHolds tag r
+tag_held None r left e = tt
+tag_held (Some t) r left e = put-held (tag_place t.0) t.1 0 r left e
 
 pub void_means_holds : VoidMeansHolds
 void_means_holds s id place a w v r h x = (
@@ -193,7 +193,7 @@ tag_past-holds s id place a is_reader h r t p hs e past =
 pub haser-past-holds : HaserPastHolds
 haser-past-holds s id place a is_reader h r p hs past =
     let i : PointerOffset = record { 0 = a.slot.offset } in
-    haser-holds s id place a is_reader h r p hs ∙ ap some (meaning.has-absent (tag_at a) i r (null-past i r past))
+    haser-holds s id place a is_reader h r p hs ∙ ap Some (meaning.has-absent (tag_at a) i r (null-past i r past))
 
 pub no-haser-holds : NoHaserHolds
 no-haser-holds s id place a is_reader h p hs =

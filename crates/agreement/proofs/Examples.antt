@@ -6,7 +6,7 @@ use Rattle.std.specs.Prelude.{◌≡◌, ℕ, ◌+◌, ◌^◌, ◌<◌, true, f
 use Prim.Native.String.{String}
 use Rattle.std.specs.Prelude.{refl}
 use Rattle.std.proofs.Common.{sym, ap, ◌∙◌, arith}
-use Rattle.std.proofs.Math.Option.{Option, none, some}
+use Rattle.std.specs.Prelude.{Option, None, Some}
 use Rattle.text.specs.Bytes.{Str, ascii, unit, same}
 use Rattle.text.specs.Answer as text
 use Rattle.text.specs.Decimal.{decimal, signed}
@@ -253,9 +253,9 @@ pub record Worked (x : Example) : Type 0 where
   pub at : SlotAt bytes 7 x.place
   pub case : Case at x.kind x.setter true false x.getter x.writes some16
   pub reads : expected_at at x.kind x.writes ≡ x.reads
-  pub runs : bind_o (run_setter x.setter x.writes some16) (run_getter x.getter) ≡ some x.reads
+  pub runs : bind_o (run_setter x.setter x.writes some16) (run_getter x.getter) ≡ Some x.reads
   pub past : Holds (place_at at x.kind) no_bytes → ⊥
-  pub default : run_getter x.getter no_bytes ≡ some x.slot.default.bits
+  pub default : run_getter x.getter no_bytes ≡ Some x.slot.default.bits
 
 -- each of some examples is worked
 pub data All : List Example → Type 0 where
@@ -268,15 +268,15 @@ module _ (x : Example) (e : field_at tree.nodes 7 x.place ≡ ok (bed, x.field))
   here = slot_at x.place x.field x.slot e h
 
   abbrev worked :
-      kind_of (slot_kind here) ≡ some x.kind
+      kind_of (slot_kind here) ≡ Some x.kind
       → requests.request_text tree 7 (of_field x.place Setter) ≡ ok x.setter
       → requests.request_text tree 7 (of_field x.place (Getter true false)) ≡ ok x.getter
       → PutAround x.setter → PutAround x.getter
       → x.writes < 2 ^ slot_bits x.kind → Holds (place_at here x.kind) some16 → TagHolds (tag_at here) some16
       → TagClear (tag_at here) (place_at here x.kind)
       → expected_at here x.kind x.writes ≡ x.reads
-      → bind_o (run_setter x.setter x.writes some16) (run_getter x.getter) ≡ some x.reads
-      → (Holds (place_at here x.kind) no_bytes → ⊥) → run_getter x.getter no_bytes ≡ some x.slot.default.bits
+      → bind_o (run_setter x.setter x.writes some16) (run_getter x.getter) ≡ Some x.reads
+      → (Holds (place_at here x.kind) no_bytes → ⊥) → run_getter x.getter no_bytes ≡ Some x.slot.default.bits
       → Worked x
   worked k s g p q v l t c r u n d = record {
     at = here;
@@ -331,10 +331,10 @@ four_bits = record { bits = three_bits.bits ++ (true ∷ []); pointers = [] }
 -- The getter of isFree gives its bit, 1 of the four and 0 in a byte 165, exclusive or its default true; on a record that does not
 -- reach to its bit it gives the default.
 pub free-read :
-    (kind_of (slot_kind free_at) ≡ some bool) × Ran bytes 7 0 (Getter true false) (free 1).getter
-    × (run_getter (free 1).getter some16 ≡ some 1) × (get (place_at free_at bool) 1 some16 ≡ 1)
-    × (run_getter (free 1).getter four_bits ≡ some 0) × (get (place_at free_at bool) 1 four_bits ≡ 0)
-    × (run_getter (free 1).getter three_bits ≡ some 1) × (get (place_at free_at bool) 1 three_bits ≡ 1)
+    (kind_of (slot_kind free_at) ≡ Some bool) × Ran bytes 7 0 (Getter true false) (free 1).getter
+    × (run_getter (free 1).getter some16 ≡ Some 1) × (get (place_at free_at bool) 1 some16 ≡ 1)
+    × (run_getter (free 1).getter four_bits ≡ Some 0) × (get (place_at free_at bool) 1 four_bits ≡ 0)
+    × (run_getter (free 1).getter three_bits ≡ Some 1) × (get (place_at free_at bool) 1 three_bits ≡ 1)
 unfolding free_at field_at by_id nth accessor_text type_string get_bool_field getter_mask getter_text getter_request to_lines
     flat_map join stringify decimal kind_of found get_bits type_name truth get_mask_of gets gets_in run_getter text.answer_of
     text.buffer_of text.placed
@@ -356,10 +356,10 @@ nothing = record { bits = []; pointers = [] }
 -- Its two bytes are read under its default 2, reserved. Where the section holds one of them alone, that byte does not count and
 -- the default is read, as on a record with nothing in it.
 pub status-read :
-    (run_getter status_getter some16 ≡ some 42407)
-    × (Holds (place_at status_at kinds.enum) three_bytes → ⊥) × (run_getter status_getter three_bytes ≡ some 2)
+    (run_getter status_getter some16 ≡ Some 42407)
+    × (Holds (place_at status_at kinds.enum) three_bytes → ⊥) × (run_getter status_getter three_bytes ≡ Some 2)
     × (get (place_at status_at kinds.enum) 2 three_bytes ≡ 2)
-    × (Holds (place_at status_at kinds.enum) nothing → ⊥) × (run_getter status_getter nothing ≡ some 2)
+    × (Holds (place_at status_at kinds.enum) nothing → ⊥) × (run_getter status_getter nothing ≡ Some 2)
 unfolding status_at found get_bits type_name truth get_mask_of gets gets_in run_getter
 status-read = (refl, (λ h. omega arith), refl, refl, (λ h. omega arith), refl)
 
@@ -397,8 +397,8 @@ one_byte = record { bits = section_bits (165 ∷ []); pointers = [] }
 
 -- its setter leaves that, and on one byte it has no meaning
 pub nights-set :
-    (run_setter member.setter 9 some16 ≡ some nine) × (leaves some16 ≡ some nine) × Holds (place_at nights_at uint8) one_byte
-    × (run_setter member.setter 9 one_byte ≡ none) × (leaves one_byte ≡ none)
+    (run_setter member.setter 9 some16 ≡ Some nine) × (leaves some16 ≡ Some nine) × Holds (place_at nights_at uint8) one_byte
+    × (run_setter member.setter 9 one_byte ≡ None) × (leaves one_byte ≡ None)
 unfolding nights_at found stored get_bits put_bits type_name truth set_mask_of data_arg bool_arg writes run_op run_line
     run_lines run_setter
 nights-set = (refl, refl, omega arith, refl, refl)
@@ -410,7 +410,7 @@ odd_setter = setter_with "odd(&mut self, value: bool" "    self.builder.set_bool
 
 pub odd-worked :
     (outcome_of (admitted bytes) 7 (of_field 7 (Getter true false)) ≡ refuses 10 0 0) × Ran bytes 7 7 Setter odd_setter
-    × (run_setter odd_setter 1 some16 ≡ none)
+    × (run_setter odd_setter 1 some16 ≡ None)
 unfolding field_at by_id nth accessor_text are_chars taken snake_from camel_to_snake_case type_string getter_text getter_request
     set_bool_field prim_default generate_setter setter_request to_lines flat_map join stringify decimal signed type_name truth
     set_mask_of data_arg bool_arg writes run_op run_line run_lines run_setter text.answer_of text.buffer_of text.placed
@@ -434,9 +434,9 @@ tag_two = record { bits = section_bits (replicate 8 165 ++ (2 ∷ 0 ∷ replicat
 -- its setter leaves that; on a record without its tag it has no meaning
 pub vacant-worked :
     (slot_kind vacant_at ≡ 0) × Ran bytes 7 6 Setter vacant_setter
-    × TagHolds (tag_at vacant_at) some16 × (run_setter vacant_setter 0 some16 ≡ some tag_two)
-    × (void_leaves (tag_at vacant_at) some16 ≡ some tag_two)
-    × (TagHolds (tag_at vacant_at) one_byte → ⊥) × (run_setter vacant_setter 0 one_byte ≡ none)
+    × TagHolds (tag_at vacant_at) some16 × (run_setter vacant_setter 0 some16 ≡ Some tag_two)
+    × (void_leaves (tag_at vacant_at) some16 ≡ Some tag_two)
+    × (TagHolds (tag_at vacant_at) one_byte → ⊥) × (run_setter vacant_setter 0 one_byte ≡ None)
 unfolding vacant_at field_at by_id nth accessor_text are_chars taken snake_from camel_to_snake_case set_data_field
     generate_setter setter_request to_lines flat_map join stringify decimal stored put_bits type_name truth data_arg bool_arg
     writes run_op run_line run_lines run_setter text.answer_of text.buffer_of text.placed
@@ -461,9 +461,9 @@ guest_at = slot_at 5 (named_field "guest" 42405 (slot guest)) guest refl refl
 -- past the bytes is 0, so another.
 pub guest-worked :
     (is_pointer guest_at.slot.ty ≡ true) × Ran bytes 7 5 (Haser true) guest_haser
-    × (run_haser guest_haser some16 ≡ some true)
-    × (HoldsPointer (record { 0 = guest_at.slot.offset }) no_pointers → ⊥) × (run_haser guest_haser no_pointers ≡ some false)
-    × (TagHolds (tag_at guest_at) no_bytes → ⊥) × (run_haser guest_haser no_bytes ≡ some false)
+    × (run_haser guest_haser some16 ≡ Some true)
+    × (HoldsPointer (record { 0 = guest_at.slot.offset }) no_pointers → ⊥) × (run_haser guest_haser no_pointers ≡ Some false)
+    × (TagHolds (tag_at guest_at) no_bytes → ⊥) × (run_haser guest_haser no_bytes ≡ Some false)
 unfolding guest_at field_at by_id nth accessor_text are_chars taken snake_from camel_to_snake_case not_null tag_test
     generate_haser haser_request to_lines flat_map join stringify decimal found get_bits null_flag type_name tests tests_of
     run_tests run_haser text.answer_of text.buffer_of text.placed
@@ -482,9 +482,9 @@ visitor_at = slot_at 8 (named_field "visitor" 0 (slot visitor)) visitor refl ref
 -- decides, and past the pointers it is null.
 pub visitor-worked :
     (is_pointer visitor_at.slot.ty ≡ true) × Ran bytes 7 8 (Haser true) visitor_haser
-    × (run_haser visitor_haser some16 ≡ some false)
-    × (TagHolds (tag_at visitor_at) no_bytes → ⊥) × (run_haser visitor_haser no_bytes ≡ some true)
-    × (run_haser visitor_haser three_bytes ≡ some false)
+    × (run_haser visitor_haser some16 ≡ Some false)
+    × (TagHolds (tag_at visitor_at) no_bytes → ⊥) × (run_haser visitor_haser no_bytes ≡ Some true)
+    × (run_haser visitor_haser three_bytes ≡ Some false)
 unfolding visitor_at field_at by_id nth accessor_text are_chars taken snake_from camel_to_snake_case not_null tag_test
     generate_haser haser_request to_lines flat_map join stringify decimal found get_bits null_flag type_name tests tests_of
     run_tests run_haser text.answer_of text.buffer_of text.placed

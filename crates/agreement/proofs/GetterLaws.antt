@@ -3,7 +3,7 @@
 -- come to for each kind is computed. Assumes nothing.
 use Rattle.std.specs.Prelude.{◌≡◌, ℕ, Bool, true, false, eqb, List, [], ◌++◌}
 use mathlib.Core.Path.{refl, sym, ap, ◌∙◌}
-use mathlib.Core.Option.{Option, some}
+use Rattle.std.specs.Prelude.{Option, Some}
 use mathlib.Core.List.{append-nil}
 use Prim.Native.String.{String}
 use borrow.Author.Tests.{eqb-true}
@@ -123,7 +123,7 @@ slot_of o e p d ws t = record { offset = o; explicit = e; option = p; ty = t; de
 
 -- the get of a type that is a kind alone
 module _ (root name : Str) (o e p : ℕ) (d : Value) (ws : List ℕ) (is_reader is_fn : Bool) (leaf : Leaf) where
-  plain-line : (n : ℕ) (k : Kind) → kind_of n ≡ some k
+  plain-line : (n : ℕ) (k : Kind) → kind_of n ≡ Some k
       → fragment_of root name (slot_of o e p d ws (plain n)) is_reader is_fn (plain_string root leaf n)
       ≡ get_line is_reader k o (getter_mask d)
   plain-line =
@@ -156,7 +156,7 @@ module _ (sheet : Sheet) (clean : Clean sheet) where
   said t r w e = rw (← ok-is e) w
 
   -- that of a type that is a kind alone
-  plain-result : (leaf : Leaf) (n : ℕ) (k : Kind) → kind_of n ≡ some k
+  plain-result : (leaf : Leaf) (n : ℕ) (k : Kind) → kind_of n ≡ Some k
       → (r : Str) → result_type sheet (plain n) (plain_string sheet.root leaf n) ≡ ok r → Whole r
   plain-result leaf =
       let at : (t : String) → whole (ascii t) ≡ true → (r : Str) → ok (ascii t) ≡ ok r → Whole r =
@@ -189,7 +189,7 @@ module _ (sheet : Sheet) (clean : Clean sheet) (name : Str) (is_reader is_fn : B
     line : fragment_of sheet.root name s is_reader is_fn inner ≡ get_line is_reader k s.offset (getter_mask s.default)
     result : (r : Str) → result_type sheet s.ty inner ≡ ok r → Whole r
 
-  typed : (o e p : ℕ) (d : Value) (ws : List ℕ) (t : Ty) (inner : Str) → kind_of (kind t) ≡ some k
+  typed : (o e p : ℕ) (d : Value) (ws : List ℕ) (t : Ty) (inner : Str) → kind_of (kind t) ≡ Some k
       → type_string t sheet (module_leaf is_reader) ≡ ok inner → Typed (slot_of o e p d ws t) inner
   unfolding type_string kind_of
   typed o e p d ws (plain n) inner h i =
@@ -209,7 +209,7 @@ module _ (sheet : Sheet) (clean : Clean sheet) (name : Str) (is_reader is_fn : B
   typed o e p d ws (parameter id j) inner h i = no_kind k h
 
   -- the text of a getter that is given
-  pub getter-given : (s : Slot) (explicit : Bool) (g : Str) → kind_of (kind s.ty) ≡ some k
+  pub getter-given : (s : Slot) (explicit : Bool) (g : Str) → kind_of (kind s.ty) ≡ Some k
       → getter_request sheet name s is_reader is_fn ≡ ok g → GivenGetter s k explicit is_reader g
   getter-given s explicit g h e =
       let st = steps sheet name s is_reader is_fn g e in

@@ -2,7 +2,7 @@
 -- is not null; for any other slot one newline. Assumes nothing.
 use Rattle.std.specs.Prelude.{◌≡◌, ℕ, Bool, true, false, eqb, ◌++◌}
 use mathlib.Core.Path.{refl}
-use mathlib.Core.Option.{none, some}
+use Rattle.std.specs.Prelude.{None, Some}
 use Rattle.text.specs.Bytes.{Str, ascii, unit, cond}
 use Rattle.text.specs.Lines.{Branch, Line, none as no_more, ◌&◌, to_lines, flat_map, stringify}
 use Rattle.text.proofs.LinesLaws.{stringify-none}
@@ -32,7 +32,7 @@ module _ (to : ℕ) (name : Str) (d : ℕ) (s : Slot) (is_reader : Bool) where
           → stringify (Branch (function opening_of
           (cond b (Line (not_null is_reader s.offset) & no_more)
           (Line (tag_test is_reader to d) & Line (not_null is_reader s.offset) & no_more)) no_more))
-          ≡ function_text opening_of (haser_body is_reader (cond b none (some (to, d))) s.offset)
+          ≡ function_text opening_of (haser_body is_reader (cond b None (Some (to, d))) s.offset)
       go true = refl
       go false = refl
 

@@ -2,7 +2,7 @@
 -- no words, and that the masks of codegen.rs are those of the record's rules. Each is computed kind by kind. Assumes nothing.
 use Rattle.std.specs.Prelude.{◌≡◌, ℕ, zero, suc, ◌+◌, ◌^◌, Bool, true, false, eqb, leb, List, [], ◌∷◌, get_or}
 use mathlib.Core.Path.{refl, ap}
-use mathlib.Core.Option.{Option, none, some}
+use Rattle.std.specs.Prelude.{Option, None, Some}
 use native.Mathlib.Omega.{arith}
 use Rattle.text.specs.Bytes.{Str, ascii, cond, both}
 use Rattle.text.proofs.BytesLaws.{both_false}
@@ -15,49 +15,49 @@ use Rattle.record.specs.Types.{int, uint, float32, float64, Kind, bool, num, enu
 use Rattle.record.specs.declared.Width.TheVariants.{One, Two, Four, Eight}
 
 -- of a kind without bits nothing is claimed
-pub no_kind : {A : Type 0} (k : Kind) → none ≡ some k → A
+pub no_kind : {A : Type 0} (k : Kind) → None ≡ Some k → A
 no_kind k e = let z : ◌≡◌ {A = ℕ} 0 1 = cc in let y : ⊥ = omega arith in absurd y
 
 -- P holds of each kind of a table and its number in it
 abbrev Each : (ℕ → Kind → Type 0) → List (Option Kind) → Type 0
 Each P [] = Unit {0}
-Each P (none ∷ ks) = Each (λ n. P (suc n)) ks
-Each P (some k ∷ ks) = P 0 k × Each (λ n. P (suc n)) ks
+Each P (None ∷ ks) = Each (λ n. P (suc n)) ks
+Each P (Some k ∷ ks) = P 0 k × Each (λ n. P (suc n)) ks
 
-each_at : (P : ℕ → Kind → Type 0) (ks : List (Option Kind)) → Each P ks → (n : ℕ) (k : Kind) → get_or ks n none ≡ some k → P n k
+each_at : (P : ℕ → Kind → Type 0) (ks : List (Option Kind)) → Each P ks → (n : ℕ) (k : Kind) → get_or ks n None ≡ Some k → P n k
 each_at P [] c n k e = no_kind k e
-each_at P (none ∷ ks) c zero k e = no_kind k e
-each_at P (none ∷ ks) c (suc n) k e = each_at (λ n. P (suc n)) ks c n k e
-each_at P (some a ∷ ks) c zero k e = let z : a ≡ k = cc in rw (← z) c.0
-each_at P (some a ∷ ks) c (suc n) k e = each_at (λ n. P (suc n)) ks c.1 n k e
+each_at P (None ∷ ks) c zero k e = no_kind k e
+each_at P (None ∷ ks) c (suc n) k e = each_at (λ n. P (suc n)) ks c n k e
+each_at P (Some a ∷ ks) c zero k e = let z : a ≡ k = cc in rw (← z) c.0
+each_at P (Some a ∷ ks) c (suc n) k e = each_at (λ n. P (suc n)) ks c.1 n k e
 
 -- what holds of each number with its kind holds of every kind with bits
 pub by_kind : (P : ℕ → Kind → Type 0)
     → P 1 bool → P 2 (num (int One)) → P 3 (num (int Two)) → P 4 (num (int Four)) → P 5 (num (int Eight))
     → P 6 (num (uint One)) → P 7 (num (uint Two)) → P 8 (num (uint Four)) → P 9 (num (uint Eight))
-    → P 10 (num float32) → P 11 (num float64) → P 15 enum → (n : ℕ) (k : Kind) → kind_of n ≡ some k → P n k
+    → P 10 (num float32) → P 11 (num float64) → P 15 enum → (n : ℕ) (k : Kind) → kind_of n ≡ Some k → P n k
 unfolding kind_of
 by_kind P a b c d e f g h i j l m =
     each_at P
-    (none ∷ some bool
-    ∷ some (num (int One)) ∷ some (num (int Two)) ∷ some (num (int Four)) ∷ some (num (int Eight))
-    ∷ some (num (uint One)) ∷ some (num (uint Two)) ∷ some (num (uint Four)) ∷ some (num (uint Eight))
-    ∷ some (num float32) ∷ some (num float64) ∷ none ∷ none ∷ none ∷ some enum ∷ [])
+    (None ∷ Some bool
+    ∷ Some (num (int One)) ∷ Some (num (int Two)) ∷ Some (num (int Four)) ∷ Some (num (int Eight))
+    ∷ Some (num (uint One)) ∷ Some (num (uint Two)) ∷ Some (num (uint Four)) ∷ Some (num (uint Eight))
+    ∷ Some (num float32) ∷ Some (num float64) ∷ None ∷ None ∷ None ∷ Some enum ∷ [])
     (a, (b, (c, (d, (e, (f, (g, (h, (i, (j, (l, (m, tt))))))))))))
 
 -- a kind with bits is no pointer's
-pub no_pointer : (n : ℕ) (k : Kind) → kind_of n ≡ some k → both (leb 12 n) (cond (eqb n 15) false true) ≡ false
+pub no_pointer : (n : ℕ) (k : Kind) → kind_of n ≡ Some k → both (leb 12 n) (cond (eqb n 15) false true) ≡ false
 no_pointer =
     by_kind (λ n k. both (leb 12 n) (cond (eqb n 15) false true) ≡ false)
     refl refl refl refl refl refl refl refl refl refl refl refl
 
 -- it has no words
-pub no_words : (explicit n : ℕ) (k : Kind) → kind_of n ≡ some k → has_words explicit n ≡ false
+pub no_words : (explicit n : ℕ) (k : Kind) → kind_of n ≡ Some k → has_words explicit n ≡ false
 no_words explicit =
     let z = both_false (eqb explicit 1) in by_kind (λ n k. has_words explicit n ≡ false) z z z z z z z z z z z z
 
 -- its values have so many bits
-pub most-bits : (n : ℕ) (k : Kind) → kind_of n ≡ some k → most_bits n + 1 ≡ 2 ^ slot_bits k
+pub most-bits : (n : ℕ) (k : Kind) → kind_of n ≡ Some k → most_bits n + 1 ≡ 2 ^ slot_bits k
 unfolding most_bits
 most-bits =
     by_kind (λ n k. most_bits n + 1 ≡ 2 ^ slot_bits k) refl refl refl refl refl refl refl refl refl refl refl refl
@@ -66,16 +66,16 @@ most-bits =
 
 -- a mask that is left out where the test holds, written
 pub masked : (f : ℕ → Str) (d : ℕ) (text : Str) (t : Bool) → (t ≡ false → text ≡ f d)
-    → unless t text ≡ map_o f (cond t none (some d))
+    → unless t text ≡ map_o f (cond t None (Some d))
 masked f d text true e = refl
-masked f d text false e = ap some (e refl)
+masked f d text false e = ap Some (e refl)
 
 -- a Bool's mask is true
 pub true_text : (d : ℕ) → eqb d 0 ≡ false → ascii "true" ≡ cond (eqb d 0) (ascii "false") (ascii "true")
 true_text d e = rw e
 
 -- the mask of a getter, for a default of the slot's kind
-pub getter_mask_lem : (d : ℕ) (explicit : Bool) (n : ℕ) (k : Kind) → kind_of n ≡ some k
+pub getter_mask_lem : (d : ℕ) (explicit : Bool) (n : ℕ) (k : Kind) → kind_of n ≡ Some k
     → getter_mask (value n d) ≡ map_o (get_mask_text k) (get_mask k d explicit)
 unfolding getter_mask get_mask_text
 getter_mask_lem d explicit =

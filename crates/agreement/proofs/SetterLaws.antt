@@ -3,7 +3,7 @@
 -- computed. Assumes nothing.
 use Rattle.std.specs.Prelude.{◌≡◌, ℕ, zero, suc, ◌^◌, ◌<◌, Bool, true, false, eqb, List, [], ◌++◌}
 use mathlib.Core.Path.{refl, sym, ap, ◌∙◌}
-use mathlib.Core.Option.{Option, none, some}
+use Rattle.std.specs.Prelude.{Option, None, Some}
 use Prim.Native.String.{String}
 use native.Mathlib.Omega.{arith}
 use borrow.Author.Tests.{eq-eqb}
@@ -46,7 +46,7 @@ module _ (sheet : Sheet) (o e q b : ℕ) (ws : List ℕ) (explicit : Bool) where
   abbrev plain_slot : ℕ → Slot
   plain_slot n = record { offset = o; explicit = e; option = q; ty = plain n; default = value n b; words = ws }
 
-  prim-sets : (n : ℕ) (k : Kind) → kind_of n ≡ some k → (p : Parts) → setter_parts sheet (plain_slot n) (plain n) ≡ ok p
+  prim-sets : (n : ℕ) (k : Kind) → kind_of n ≡ Some k → (p : Parts) → setter_parts sheet (plain_slot n) (plain n) ≡ ok p
       → Sets k o b explicit p
   unfolding prim_default type_string set_mask_text
   prim-sets =
@@ -70,11 +70,11 @@ module _ (sheet : Sheet) (o e q b : ℕ) (ws : List ℕ) (explicit : Bool) where
                 ap (λ (m : Option Str). setter_only (ascii "value") (line_alone (set_line k o m)) (ascii t)) (sym e) ∙ ok-is f;
           }
 
-      number : (k : Kind) → unless (eqb b 0) (set_mask_text k b) ≡ map_o (set_mask_text k) (cond (eqb b 0) none (some b))
+      number : (k : Kind) → unless (eqb b 0) (set_mask_text k b) ≡ map_o (set_mask_text k) (cond (eqb b 0) None (Some b))
       number k = masked (set_mask_text k) b (set_mask_text k b) (eqb b 0) (λ e. refl)
 
       float : (k : Kind) (sign : ℕ) → unless (float_zero sign b) (set_mask_text k b)
-          ≡ map_o (set_mask_text k) (cond (either (eqb b 0) (eqb b sign)) none (some b))
+          ≡ map_o (set_mask_text k) (cond (either (eqb b 0) (eqb b sign)) None (Some b))
       float k sign = masked (set_mask_text k) b (set_mask_text k b) (float_zero sign b) (λ e. refl)
 
 -- an enum's mask: its default's bits where the flag is set
@@ -84,8 +84,8 @@ unfolding set_mask_text
 enum_mask_lem s flag h = rw (eq-eqb s.default.kind 15 (sym h)) (go s.explicit flag)
   where
     go : (e : ℕ) → e < 2
-        → cond (eqb e 0) (ok none) (ok (some (decimal s.default.bits)))
-        ≡ ok (map_o (set_mask_text types.enum) (cond (eqb e 1) (some s.default.bits) none))
+        → cond (eqb e 0) (ok None) (ok (Some (decimal s.default.bits)))
+        ≡ ok (map_o (set_mask_text types.enum) (cond (eqb e 1) (Some s.default.bits) None))
     go zero h = refl
     go (suc zero) h = refl
     go (suc (suc e)) h = let z : ⊥ = omega arith in absurd z
@@ -100,7 +100,7 @@ module _ (sheet : Sheet) (clean : Clean sheet) (o e q n b : ℕ) (ws : List ℕ)
   enum-sets t the_mod w d f =
       record { typ = the_mod; one_line = w; parts = ok-is (rw (enum_mask_lem (slot_of t) flag d) at f) }
 
-  sets : (t : Ty) → kind_of (kind t) ≡ some k → kind t ≡ n → setter_parts sheet (slot_of t) t ≡ ok p → Sets k o b (eqb e 1) p
+  sets : (t : Ty) → kind_of (kind t) ≡ Some k → kind t ≡ n → setter_parts sheet (slot_of t) t ≡ ok p → Sets k o b (eqb e 1) p
   unfolding kind_of
   sets (plain m) h d f = prim-sets sheet o e q b ws (eqb e 1) m k h p (rw (← d) at f)
   sets (enum id ss) h d f =
@@ -160,7 +160,7 @@ function-lines root to d name param typ interior = go (eqb d 65535)
   where
     go : (b : Bool)
         → stringify (Branch (function (opening_of name param typ) (cond b interior (Line (set_tag to d) & interior)) no_more))
-        ≡ function_text (opening_of name param typ) (tag_then (cond b none (some (to, d))) interior)
+        ≡ function_text (opening_of name param typ) (tag_then (cond b None (Some (to, d))) interior)
     go true = refl
     go false = refl
 
@@ -177,7 +177,7 @@ module _ (sheet : Sheet) (to : ℕ) (name : Str) (d : ℕ) (s : Slot) (w : Str) 
       (p.value, p.first, ap (λ (ft : FormattedText). stringify ft) (ok-is p.rest) ∙ ok-is all.rest)
 
   -- the text of a setter that is given
-  pub setter-given : Clean sheet → (k : Kind) → Whole name → kind_of (kind s.ty) ≡ some k → kind s.ty ≡ s.default.kind
+  pub setter-given : Clean sheet → (k : Kind) → Whole name → kind_of (kind s.ty) ≡ Some k → kind s.ty ≡ s.default.kind
       → s.explicit < 2 → setter_request sheet to name d s ≡ ok w → GivenSetter s k (tag_of to d) w
   setter-given clean k named h same flag e =
       let (p, is, text) = parts-given e in

@@ -2,7 +2,7 @@
 -- formed. Assumes nothing.
 use Rattle.std.specs.Prelude.{◌≡◌, ℕ, zero, suc, ◌^◌, ◌<◌, ◌≤◌, Bool, true, false, eqb, ltb, List, [], ◌∷◌}
 use mathlib.Core.Path.{ap}
-use mathlib.Core.Option.{Option, none, some}
+use Rattle.std.specs.Prelude.{Option, None, Some}
 use borrow.Author.Tests.{ltb-true, leb-true}
 use Rattle.text.specs.Bytes.{Str, cond}
 use Rattle.text.proofs.BytesLaws.{both_true}
@@ -28,31 +28,31 @@ pub record Clean (sheet : Sheet) : Type 0 where
 
 -- ---- parts of a list that all pass a test
 
-every-nth : {A : Type 0} (test : A → Bool) (k : ℕ) (l : List A) (x : A) → nth k l ≡ some x → every test l ≡ true → test x ≡ true
+every-nth : {A : Type 0} (test : A → Bool) (k : ℕ) (l : List A) (x : A) → nth k l ≡ Some x → every test l ≡ true → test x ≡ true
 unfolding every nth
 every-nth test k [] x e h = cc
 every-nth test zero (y ∷ l) x e h =
     let z : y ≡ x = cc in rw (← z) (both_true (test y) (every test l) h).0
 every-nth test (suc k) (y ∷ l) x e h = every-nth test k l x e (both_true (test y) (every test l) h).1
 
-every-id : (test : Node → Bool) (id : ℕ) (l : List Node) (n : Node) → by_id id l ≡ some n → every test l ≡ true → test n ≡ true
+every-id : (test : Node → Bool) (id : ℕ) (l : List Node) (n : Node) → by_id id l ≡ Some n → every test l ≡ true → test n ≡ true
 unfolding every by_id
 every-id test id [] n e h = cc
 every-id test id (m ∷ l) n e h =
     let (here, more) = both_true (test m) (every test l) h in
     go (eqb m.id id) here (λ f. every-id test id l n f more) e
   where
-    go : (b : Bool) → test m ≡ true → (by_id id l ≡ some n → test n ≡ true)
-        → cond b (some m) (by_id id l) ≡ some n → test n ≡ true
+    go : (b : Bool) → test m ≡ true → (by_id id l ≡ Some n → test n ≡ true)
+        → cond b (Some m) (by_id id l) ≡ Some n → test n ≡ true
     go true here more e = let z : m ≡ n = cc in rw (← z) here
     go false here more e = more e
 
 -- what may be missing is there
-or_ok : {A : Type 0} (k : ℕ) (o : Option A) (a : A) → or_refused k o ≡ ok a → o ≡ some a
-or_ok k none a e = refused-ok e
-or_ok k (some b) a e = ap some (ok-is e)
+or_ok : {A : Type 0} (k : ℕ) (o : Option A) (a : A) → or_refused k o ≡ ok a → o ≡ Some a
+or_ok k None a e = refused-ok e
+or_ok k (Some b) a e = ap Some (ok-is e)
 
-node_by_id : (id : ℕ) (l : List Node) (n : Node) → node_of l id ≡ ok n → by_id id l ≡ some n
+node_by_id : (id : ℕ) (l : List Node) (n : Node) → node_of l id ≡ ok n → by_id id l ≡ Some n
 unfolding node_of
 node_by_id id l n e = or_ok 5 (by_id id l) n e
 

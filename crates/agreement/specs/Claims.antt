@@ -1,7 +1,7 @@
 -- What is claimed of the texts of a slot's accessors, each as a run of the entry left it: a getter alone, a setter alone, set and
 -- then get, the Void setter, hasers. `expected` (crate meaning) is v but for document 01's two exceptions. Assumes nothing.
 use Rattle.std.specs.Prelude.{◌≡◌, ℕ, ◌^◌, ◌<◌, Bool, true, false, not, ◌⊎◌, ◌==◌}
-use Rattle.std.proofs.Math.Option.{none, some}
+use Rattle.std.specs.Prelude.{None, Some}
 use Rattle.text.specs.Bytes.{Str, both, unit}
 use Rattle.text.specs.declared.Text.{Text}
 use Rattle.tree.specs.Read.{admitted}
@@ -43,15 +43,15 @@ RanHolds =
 abbrev pub GetHolds : Type 0
 GetHolds =
     (s : Str) (id place : ℕ) (a : SlotAt s id place) (k : Kind) (is_reader is_fn : Bool) (g : Str) (r : Record)
-    → kind_of (slot_kind a) ≡ some k → Ran s id place (Getter is_reader is_fn) g
-    → run_getter g r ≡ some (get (place_at a k) a.slot.default.bits r)
+    → kind_of (slot_kind a) ≡ Some k → Ran s id place (Getter is_reader is_fn) g
+    → run_getter g r ≡ Some (get (place_at a k) a.slot.default.bits r)
 
 -- exactly the default on every record whose section does not hold the slot whole
 abbrev pub DefaultHolds : Type 0
 DefaultHolds =
     (s : Str) (id place : ℕ) (a : SlotAt s id place) (k : Kind) (is_reader is_fn : Bool) (g : Str) (r : Record)
-    → kind_of (slot_kind a) ≡ some k → Ran s id place (Getter is_reader is_fn) g → (Holds (place_at a k) r → ⊥)
-    → run_getter g r ≡ some a.slot.default.bits
+    → kind_of (slot_kind a) ≡ Some k → Ran s id place (Getter is_reader is_fn) g → (Holds (place_at a k) r → ⊥)
+    → run_getter g r ≡ Some a.slot.default.bits
 
 -- a slot with a getter has a V line of its T line's kind
 abbrev pub OwnDefaultHolds : Type 0
@@ -63,7 +63,7 @@ OwnDefaultHolds =
 
 -- a Bool, numeric or enum slot whose V line is of its T line's kind, and its setter's text
 pub record SetCase {s : Str} {id place : ℕ} (a : SlotAt s id place) (k : Kind) (w : Str) : Type 0 where
-  pub has-bits : kind_of (slot_kind a) ≡ some k
+  pub has-bits : kind_of (slot_kind a) ≡ Some k
   pub own_default : OwnDefault a
   pub setter : Ran s id place Setter w
 
@@ -75,7 +75,7 @@ SetHolds =
 
 -- the text has a meaning on the record: it leaves one
 abbrev pub Means : Str → ℕ → Record → Type 0
-Means w v r = (left : Record) × (run_setter w v r ≡ some left)
+Means w v r = (left : Record) × (run_setter w v r ≡ Some left)
 
 -- it has one exactly where the section holds slot and tag whole
 abbrev pub SetMeansHolds : Type 0
@@ -89,9 +89,9 @@ SetMeansHolds =
 abbrev pub NoMeaningHolds : Type 0
 NoMeaningHolds =
     (s : Str) (id place : ℕ) (a : SlotAt s id place) (k : Kind) (w : Str) (is_reader is_fn : Bool) (g : Str) (v : ℕ) (r : Record)
-    → kind_of (slot_kind a) ≡ some k → Ran s id place Setter w → Ran s id place (Getter is_reader is_fn) g
-    → ((Holds (place_at a k) r × TagHolds (tag_at a) r → ⊥) → run_setter w v r ≡ none)
-    × (run_setter w v r ≡ none → Holds (place_at a k) r × TagHolds (tag_at a) r → ⊥)
+    → kind_of (slot_kind a) ≡ Some k → Ran s id place Setter w → Ran s id place (Getter is_reader is_fn) g
+    → ((Holds (place_at a k) r × TagHolds (tag_at a) r → ⊥) → run_setter w v r ≡ None)
+    × (run_setter w v r ≡ None → Holds (place_at a k) r × TagHolds (tag_at a) r → ⊥)
 
 -- ---- set and get
 
@@ -99,7 +99,7 @@ NoMeaningHolds =
 -- and a record that is long enough, with the slot's bits clear of its tag. Nothing is asked of what stands in the record.
 pub record Case {s : Str} {id place : ℕ} (a : SlotAt s id place) (k : Kind) (w : Str) (is_reader is_fn : Bool) (g : Str) (v : ℕ)
     (r : Record) : Type 0 where
-  pub has-bits : kind_of (slot_kind a) ≡ some k
+  pub has-bits : kind_of (slot_kind a) ≡ Some k
   pub setter : Ran s id place Setter w
   pub getter : Ran s id place (Getter is_reader is_fn) g
   pub value : v < 2 ^ slot_bits k
@@ -111,8 +111,8 @@ pub record Case {s : Str} {id place : ℕ} (a : SlotAt s id place) (k : Kind) (w
 -- bit but the slot's and the tag's changes, no pointer and no length; the tag holds the discriminant.
 pub record SetGet {s : Str} {id place : ℕ} (a : SlotAt s id place) (k : Kind) (w g : Str) (v : ℕ) (r : Record) : Type 0 where
   pub left : Record
-  pub runs : run_setter w v r ≡ some left
-  pub answers : run_getter g left ≡ some (expected_at a k v)
+  pub runs : run_setter w v r ≡ Some left
+  pub answers : run_getter g left ≡ Some (expected_at a k v)
   pub same : Same (λ b. Covers (place_at a k) b ⊎ TagHas (tag_at a) b) r left
   pub tagged : TagIs (tag_at a) left
 
@@ -141,7 +141,7 @@ VoidMeansHolds =
 -- the setter's text runs, and only the tag changes: to the discriminant
 pub record VoidSet {s : Str} {id place : ℕ} (a : SlotAt s id place) (w : Str) (v : ℕ) (r : Record) : Type 0 where
   pub left : Record
-  pub runs : run_setter w v r ≡ some left
+  pub runs : run_setter w v r ≡ Some left
   pub same : Same (TagHas (tag_at a)) r left
   pub tagged : TagIs (tag_at a) left
 
@@ -160,21 +160,21 @@ abbrev pub HaserHolds : Type 0
 HaserHolds =
     (s : Str) (id place : ℕ) (a : SlotAt s id place) (is_reader : Bool) (h : Str) (r : Record)
     → is_pointer a.slot.ty ≡ true → Ran s id place (Haser is_reader) h
-    → run_haser h r ≡ some (has_answer (tag_at a) (record { 0 = a.slot.offset }) r)
+    → run_haser h r ≡ Some (has_answer (tag_at a) (record { 0 = a.slot.offset }) r)
 
 -- a tag that is not wholly inside reads 0: the member with discriminant 0 goes on to its pointer, any other says false
 abbrev pub TagPastHolds : Type 0
 TagPastHolds =
     (s : Str) (id place : ℕ) (a : SlotAt s id place) (is_reader : Bool) (h : Str) (r : Record) (t : Tag)
-    → is_pointer a.slot.ty ≡ true → Ran s id place (Haser is_reader) h → tag_at a ≡ some t → (TagHolds (some t) r → ⊥)
-    → run_haser h r ≡ some (both (0 == t.1) (not (null (record { 0 = a.slot.offset }) r)))
+    → is_pointer a.slot.ty ≡ true → Ran s id place (Haser is_reader) h → tag_at a ≡ Some t → (TagHolds (Some t) r → ⊥)
+    → run_haser h r ≡ Some (both (0 == t.1) (not (null (record { 0 = a.slot.offset }) r)))
 
 -- false on every record that does not have the pointer
 abbrev pub HaserPastHolds : Type 0
 HaserPastHolds =
     (s : Str) (id place : ℕ) (a : SlotAt s id place) (is_reader : Bool) (h : Str) (r : Record)
     → is_pointer a.slot.ty ≡ true → Ran s id place (Haser is_reader) h → (HoldsPointer (record { 0 = a.slot.offset }) r → ⊥)
-    → run_haser h r ≡ some false
+    → run_haser h r ≡ Some false
 
 -- of any other slot: one newline
 abbrev pub NoHaserHolds : Type 0

@@ -1,6 +1,6 @@
 -- A slot of a sheet's bytes, found by the id of its node and its place, and the texts of its requests. Assumes nothing.
 use Rattle.std.specs.Prelude.{◌≡◌, ℕ, ◌-◌, Bool, take, drop, ◌==◌}
-use Rattle.std.proofs.Math.Option.{Option, none, some}
+use Rattle.std.specs.Prelude.{Option, None, Some}
 use Rattle.text.specs.Bytes.{Str, cond}
 use Rattle.text.specs.declared.Text.{Text}
 use Rattle.tree.specs.Tree as arm
@@ -37,7 +37,7 @@ pub record Ran (s : Str) (id place : ℕ) (accessor : Accessor) (w : Str) : Type
 
 -- a tag: none where the discriminant is 65535, else the 16 bits at the node's tag offset
 abbrev pub tag_of : ℕ → ℕ → Option Tag
-tag_of tag_offset discriminant = cond (discriminant == 65535) none (some (tag_offset, discriminant))
+tag_of tag_offset discriminant = cond (discriminant == 65535) None (Some (tag_offset, discriminant))
 
 -- the F line's flag
 abbrev pub is_explicit : Slot → Bool

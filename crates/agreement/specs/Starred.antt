@@ -4,7 +4,7 @@
 use Rattle.std.specs.Prelude.{◌≡◌, ℕ, true, false, List, [], ◌∷◌, ◌++◌, map}
 use Prim.Native.String.{String}
 use Rattle.std.specs.Prelude.{refl}
-use Rattle.std.proofs.Math.Option.{Option, none, some}
+use Rattle.std.specs.Prelude.{Option, None, Some}
 use Rattle.text.specs.Bytes.{Str, ascii, same}
 use Rattle.text.specs.Decimal.{decimal, signed}
 use Rattle.text.specs.Lines as lines
@@ -98,8 +98,8 @@ getter = Getter true false
 
 -- a value read, in decimal
 abbrev number : Option ℕ → Str
-number none = ascii "nothing"
-number (some v) = decimal v
+number None = ascii "nothing"
+number (Some v) = decimal v
 
 -- what is read of a value that was written
 abbrev reads : ℕ → ℕ → Str

@@ -2,7 +2,7 @@
 -- that is left say what they read there. Assumes nothing.
 use Rattle.std.specs.Prelude.{◌≡◌, ℕ, false}
 use mathlib.Core.Path.{sym, ap, ◌∙◌}
-use mathlib.Core.Option.{some}
+use Rattle.std.specs.Prelude.{Some}
 use Rattle.text.specs.Bytes.{Str}
 use Rattle.codegen_types.specs.Out.{ok}
 use Rattle.codegen.specs.Zeroing.{zeroing_request}
@@ -42,7 +42,7 @@ zeroing_holds s id place a w e r long =
           ∙ default-read c i place b k e (own_fits b k e (sym x.same_kind)) false x.typ x.one_line.is is_reader;
       absent = absent c;
       hasers = λ i place b e is_reader h is.
-          haser-holds s _ place b is_reader h (left c) e is ∙ ap some (has-absent (tag_at b) _ (left c) (absent c i place b e));
+          haser-holds s _ place b is_reader h (left c) e is ∙ ap Some (has-absent (tag_at b) _ (left c) (absent c i place b e));
       lengths = lengths c;
       bits-same = bits-same c;
       pointers-same = pointers-same c;

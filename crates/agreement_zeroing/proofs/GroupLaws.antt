@@ -4,7 +4,7 @@
 use Rattle.std.specs.Prelude.{◌≡◌, ℕ, zero, suc, Bool, true, false, eqb, ◌⊎◌, List, [], ◌∷◌, ◌++◌}
 use mathlib.Core.Path.{refl, sym, ap, ap₂, ◌∙◌}
 use mathlib.Core.Logic.{inl, inr}
-use mathlib.Core.Option.{Option, none, some}
+use Rattle.std.specs.Prelude.{Option, None, Some}
 use native.Mathlib.Omega.{arith}
 use Rattle.text.specs.Bytes.{Str, cond}
 use Rattle.text.specs.Lines.{FormattedTexts, Branch, Line, ◌&◌, to_lines, flat_map}
@@ -118,13 +118,13 @@ module _ (Due Due' : Str → Type 0) (seen seen' : List Str) where
 -- a slot: its line is new, or was seen
 covers-slot : (s : Slot) (More : Str → Type 0) (clear : Bool) (more : List Str → Out Zeroing)
     → ((seen : List Str) → CoversAfter More seen (more seen)) → (seen : List Str)
-    → CoversAfter (Both (λ l. zero_line s ≡ some l) More) seen (zero_slot seen clear (zero_line s) more)
+    → CoversAfter (Both (λ l. zero_line s ≡ Some l) More) seen (zero_slot seen clear (zero_line s) more)
 covers-slot s More clear more covered seen = by-line (zero_line s) refl
   where
     Due : Str → Type 0
-    Due l = zero_line s ≡ some l
+    Due l = zero_line s ≡ Some l
 
-    by-seen : (line : Str) → zero_line s ≡ some line → (b : Bool) → contains seen line ≡ b
+    by-seen : (line : Str) → zero_line s ≡ Some line → (b : Bool) → contains seen line ≡ b
         → CoversAfter (Both Due More) seen
         (cond b (more seen then λ z. ok (no_push clear z)) (more (line ∷ seen) then λ z. ok (push (Line line) clear z)))
     by-seen line e true f =
@@ -138,16 +138,16 @@ covers-slot s More clear more covered seen = by-line (zero_line s) refl
         (covered (line ∷ seen))
 
     by-line : (o : Option Str) → zero_line s ≡ o → CoversAfter (Both Due More) seen (zero_slot seen clear o more)
-    by-line none e =
+    by-line None e =
         covers-as More (Both Due More) seen seen
         (λ code c. covers_more Due More seen code (λ l d. let z : ◌≡◌ {A = ℕ} 0 1 = cc in let w : ⊥ = omega arith in absurd w) c)
         (more seen) (covered seen)
-    by-line (some line) e = by-seen line e (contains seen line) refl
+    by-line (Some line) e = by-seen line e (contains seen line) refl
 
 -- ---- the fields of a node, over what is due of a group inside
 
 abbrev DueOfArm : (ℕ → Str → Type 0) → Arm → Str → Type 0
-DueOfArm Due (slot s) l = zero_line s ≡ some l
+DueOfArm Due (slot s) l = zero_line s ≡ Some l
 DueOfArm Due (group id) l = Due id l
 
 abbrev DueOfFields : (ℕ → Str → Type 0) → List Field → Str → Type 0
@@ -201,7 +201,7 @@ module _ (inner : ℕ → Out Zeroing) (Due : ℕ → Str → Type 0) (covered :
 -- the line of a slot of the node with this id, or of a node inside it
 pub data Due (nodes : List Node) : ℕ → Str → Type 0 where
   of_slot : {id : ℕ} {l : Str} (n : Node) (f : Field) (s : Slot) → node_of nodes id ≡ ok n → In f n.fields → f.arm ≡ slot s
-      → zero_line s ≡ some l → Due nodes id l
+      → zero_line s ≡ Some l → Due nodes id l
   of_group : {id h : ℕ} {l : Str} (n : Node) (f : Field) → node_of nodes id ≡ ok n → In f n.fields → f.arm ≡ group h
       → Due nodes h l → Due nodes id l
 

@@ -3,7 +3,7 @@
 use Rattle.std.specs.Prelude.{◌≡◌, ℕ, zero, suc, List, [], ◌∷◌}
 use mathlib.Core.Path.{refl, ap, ◌∙◌}
 use mathlib.Core.Logic.{inl, inr}
-use mathlib.Core.Option.{Option, none, some}
+use Rattle.std.specs.Prelude.{Option, None, Some}
 use native.Mathlib.Omega.{arith}
 use Rattle.text.specs.Bytes.{Str}
 use Rattle.tree.specs.Tree.{Field, Node, Sheet}
@@ -20,11 +20,11 @@ use Rattle.agreement_zeroing.proofs.GroupLaws.{Due, of_slot, of_group}
 
 -- ---- a field that is found is one of the node's
 
-node-found : (nodes : List Node) (id : ℕ) (n : Node) → by_id id nodes ≡ some n → node_of nodes id ≡ ok n
+node-found : (nodes : List Node) (id : ℕ) (n : Node) → by_id id nodes ≡ Some n → node_of nodes id ≡ ok n
 unfolding node_of
 node-found nodes id n e = rw e
 
-nth_in : (fs : List Field) (place : ℕ) (f : Field) → nth place fs ≡ some f → In f fs
+nth_in : (fs : List Field) (place : ℕ) (f : Field) → nth place fs ≡ Some f → In f fs
 unfolding nth
 nth_in [] place f e = let z : ◌≡◌ {A = ℕ} 0 1 = cc in omega arith
 nth_in (g ∷ fs) zero f e = inl cc
@@ -35,21 +35,21 @@ found_in : (nodes : List Node) (id place : ℕ) (n : Node) (f : Field) → field
 unfolding field_at
 found_in nodes id place n f e = by-node (by_id id nodes) refl e
   where
-    by_field : (m : Node) → by_id id nodes ≡ some m → (o : Option Field) → nth place m.fields ≡ o
+    by_field : (m : Node) → by_id id nodes ≡ Some m → (o : Option Field) → nth place m.fields ≡ o
         → ◌then◌ {B = Node × Field} (there o) (λ g. ok (m, g)) ≡ ok (n, f) → (node_of nodes id ≡ ok n) × In f n.fields
-    by_field m h none k e = let z : ◌≡◌ {A = ℕ} 0 1 = cc in absurd (omega arith)
-    by_field m h (some g) k e =
+    by_field m h None k e = let z : ◌≡◌ {A = ℕ} 0 1 = cc in absurd (omega arith)
+    by_field m h (Some g) k e =
         let p : ◌≡◌ {A = Node × Field} (m, g) (n, f) = cc in
         let q : m ≡ n = ap (λ (x : Node × Field). x.0) p in
         let t : g ≡ f = ap (λ (x : Node × Field). x.1) p in
-        (node-found nodes id n (rw q at h), rw q at (nth_in m.fields place f (k ∙ ap some t)))
+        (node-found nodes id n (rw q at h), rw q at (nth_in m.fields place f (k ∙ ap Some t)))
 
     by-node : (o : Option Node) → by_id id nodes ≡ o
         → ◌then◌ {B = Node × Field} (there o) (λ m. ◌then◌ {B = Node × Field} (there (nth place m.fields)) (λ g. ok (m, g)))
         ≡ ok (n, f)
         → (node_of nodes id ≡ ok n) × In f n.fields
-    by-node none h e = let z : ◌≡◌ {A = ℕ} 0 1 = cc in absurd (omega arith)
-    by-node (some m) h e = by_field m h (nth place m.fields) refl e
+    by-node None h e = let z : ◌≡◌ {A = ℕ} 0 1 = cc in absurd (omega arith)
+    by-node (Some m) h e = by_field m h (nth place m.fields) refl e
 
 -- ---- what is due of the group
 
@@ -58,7 +58,7 @@ module _ (s : Str) (tree : Sheet) (is : admitted s ≡ sheet tree) where
       → (node_of tree.nodes id ≡ ok n) × In f n.fields
   found t id place n f e h = let z : t ≡ tree = cc in found_in tree.nodes id place n f (rw z at h)
 
-  pub due-inside : {g id : ℕ} → Inside s g id → (place : ℕ) (a : SlotAt s id place) (l : Str) → zero_line a.slot ≡ some l
+  pub due-inside : {g id : ℕ} → Inside s g id → (place : ℕ) (a : SlotAt s id place) (l : Str) → zero_line a.slot ≡ Some l
       → Due tree.nodes g l
   due-inside {g = g} here place a l e =
       let x = found a.tree g place a.node a.field a.is-admitted a.is_found in

@@ -3,7 +3,7 @@
 use Rattle.std.specs.Prelude.{◌≡◌, ℕ, ◌^◌, ◌<◌, Bool, true, false, ◌⊎◌, [], length, get_or}
 use mathlib.Core.Path.{ap, ◌∙◌}
 use mathlib.Core.Logic.{inl, inr}
-use mathlib.Core.Option.{some}
+use Rattle.std.specs.Prelude.{Some}
 use native.Mathlib.Omega.{arith}
 use Rattle.text.specs.Bytes.{Str}
 use Rattle.text.specs.Lines.{FormattedTexts, Branch, to_lines, stringify}
@@ -60,7 +60,7 @@ module _ {s : Str} {g : ℕ} {w : Str} {r : Record} (c : Run s g w r) where
   pub left : Record
   left = zeroed.left
 
-  pub runs : run_zeroing w r ≡ some left
+  pub runs : run_zeroing w r ≡ Some left
   unfolding left
   runs = ap (λ (x : Str). run_zeroing x r) c.text ∙ zeroed.runs
 
@@ -81,26 +81,26 @@ module _ {s : Str} {g : ℕ} {w : Str} {r : Record} (c : Run s g w r) where
 
   -- a slot of the group, or of one inside it
   module _ {id : ℕ} (i : Inside s g id) (place : ℕ) (a : SlotAt s id place) where
-    among : (l : Str) → codegen.zero_line a.slot ≡ some l → In l (zero_texts c.covers.zeros)
+    among : (l : Str) → codegen.zero_line a.slot ≡ Some l → In l (zero_texts c.covers.zeros)
     among l e = go (c.covers.due l (due-inside s c.tree c.is-admitted i place a l e))
       where
         go : In l [] ⊎ In l (zero_texts c.covers.zeros) → In l (zero_texts c.covers.zeros)
         go (inl x) = absurd x
         go (inr x) = x
 
-    pub default-read : (k : Kind) → kind_of (kind a.slot.ty) ≡ some k → a.slot.default.bits < 2 ^ slot_bits k
+    pub default-read : (k : Kind) → kind_of (kind a.slot.ty) ≡ Some k → a.slot.default.bits < 2 ^ slot_bits k
         → (explicit : Bool) (typ : Str) → whole typ ≡ true → (is_reader : Bool)
         → run_getter
         (getter_lines typ
         (get_line is_reader k a.slot.offset (map_o (get_mask_text k) (get_mask k a.slot.default.bits explicit))))
         left
-        ≡ some a.slot.default.bits
+        ≡ Some a.slot.default.bits
     unfolding left
     default-read k e fits explicit typ one is_reader =
         let d : ℕ = a.slot.default.bits in
         zeroed.defaults k a.slot.offset (among (zero_call k a.slot.offset) (slot-line a.slot k e))
         (get_mask k d explicit) (get-fits k d explicit fits) typ one is_reader
-        ∙ ap some (get_mask_bits k d explicit)
+        ∙ ap Some (get_mask_bits k d explicit)
 
     pub absent : is_pointer a.slot.ty ≡ true → null (record { 0 = a.slot.offset }) left ≡ true
     unfolding left

@@ -3,7 +3,7 @@
 use Rattle.std.specs.Prelude.{◌≡◌, ℕ, suc, ◌-◌, ◌≤◌, Bool, true, false, eqb, leb, List, [], ◌∷◌}
 use mathlib.Core.Path.{refl, sym, ◌∙◌}
 use mathlib.Core.Logic.{inl, inr}
-use mathlib.Core.Option.{Option, none, some}
+use Rattle.std.specs.Prelude.{Option, None, Some}
 use native.Mathlib.Omega.{arith}
 use native.Mathlib.Decide.{ℕ_discrete}
 use borrow.Author.Tests.{eqb-true, eq-eqb, ne_eqb, leb-true, lt-leb}
@@ -22,17 +22,17 @@ use Rattle.meaning.specs.Claims.{In}
 
 -- the zero of a slot with bits, of a pointer, or none for Void
 abbrev zero_at : ℕ → ℕ → Option Kind → Option Zero
-zero_at n o (some k) = some (of_slot k o)
-zero_at n o none = cond (eqb n 0) none (some (of_pointer o))
+zero_at n o (Some k) = Some (of_slot k o)
+zero_at n o None = cond (eqb n 0) None (Some (of_pointer o))
 
 -- codegen's line of a slot, by the number of its type's kind
 abbrev line_at : ℕ → ℕ → Option Str
 line_at n o =
-    cond (eqb n 0) none
-    (cond (eqb n 1) (some (zero_bool o))
-    (cond (leb n 11) (some (zero_data (primitive_text n) o))
-    (cond (eqb n 15) (some (zero_data (ascii "u16") o))
-    (some (clear_pointer o)))))
+    cond (eqb n 0) None
+    (cond (eqb n 1) (Some (zero_bool o))
+    (cond (leb n 11) (Some (zero_data (primitive_text n) o))
+    (cond (eqb n 15) (Some (zero_data (ascii "u16") o))
+    (Some (clear_pointer o)))))
 
 -- P holds of the numbers from a on: of a and of those after it, or of all of them by one law
 infixr 50 ◌⊹◌
@@ -52,11 +52,11 @@ each P {a = a} (p ⊹ e) k h = go (ℕ_discrete k a) (each P e k)
 abbrev above : ℕ → ℕ
 above k = suc (suc (suc (suc (suc (suc (suc (suc (suc (suc (suc (suc (suc (suc (suc (suc k)))))))))))))))
 
-no_kind : (n : ℕ) → 16 ≤ n → kind_of n ≡ none
+no_kind : (n : ℕ) → 16 ≤ n → kind_of n ≡ None
 unfolding kind_of
 no_kind n h = let e : n ≡ above (n - 16) = omega arith in rw e refl
 
-line_clear : (n o : ℕ) → 12 ≤ n → (n ≡ 15 → ⊥) → line_at n o ≡ some (clear_pointer o)
+line_clear : (n o : ℕ) → 12 ≤ n → (n ≡ 15 → ⊥) → line_at n o ≡ Some (clear_pointer o)
 line_clear n o h ne =
     rw (ne_eqb n 0 (λ e. omega arith), ne_eqb n 1 (λ e. omega arith), lt-leb n 11 (omega arith), ne_eqb n 15 ne)
 
@@ -73,11 +73,11 @@ line-zero n o = each (λ n. line_at n o ≡ map_o zeroing_line (zero_at n o (kin
         ⊹ rest (λ n h. line-high n o h)
 
 -- a slot with bits
-pub slot-line : (s : Slot) (k : Kind) → kind_of (kind s.ty) ≡ some k → codegen.zero_line s ≡ some (zero_call k s.offset)
+pub slot-line : (s : Slot) (k : Kind) → kind_of (kind s.ty) ≡ Some k → codegen.zero_line s ≡ Some (zero_call k s.offset)
 unfolding codegen.zero_line
 slot-line s k e = line-zero (kind s.ty) s.offset ∙ rw e
 
-pub pointer-line : (s : Slot) → is_pointer s.ty ≡ true → codegen.zero_line s ≡ some (clear_pointer s.offset)
+pub pointer-line : (s : Slot) → is_pointer s.ty ≡ true → codegen.zero_line s ≡ Some (clear_pointer s.offset)
 unfolding codegen.zero_line
 pointer-line s e =
     let n = kind s.ty in
@@ -89,13 +89,13 @@ pointer-line s e =
     other false e f = let z : ◌≡◌ {A = ℕ} 0 1 = cc in omega arith
 
 -- the line of any slot is a zero's
-pub zero_of : (s : Slot) (l : Str) → codegen.zero_line s ≡ some l → (z : Zero) × (zeroing_line z ≡ l)
+pub zero_of : (s : Slot) (l : Str) → codegen.zero_line s ≡ Some l → (z : Zero) × (zeroing_line z ≡ l)
 unfolding codegen.zero_line
 zero_of s l e = go (zero_at (kind s.ty) s.offset (kind_of (kind s.ty))) (sym (line-zero (kind s.ty) s.offset) ∙ e)
   where
-    go : (z : Option Zero) → map_o zeroing_line z ≡ some l → (z : Zero) × (zeroing_line z ≡ l)
-    go none e = let z : ◌≡◌ {A = ℕ} 0 1 = cc in absurd (omega arith)
-    go (some z) e = (z, cc)
+    go : (z : Option Zero) → map_o zeroing_line z ≡ Some l → (z : Zero) × (zeroing_line z ≡ l)
+    go None e = let z : ◌≡◌ {A = ℕ} 0 1 = cc in absurd (omega arith)
+    go (Some z) e = (z, cc)
 
 -- ---- lines that were seen before
 

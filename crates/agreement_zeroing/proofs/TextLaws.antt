@@ -2,7 +2,7 @@
 -- text holds what each zero touches. By the laws of lines in crate meaning. Assumes nothing.
 use Rattle.std.specs.Prelude.{◌≡◌, ℕ, List, [], ◌∷◌}
 use mathlib.Core.Logic.{inl, inr}
-use mathlib.Core.Option.{some}
+use Rattle.std.specs.Prelude.{Some}
 use Rattle.text.specs.Lines.{FormattedText, to_lines, stringify}
 use Rattle.record.specs.Lines.{Zero, of_slot, of_tag, of_pointer, zeroing_line, zero_texts}
 use Rattle.record.specs.Record.{Record}
@@ -20,7 +20,7 @@ module _ (P : Op → Type 0) where
   each-zero : (zs : List Zero) → EachLine P (zero_texts zs) → (z : Zero) → In z zs → P (zero_op z)
   each-zero [] e z i = absurd i
   each-zero (y ∷ zs) e z (inl h) =
-      let p : OfRead P (some (zero_op y, [])) = rw ((says-zero y).tight, (says-zero y).reads) at e.0 in
+      let p : OfRead P (Some (zero_op y, [])) = rw ((says-zero y).tight, (says-zero y).reads) at e.0 in
       rw h p
   each-zero (y ∷ zs) e z (inr i) = each-zero zs e.1 z i
 

@@ -2,7 +2,7 @@
 -- than their defaults. The texts are what runs of the entry left. Assumes nothing.
 use Rattle.std.specs.Prelude.{◌≡◌, ℕ, Bool, true, false, [], ◌∷◌, ◌++◌, replicate}
 use Rattle.std.specs.Prelude.{refl}
-use Rattle.std.proofs.Math.Option.{Option, none, some}
+use Rattle.std.specs.Prelude.{Option, None, Some}
 use Rattle.std.proofs.Common.{arith}
 use Rattle.text.specs.Bytes.{Str, ascii, same}
 use Rattle.text.specs.Answer as text
@@ -152,7 +152,7 @@ status_slot = record {
   is-slot = refl;
 }
 
-status-kind : kind_of (slot_kind status_slot) ≡ some kinds.enum
+status-kind : kind_of (slot_kind status_slot) ≡ Some kinds.enum
 unfolding status_slot kind_of
 status-kind = refl
 
@@ -195,18 +195,18 @@ note_ran = (refl, ran_of ward_bytes 2 1 (Haser true) note_text (rw ward-read ref
 abbrev after : Record
 after = record { bits = replicate 16 true ++ replicate 32 false; pointers = false ∷ false ∷ [] }
 
-runs : run_zeroing zero_text before ≡ some after
+runs : run_zeroing zero_text before ≡ Some after
 unfolding found stored put_bits clear_flag type_name truth data_arg bool_arg writes run_op run_line run_lines run_zeroing
 runs = refl
 
 -- what a getter's and a haser's text answer on a record
 abbrev reads : Record → Outcome → Option ℕ
 reads r (gives t) = run_getter t r
-reads r (refuses k line column) = none
+reads r (refuses k line column) = None
 
 abbrev says : Record → Outcome → Option Bool
 says r (gives t) = run_haser t r
-says r (refuses k line column) = none
+says r (refuses k line column) = None
 
 abbrev get : Record → ℕ → ℕ → Bool → Bool → Option ℕ
 get r id place is_reader is_fn = reads r (outcome_of (sheet ward) id (of_field place (Getter is_reader is_fn)))
@@ -216,9 +216,9 @@ has r id place = says r (outcome_of (sheet ward) id (of_field place (Haser true)
 
 -- rank in two forms, status and isFree: not their defaults before, their defaults after
 defaults-read :
-    (get before 2 0 true false ≡ some 65528) × (get before 3 0 true false ≡ some 65533) × (get before 3 1 false false ≡ some 0)
-    × (get after 2 0 true false ≡ some 7) × (get after 2 0 false true ≡ some 7) × (get after 3 0 true false ≡ some 2)
-    × (get after 3 1 false false ≡ some 1)
+    (get before 2 0 true false ≡ Some 65528) × (get before 3 0 true false ≡ Some 65533) × (get before 3 1 false false ≡ Some 0)
+    × (get after 2 0 true false ≡ Some 7) × (get after 2 0 false true ≡ Some 7) × (get after 3 0 true false ≡ Some 2)
+    × (get after 3 1 false false ≡ Some 1)
 unfolding requests.field_at by_id nth accessor_text getter_request getter_text type_string types.node_of getter_mask
     get_bool_field get_data_field decimal stringify join to_lines flat_map same found get_bits type_name truth get_mask_of gets
     gets_in run_getter
@@ -226,7 +226,7 @@ defaults-read = (refl, refl, refl, refl, refl, refl, refl)
 
 -- note and memo are there before, and absent after
 pointers-absent :
-    (has before 2 1 ≡ some true) × (has before 3 2 ≡ some true) × (has after 2 1 ≡ some false) × (has after 3 2 ≡ some false)
+    (has before 2 1 ≡ Some true) × (has before 3 2 ≡ Some true) × (has after 2 1 ≡ Some false) × (has after 3 2 ≡ Some false)
 unfolding requests.field_at by_id nth accessor_text haser_request generate_haser camel_to_snake_case taken are_chars snake_from
     not_null tag_test decimal stringify join to_lines flat_map found get_bits null_flag type_name tests tests_of run_tests
     run_haser

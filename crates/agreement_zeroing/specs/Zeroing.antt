@@ -1,7 +1,7 @@
 -- Demand 3 of a group's zeroing, from texts as runs of the entry left them: what stands inside the group, what its text touches,
 -- and what is claimed of the record that it leaves. Assumes nothing.
 use Rattle.std.specs.Prelude.{◌≡◌, ℕ, Bool, true, false, List, [], ◌∷◌, length, slice_index_or}
-use Rattle.std.proofs.Math.Option.{Option, none, some}
+use Rattle.std.specs.Prelude.{Option, None, Some}
 use Rattle.text.specs.Bytes.{Str}
 use Rattle.tree.specs.Tree as arm
 use Rattle.tree.specs.Tree.{Field, Node, Sheet}
@@ -36,8 +36,8 @@ pub data Inside (s : Str) : ℕ → ℕ → Type 0 where
 
 -- P holds of what was read; where nothing was, nothing is asked
 abbrev pub OfRead : (Op → Type 0) → Option (Op × Str) → Type 0
-OfRead P none = Unit {0}
-OfRead P (some x) = P x.0
+OfRead P None = Unit {0}
+OfRead P (Some x) = P x.0
 
 -- P holds of what each of the lines writes, read without the spaces in front; a line that writes nothing is passed over
 abbrev pub EachLine : (Op → Type 0) → List Str → Type 0
@@ -71,15 +71,15 @@ SparesPointer j (clear_op i) = j ≡ i.0 → ⊥
 -- each pointer slot there is null, and each of its hasers says false. What no line touches stays.
 pub record Zeroed (s : Str) (g : ℕ) (w : Str) (r : Record) : Type 0 where
   pub left : Record
-  pub runs : run_zeroing w r ≡ some left
+  pub runs : run_zeroing w r ≡ Some left
   pub defaults : {id : ℕ} → Inside s g id → (place : ℕ) (a : SlotAt s id place)
-      → (k : Kind) → kind_of (slot_kind a) ≡ some k
+      → (k : Kind) → kind_of (slot_kind a) ≡ Some k
       → (is_reader is_fn : Bool) (t : Str) → Ran s id place (Getter is_reader is_fn) t
-      → run_getter t left ≡ some a.slot.default.bits
+      → run_getter t left ≡ Some a.slot.default.bits
   pub absent : {id : ℕ} → Inside s g id → (place : ℕ) (a : SlotAt s id place) → is_pointer a.slot.ty ≡ true
       → null (record { 0 = a.slot.offset }) left ≡ true
   pub hasers : {id : ℕ} → Inside s g id → (place : ℕ) (a : SlotAt s id place) → is_pointer a.slot.ty ≡ true
-      → (is_reader : Bool) (h : Str) → Ran s id place (Haser is_reader) h → run_haser h left ≡ some false
+      → (is_reader : Bool) (h : Str) → Ran s id place (Haser is_reader) h → run_haser h left ≡ Some false
   pub lengths : (length left.bits ≡ length r.bits) × (length left.pointers ≡ length r.pointers)
   pub bits-same : (b : ℕ) → EachWrite (SparesBit b) w → slice_index_or left.bits b false ≡ slice_index_or r.bits b false
   pub pointers-same :

@@ -1,7 +1,7 @@
 -- The parts of a call, one after the other, are the call, plain or masked: by the mask and the side. Assumes nothing.
 use Rattle.std.specs.Prelude.{◌≡◌, ℕ, Bool, true, false, ◌++◌}
 use mathlib.Core.Path.{refl, sym, ap, ◌∙◌}
-use mathlib.Core.Option.{Option, none, some}
+use Rattle.std.specs.Prelude.{Option, None, Some}
 use mathlib.Core.List.{append_assoc, append-nil}
 use Rattle.text.specs.Bytes.{Str, ascii}
 use Rattle.text.specs.Decimal.{decimal}
@@ -10,41 +10,41 @@ use Rattle.calls.specs.Calls.{zero_bool, zero_tag, zero_data}
 use Rattle.calls.specs.Mask.{is_masked, last_argument, get_bool_head, get_data_head, set_bool_head, set_data_head, tag_test_head}
 
 -- a call's text x, its last argument, its end
-plain : (x end : Str) → x ++ last_argument none ++ end ≡ x ++ end
+plain : (x end : Str) → x ++ last_argument None ++ end ≡ x ++ end
 plain x end = ap (λ (s : Str). s ++ end) (append-nil x)
 
-masked : (x m end : Str) → x ++ last_argument (some m) ++ end ≡ x ++ ascii ", " ++ m ++ end
+masked : (x m end : Str) → x ++ last_argument (Some m) ++ end ≡ x ++ ascii ", " ++ m ++ end
 masked x m end = ap (λ (s : Str). s ++ end) (sym (append_assoc x (ascii ", ") m))
 
 pub get-bool : (is_reader : Bool) (o : ℕ) (m : Option Str)
     → get_bool_head is_reader (is_masked m) ++ decimal o ++ last_argument m ++ ascii ")" ≡ get_bool_field is_reader o m
 unfolding get_bool_field
-get-bool true o none = plain (get_bool_head true false ++ decimal o) (ascii ")")
-get-bool true o (some m) = masked (get_bool_head true true ++ decimal o) m (ascii ")")
-get-bool false o none = plain (get_bool_head false false ++ decimal o) (ascii ")")
-get-bool false o (some m) = masked (get_bool_head false true ++ decimal o) m (ascii ")")
+get-bool true o None = plain (get_bool_head true false ++ decimal o) (ascii ")")
+get-bool true o (Some m) = masked (get_bool_head true true ++ decimal o) m (ascii ")")
+get-bool false o None = plain (get_bool_head false false ++ decimal o) (ascii ")")
+get-bool false o (Some m) = masked (get_bool_head false true ++ decimal o) m (ascii ")")
 
 pub get-data : (is_reader : Bool) (typ : Str) (o : ℕ) (m : Option Str)
     → get_data_head is_reader (is_masked m) ++ typ ++ ascii ">(" ++ decimal o ++ last_argument m ++ ascii ")"
     ≡ get_data_field is_reader typ o m
 unfolding get_data_field
-get-data true typ o none = plain (get_data_head true false ++ typ ++ ascii ">(" ++ decimal o) (ascii ")")
-get-data true typ o (some m) = masked (get_data_head true true ++ typ ++ ascii ">(" ++ decimal o) m (ascii ")")
-get-data false typ o none = plain (get_data_head false false ++ typ ++ ascii ">(" ++ decimal o) (ascii ")")
-get-data false typ o (some m) = masked (get_data_head false true ++ typ ++ ascii ">(" ++ decimal o) m (ascii ")")
+get-data true typ o None = plain (get_data_head true false ++ typ ++ ascii ">(" ++ decimal o) (ascii ")")
+get-data true typ o (Some m) = masked (get_data_head true true ++ typ ++ ascii ">(" ++ decimal o) m (ascii ")")
+get-data false typ o None = plain (get_data_head false false ++ typ ++ ascii ">(" ++ decimal o) (ascii ")")
+get-data false typ o (Some m) = masked (get_data_head false true ++ typ ++ ascii ">(" ++ decimal o) m (ascii ")")
 
 pub set-bool : (o : ℕ) (value : Str) (m : Option Str)
     → set_bool_head (is_masked m) ++ decimal o ++ ascii ", " ++ value ++ last_argument m ++ ascii ");" ≡ set_bool_field o value m
 unfolding set_bool_field
-set-bool o value none = plain (set_bool_head false ++ decimal o ++ ascii ", " ++ value) (ascii ");")
-set-bool o value (some m) = masked (set_bool_head true ++ decimal o ++ ascii ", " ++ value) m (ascii ");")
+set-bool o value None = plain (set_bool_head false ++ decimal o ++ ascii ", " ++ value) (ascii ");")
+set-bool o value (Some m) = masked (set_bool_head true ++ decimal o ++ ascii ", " ++ value) m (ascii ");")
 
 pub set-data : (typ : Str) (o : ℕ) (value : Str) (m : Option Str)
     → set_data_head (is_masked m) ++ typ ++ ascii ">(" ++ decimal o ++ ascii ", " ++ value ++ last_argument m ++ ascii ");"
     ≡ set_data_field typ o value m
 unfolding set_data_field
-set-data typ o value none = plain (set_data_head false ++ typ ++ ascii ">(" ++ decimal o ++ ascii ", " ++ value) (ascii ");")
-set-data typ o value (some m) =
+set-data typ o value None = plain (set_data_head false ++ typ ++ ascii ">(" ++ decimal o ++ ascii ", " ++ value) (ascii ");")
+set-data typ o value (Some m) =
     masked (set_data_head true ++ typ ++ ascii ">(" ++ decimal o ++ ascii ", " ++ value) m (ascii ");")
 
 pub tag_test_lem : (is_reader : Bool) (o d : ℕ)

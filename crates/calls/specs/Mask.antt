@@ -1,28 +1,28 @@
 -- A mask by value as the text that stands in a call, or none, and the parts of a call that depend on whether there is one.
 -- Assumes nothing.
 use Rattle.std.specs.Prelude.{Bool, true, false, [], ◌++◌}
-use Rattle.std.proofs.Math.Option.{Option, none, some}
+use Rattle.std.specs.Prelude.{Option, None, Some}
 use Rattle.text.specs.Bytes.{Str, ascii}
 use Rattle.text.specs.Decimal.{decimal, signed}
 use Rattle.calls.specs.declared.Mask.{Mask}
 use Rattle.calls.specs.declared.Mask.TheVariants as mask
 
 abbrev pub mask_text : Mask → Option Str
-mask_text mask.None = none
-mask_text mask.True = some (ascii "true")
-mask_text (mask.Signed half bits) = some (signed half bits)
-mask_text (mask.Plain n) = some (decimal n)
-mask_text (mask.U32 n) = some (decimal n ++ ascii "u32")
-mask_text (mask.U64 n) = some (decimal n ++ ascii "u64")
+mask_text mask.None = None
+mask_text mask.True = Some (ascii "true")
+mask_text (mask.Signed half bits) = Some (signed half bits)
+mask_text (mask.Plain n) = Some (decimal n)
+mask_text (mask.U32 n) = Some (decimal n ++ ascii "u32")
+mask_text (mask.U64 n) = Some (decimal n ++ ascii "u64")
 
 abbrev pub is_masked : Option Str → Bool
-is_masked none = false
-is_masked (some m) = true
+is_masked None = false
+is_masked (Some m) = true
 
 -- the mask as the last argument
 abbrev pub last_argument : Option Str → Str
-last_argument none = []
-last_argument (some m) = ascii ", " ++ m
+last_argument None = []
+last_argument (Some m) = ascii ", " ++ m
 
 -- a get up to its offset, or up to its type
 abbrev pub get_bool_head : Bool → Bool → Str

@@ -1,6 +1,6 @@
 -- The default of a slot as a mask: `prim_default` for setters, and what `getter_text` writes for getters. Assumes nothing.
 use Rattle.std.specs.Prelude.{ℕ, ◌^◌, Bool, true, false, ◌++◌, ◌==◌, nat_le}
-use Rattle.std.proofs.Math.Option.{Option, none, some}
+use Rattle.std.specs.Prelude.{Option, None, Some}
 use Rattle.text.specs.Bytes.{Str, ascii, cond, both, either}
 use Rattle.text.specs.Decimal.{decimal, signed}
 use Rattle.tree.specs.Tree.{Value}
@@ -21,8 +21,8 @@ integer v =
 
 -- no mask where the test holds
 abbrev pub unless : Bool → Str → Option Str
-unless true mask = none
-unless false mask = some mask
+unless true mask = None
+unless false mask = Some mask
 
 -- FpCategory::Zero: 0.0 and -0.0, whose sign is the top bit
 abbrev pub float_zero : ℕ → ℕ → Bool

@@ -1,7 +1,7 @@
 -- `getter_text` of codegen.rs for a slot: the result type, the code, and the declaration of a default if there is one.
 -- Assumes nothing.
 use Rattle.std.specs.Prelude.{ℕ, Bool, true, false, [], ◌++◌, ◌==◌}
-use Rattle.std.proofs.Math.Option.{Option, none, some}
+use Rattle.std.specs.Prelude.{Option, None, Some}
 use Rattle.text.specs.Bytes.{Str, ascii, unit, cond, both, same}
 use Rattle.text.specs.Decimal.{decimal}
 use Rattle.text.specs.Lines as lines
@@ -109,8 +109,8 @@ getter_fragment root name s is_reader is_fn typ =
 abbrev pub default_declaration : Str → Str → Slot → Option FormattedText
 default_declaration root name s =
     cond (has_words s.explicit (kind s.ty))
-    (some (word_array_declaration root (default_name name) s.words true))
-    none
+    (Some (word_array_declaration root (default_name name) s.words true))
+    None
 
 -- getter_code with an option: absent where the pointer is null
 abbrev pub option_code : Bool → Bool → ℕ → Str → FormattedText
@@ -151,8 +151,8 @@ getter_text sheet name s is_reader is_fn =
     })
 
 abbrev pub declared : Option FormattedText → Str
-declared none = []
-declared (some d) = stringify d
+declared None = []
+declared (Some d) = stringify d
 
 -- the text of a getter's request: the result type, a newline, the code, the declaration if there is one
 unfoldable pub getter_request : Sheet → Str → Slot → Bool → Bool → Out Str

@@ -1,7 +1,7 @@
 -- `generate_setter` of codegen.rs for a slot: a setter, an initializer, or both. Assumes nothing.
 use Rattle.std.specs.Prelude.{ℕ, Bool, true, false, [], ◌++◌, ◌==◌, nat_le}
-use Rattle.std.proofs.Math.Option as option
-use Rattle.std.proofs.Math.Option.{Option, some}
+use Rattle.std.specs.Prelude.{Option, None, Some}
+use Rattle.std.specs.Prelude.{Option, Some}
 use Rattle.text.specs.Bytes.{Str, ascii, cond, either}
 use Rattle.text.specs.Decimal.{decimal}
 use Rattle.text.specs.Lines.{FormattedText, FormattedTexts, Indent, Branch, Line, none, ◌&◌, stringify}
@@ -33,12 +33,12 @@ abbrev pub setter_only : Str → FormattedTexts → Str → Parts
 setter_only param interior typ = record {
   setter_param = param;
   setter_interior = interior;
-  reader_type = some typ;
+  reader_type = Some typ;
   return_result = false;
   initter_params = [];
   initter_interior = none;
-  builder_type = option.none;
-  initn = option.none;
+  builder_type = None;
+  initn = None;
 }
 
 -- a setter and an initializer
@@ -46,11 +46,11 @@ abbrev pub setter_and_initter : FormattedTexts → Str → Bool → Str → Form
 setter_and_initter interior reader_type result params initter builder_type initn = record {
   setter_param = ascii "value";
   setter_interior = interior;
-  reader_type = some reader_type;
+  reader_type = Some reader_type;
   return_result = result;
   initter_params = params;
   initter_interior = initter;
-  builder_type = some builder_type;
+  builder_type = Some builder_type;
   initn = initn;
 }
 
@@ -90,14 +90,14 @@ text_parts root offset =
     setter_and_initter
     (line_alone (set_pointer root offset ++ ascii ".unwrap()")) (setter_input root (root ++ ascii "::text::Owned")) false
     (ascii "size: u32") (line_alone (pointer_field offset ++ ascii ".init_text(size)")) (root ++ ascii "::text::Builder<'a>")
-    option.none
+    None
 
 abbrev pub data_parts : Str → ℕ → Parts
 data_parts root offset =
     setter_and_initter
     (line_alone (reborrowed offset ++ ascii ".set_data(value);")) (root ++ ascii "::data::Reader<'_>") false
     (ascii "size: u32") (line_alone (pointer_field offset ++ ascii ".init_data(size)")) (root ++ ascii "::data::Builder<'a>")
-    option.none
+    None
 
 -- the element has several SetterInput impls: Void to Text, and Enum
 abbrev pub several_inputs : Ty → Bool
@@ -116,13 +116,13 @@ list_parts sheet element t offset =
     ok (setter_and_initter
     (line_alone (set_pointer sheet.root offset)) reader_type true
     (ascii "size: u32") (line_alone (init_pointer sheet.root offset (ascii "size"))) builder_type
-    option.none)
+    None)
 
 -- an enum: masked where the default is explicit, which must then be an Enum
 abbrev pub explicit_mask : ℕ → Value → Out (Option Str)
 explicit_mask explicit v =
-    cond (explicit == 0) (ok option.none)
-    (cond (v.kind == 15) (ok (some (decimal v.bits))) (refused 12))
+    cond (explicit == 0) (ok None)
+    (cond (v.kind == 15) (ok (Some (decimal v.bits))) (refused 12))
 
 abbrev pub enum_mask : Slot → Out (Option Str)
 enum_mask s = explicit_mask s.explicit s.default
@@ -144,7 +144,7 @@ struct_parts sheet t offset =
     ok (setter_and_initter
     (line_alone (set_pointer sheet.root offset)) reader_type true
     [] (line_alone (init_pointer sheet.root offset (ascii "0"))) builder_type
-    option.none)
+    None)
 
 abbrev pub interface_parts : Sheet → Ty → ℕ → Out Parts
 interface_parts sheet t offset =
@@ -161,14 +161,14 @@ parameter_parts sheet t offset =
     ok (setter_and_initter
     (line_alone (set_pointer sheet.root offset)) (setter_input sheet.root owned) true
     [] (line_alone (new_pointer sheet.root offset ++ ascii ".init_as()")) builder_type
-    (some (builder_type, new_pointer sheet.root offset ++ ascii ".initn_as(length)")))
+    (Some (builder_type, new_pointer sheet.root offset ++ ascii ".initn_as(length)")))
 
 -- an initializer alone
 abbrev pub pointer_parts : Str → ℕ → Parts
 pointer_parts root offset = record {
   setter_param = ascii "value";
   setter_interior = none;
-  reader_type = option.none;
+  reader_type = None;
   return_result = false;
   initter_params = [];
   initter_interior =
@@ -176,8 +176,8 @@ pointer_parts root offset = record {
       & Line (ascii "result.clear();")
       & Line (ascii "result")
       & none;
-  builder_type = some (root ++ ascii "::any_pointer::Builder<'a>");
-  initn = option.none;
+  builder_type = Some (root ++ ascii "::any_pointer::Builder<'a>");
+  initn = None;
 }
 
 abbrev pub setter_parts : Sheet → Slot → Ty → Out Parts
@@ -198,8 +198,8 @@ abbrev pub tagged : ℕ → ℕ → FormattedTexts → FormattedTexts
 tagged tag_offset discriminant more = cond (discriminant == 65535) more (Line (set_tag tag_offset discriminant) & more)
 
 abbrev pub initn_lines : (FormattedTexts → FormattedTexts) → Str → Option (Str × Str) → FormattedTexts → FormattedTexts
-initn_lines tag name option.none more = more
-initn_lines tag name (some p) more =
+initn_lines tag name None more = more
+initn_lines tag name (Some p) more =
     Line (ascii "#[inline]")
     & Line (ascii "pub fn initn_" ++ name ++ ascii "(self, length: u32) -> " ++ p.0 ++ ascii " {")
     & Indent (Branch (tag none))
@@ -212,16 +212,16 @@ return_type root true = ascii "-> " ++ root ++ ascii "::Result<()>"
 return_type root false = []
 
 abbrev pub setter_lines : Str → (FormattedTexts → FormattedTexts) → Str → Parts → Option Str → FormattedTexts → FormattedTexts
-setter_lines root tag name p option.none more = more
-setter_lines root tag name p (some reader_type) more =
+setter_lines root tag name p None more = more
+setter_lines root tag name p (Some reader_type) more =
     function
     (ascii "pub fn set_" ++ name ++ ascii "(&mut self, " ++ p.setter_param ++ ascii ": " ++ reader_type ++ ascii ") "
     ++ return_type root p.return_result ++ ascii " {")
     (tag p.setter_interior) more
 
 abbrev pub initter_lines : (FormattedTexts → FormattedTexts) → Str → Parts → Option Str → FormattedTexts
-initter_lines tag name p option.none = none
-initter_lines tag name p (some builder_type) =
+initter_lines tag name p None = none
+initter_lines tag name p (Some builder_type) =
     function
     (ascii "pub fn init_" ++ name ++ ascii "(self, " ++ p.initter_params ++ ascii ") -> " ++ builder_type ++ ascii " {")
     (tag p.initter_interior) none

@@ -1,8 +1,8 @@
 -- `zero_fields_of_group` of codegen.rs: the lines that clear a group's tag, its slots and the groups inside it, and the flag for
 -- `mut`. Assumes nothing.
 use Rattle.std.specs.Prelude.{ℕ, zero, suc, Bool, false, List, [], ◌∷◌, ◌==◌}
-use Rattle.std.proofs.Math.Option as option
-use Rattle.std.proofs.Math.Option.{Option, some}
+use Rattle.std.specs.Prelude.{Option, None, Some}
+use Rattle.std.specs.Prelude.{Option, Some}
 use Rattle.text.specs.Bytes.{Str, ascii, cond, either, same}
 use Rattle.text.specs.Lines.{FormattedText, FormattedTexts, Branch, Line, none, ◌&◌, stringify}
 use Rattle.tree.specs.Tree.{kind, Slot, Arm, slot, group, Field, Node, Sheet}
@@ -19,11 +19,11 @@ pub record Zeroing : Type 0 where
 -- the line of a slot by its type; Void has none
 unfoldable pub zero_line : Slot → Option Str
 zero_line s =
-    cond (kind s.ty == 0) option.none
-    (cond (kind s.ty == 1) (some (zero_bool s.offset))
-    (cond (is_prim s.ty) (some (zero_data (primitive_text (kind s.ty)) s.offset))
-    (cond (kind s.ty == 15) (some (zero_data (ascii "u16") s.offset))
-    (some (clear_pointer s.offset)))))
+    cond (kind s.ty == 0) None
+    (cond (kind s.ty == 1) (Some (zero_bool s.offset))
+    (cond (is_prim s.ty) (Some (zero_data (primitive_text (kind s.ty)) s.offset))
+    (cond (kind s.ty == 15) (Some (zero_data (ascii "u16") s.offset))
+    (Some (clear_pointer s.offset)))))
 
 -- result.contains(&line), by the lines of this group: those of a group inside it stand in a Branch of their own
 unfoldable pub contains : List Str → Str → Bool
@@ -39,8 +39,8 @@ no_push clear z = record { result = z.result; clear = either clear z.clear }
 
 -- a slot, after the lines `seen` of this group and before what `more` gives after the lines so far
 abbrev pub zero_slot : List Str → Bool → Option Str → (List Str → Out Zeroing) → Out Zeroing
-zero_slot seen clear option.none more = more seen
-zero_slot seen clear (some line) more =
+zero_slot seen clear None more = more seen
+zero_slot seen clear (Some line) more =
     cond (contains seen line)
     (more seen then λ z. ok (no_push clear z))
     (more (line ∷ seen) then λ z. ok (push (Line line) clear z))

@@ -2,7 +2,7 @@
 -- gives for a node follows from the claim of what the index has. Assumes nothing.
 use mathlib.Core.Path.{◌≡◌, refl}
 use mathlib.Core.List.{List}
-use mathlib.Core.Option.{Option, none, some}
+use Rattle.std.specs.Prelude.{Option, None, Some}
 use Prim.Native.Nat.{ℕ}
 use Rattle.text.specs.Bytes.{Str}
 use Rattle.tree.specs.Tree.{Node}
@@ -28,13 +28,13 @@ module _ (s : Str) (ns : List Node) (index : List ℕ) (id : ℕ) (f : Found) (e
   node_missing h = rw (node_by_id ns id) (go (by_id id ns) (rw (← e, h) at (found-is s ns index id x)))
     where
       go : (o : Option Node) → Finds s index Nothing o → or_refused 5 o ≡ refused 5
-      go none w = refl
-      go (some n) w = absurd w
+      go None w = refl
+      go (Some n) w = absurd w
 
   pub node-there : (n : Entry) → f ≡ At n → (Q : Out Node → Type 0)
       → ((m : Node) → node_of ns id ≡ ok m → EntryIs s index n m → Q (ok m)) → Q (node_of ns id)
   node-there n h Q law = rw (node_by_id ns id) (go (by_id id ns) refl (rw (← e, h) at (found-is s ns index id x)))
     where
       go : (o : Option Node) → by_id id ns ≡ o → Finds s index (At n) o → Q (or_refused 5 o)
-      go none y w = absurd w
-      go (some m) y w = law m (rw (node_by_id ns id, y) refl) w
+      go None y w = absurd w
+      go (Some m) y w = law m (rw (node_by_id ns id, y) refl) w

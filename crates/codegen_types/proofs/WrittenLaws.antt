@@ -2,7 +2,7 @@
 -- of its refusal alone. Assumes nothing.
 use mathlib.Core.Path.{◌≡◌, refl, sym, ◌∙◌, ap, subst}
 use mathlib.Core.List.{List, ◌++◌}
-use mathlib.Core.Option.{Option, none, some}
+use Rattle.std.specs.Prelude.{Option, None, Some}
 use Prim.Native.Nat.{ℕ}
 use Rattle.text.specs.Bytes.{Str}
 use Rattle.text.specs.Text.{Wrote}
@@ -30,7 +30,7 @@ ok-one {A} {v} {w} e = ap go e
 
 -- a text that is not refused
 pub whole : {l : List ℕ} {t : Text} {w : Str} {l' : List ℕ} {r : Written} → Wrote l t w l' r.text
-    → refusal_number r.refusal ≡ none → Writes (ok w) l t l' r
+    → refusal_number r.refusal ≡ None → Writes (ok w) l t l' r
 whole {l} {t} {w} {l'} {r} h n = record {
   refusal = n;
   text = λ v e. subst (λ (x : Str). Wrote l t x l' r.text) (ok-one e) h;
@@ -38,11 +38,11 @@ whole {l} {t} {w} {l'} {r} h n = record {
 
 -- the same, of a text that was written before
 pub written : {l : List ℕ} {t t₁ : Text} {w : Str} {l' : List ℕ} {r : Written} → Wrote l t w l' t₁ → r.text ≡ t₁
-    → refusal_number r.refusal ≡ none → Writes (ok w) l t l' r
+    → refusal_number r.refusal ≡ None → Writes (ok w) l t l' r
 written {l} {t} {t₁} {w} {l'} h e n = whole (subst (λ (x : Text). Wrote l t w l' x) (sym e) h) n
 
 -- a refusal
-pub refused-text : {l : List ℕ} {t : Text} {k : ℕ} {l' : List ℕ} {r : Written} → refusal_number r.refusal ≡ some k
+pub refused-text : {l : List ℕ} {t : Text} {k : ℕ} {l' : List ℕ} {r : Written} → refusal_number r.refusal ≡ Some k
     → Writes (refused k) l t l' r
 refused-text n = record { refusal = n; text = λ w e. absurd (not-ok e) }
 

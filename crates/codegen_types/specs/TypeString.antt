@@ -1,7 +1,7 @@
 -- `type_string`, `do_branding` and `get_qualified_module` over the tree of a sheet, in the Rust's names and order of
 -- evaluation: the text, or the refusal that is met first. Assumes nothing.
 use Rattle.std.specs.Prelude.{ℕ, zero, suc, Bool, true, false, List, [], ◌∷◌, ◌++◌, map, eqb, leb, length, get_or}
-use Rattle.std.proofs.Math.Option.{Option, none, some}
+use Rattle.std.specs.Prelude.{Option, None, Some}
 use Rattle.text.specs.Bytes.{Str, ascii, cond, both}
 use Rattle.text.specs.Lines.{join}
 use Rattle.tree.specs.Tree.{Ty, plain, list, enum, struct, interface, any_pointer, parameter, Scopes, end, inherit, bind, Binds}
@@ -62,12 +62,12 @@ pub data Scope : Type 0 where
 
 -- brand_scopes.get: of two scopes with one id the later was inserted last
 abbrev pub or_else : {A : Type 0} → Option A → Option A → Option A
-or_else (some a) b = some a
-or_else none b = b
+or_else (Some a) b = Some a
+or_else None b = b
 
 unfoldable pub scope_of : ℕ → List (ℕ × Scope) → Option Scope
-scope_of id [] = none
-scope_of id (s ∷ ss) = or_else (scope_of id ss) (cond (eqb s.0 id) (some s.1) none)
+scope_of id [] = None
+scope_of id (s ∷ ss) = or_else (scope_of id ss) (cond (eqb s.0 id) (Some s.1) None)
 
 abbrev pub any_owned : Str → Str
 any_owned root = root ++ ascii "::any_pointer::Owned"
@@ -79,9 +79,9 @@ all_of (o ∷ os) = o then λ a. all_of os then λ rest. ok (a ∷ rest)
 
 -- the arguments of one node with these parameters
 unfoldable pub arguments_of : Str → List Str → Option Scope → Out (List Str)
-arguments_of root params none = ok (map (λ p. any_owned root) params)
-arguments_of root params (some inherited) = ok params
-arguments_of root params (some (binds texts)) = cond (eqb (length texts) (length params)) (all_of texts) (refused 8)
+arguments_of root params None = ok (map (λ p. any_owned root) params)
+arguments_of root params (Some inherited) = ok params
+arguments_of root params (Some (binds texts)) = cond (eqb (length texts) (length params)) (all_of texts) (refused 8)
 
 -- the loop: from the node outwards by parents, innermost first; the 17th node is 4 before it is looked up
 unfoldable pub accumulate : Sheet → List (ℕ × Scope) → ℕ → ℕ → Out (List (List Str))

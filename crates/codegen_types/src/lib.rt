@@ -4,7 +4,7 @@
 #![tactic(auto)]
 
 ghost use Rattle.std.specs.Prelude.{◌++◌, ◌≡◌};
-ghost use Rattle.std.proofs.Math.Option.{none, some};
+ghost use Rattle.std.specs.Prelude.{None, Some};
 ghost use Rattle.text.specs.Bytes.{ascii};
 ghost use Rattle.text.specs.Text.{Wrote};
 ghost use Rattle.codegen_types.specs.Leaf.{bare_name, display, lifetime_comma};
@@ -52,7 +52,7 @@ pub struct Written {
 
 // A text that is not refused.
 pub fn whole(t: Text) -> Written
-    ensures { (result.text ≡ t) × (refusal_number result.refusal ≡ none) }
+    ensures { (result.text ≡ t) × (refusal_number result.refusal ≡ None) }
 {
     Written {
         text: t,
@@ -62,7 +62,7 @@ pub fn whole(t: Text) -> Written
 
 // A text that is refused with a number.
 pub fn refused(number: u64, t: Text) -> Written
-    ensures { (result.text ≡ t) × (refusal_number result.refusal ≡ some number) }
+    ensures { (result.text ≡ t) × (refusal_number result.refusal ≡ Some number) }
 {
     Written {
         text: t,

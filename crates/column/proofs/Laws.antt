@@ -2,7 +2,7 @@
 use mathlib.Core.Path.{◌≡◌, refl, sym, ap, ◌∙◌}
 use mathlib.Core.Bool.{Bool, true, false, not}
 use mathlib.Core.List.{[], ◌∷◌}
-use mathlib.Core.Option.{Option, none, some}
+use Rattle.std.specs.Prelude.{Option, None, Some}
 use Prim.Native.Nat.{ℕ, ◌+◌, ◌-◌, ◌*◌, ◌/◌, ◌^◌, ◌≤◌, ◌<◌}
 use native.Mathlib.Omega.{arith}
 use native.Mathlib.Nat.{add-zero, add-sub_cancel_left, pow-suc, pow-le-pow_right}
@@ -48,18 +48,18 @@ module _ (t : Str) (i : ℕ) (h : i < length t) where
   unfolding trimmed
   trimmed-stop e = rw (drop-cons t i 0 h, trimmed, ne_eqb (get_or t i 0) 32 e)
 
-  pub digits-below : (v : ℕ) → get_or t i 0 < 48 → digits v (drop i t) ≡ none
+  pub digits-below : (v : ℕ) → get_or t i 0 < 48 → digits v (drop i t) ≡ None
   unfolding digits
   digits-below v l = rw (drop-cons t i 0 h, digits, lt-ltb (get_or t i 0) 48 l)
 
-  pub digits_above : (v : ℕ) → 48 ≤ get_or t i 0 → 57 < get_or t i 0 → digits v (drop i t) ≡ none
+  pub digits_above : (v : ℕ) → 48 ≤ get_or t i 0 → 57 < get_or t i 0 → digits v (drop i t) ≡ None
   unfolding digits
   digits_above v l g = rw (drop-cons t i 0 h, digits, le-ltb (get_or t i 0) 48 l, lt-ltb 57 (get_or t i 0) g)
 
   -- the number grows out of 64 bits
   pub digits_over :
       (v : ℕ) → 48 ≤ get_or t i 0 → get_or t i 0 ≤ 57 → 2 ^ 64 ≤ v * 10 + (get_or t i 0 - 48)
-      → digits v (drop i t) ≡ none
+      → digits v (drop i t) ≡ None
   unfolding digits
   digits_over v l g o =
       let b = get_or t i 0 in
@@ -154,7 +154,7 @@ pub trimmed-end : (t : Str) (i : ℕ) → length t ≤ i → trimmed (drop i t) 
 unfolding trimmed
 trimmed-end t i h = rw (drop_of_length-le t h)
 
-pub digits-end : (v : ℕ) (t : Str) (i : ℕ) → length t ≤ i → digits v (drop i t) ≡ some v
+pub digits-end : (v : ℕ) (t : Str) (i : ℕ) → length t ≤ i → digits v (drop i t) ≡ Some v
 unfolding digits
 digits-end v t i h = rw (drop_of_length-le t h)
 
@@ -163,7 +163,7 @@ pub rest-is : (t : Str) (i : ℕ) → take (length t - i) (drop i t) ≡ drop i 
 rest-is t i = take_all (length t - i) (drop i t) (rw (length-drop i t) (omega arith))
 
 -- a number without spaces, by its length and its first byte
-pub unpadded-none : (t : Str) → length t ≡ 0 → unpadded t ≡ none
+pub unpadded-none : (t : Str) → length t ≡ 0 → unpadded t ≡ None
 unfolding unpadded
 unpadded-none [] h = refl
 unpadded-none (b ∷ t) h = let z : ⊥ = omega arith in absurd z
@@ -173,13 +173,13 @@ unfolding unpadded
 unpadded-digits [] h e = absurd (h refl)
 unpadded-digits (b ∷ t) h e = rw (ne_eqb b 48 e)
 
-pub unpadded-zero : (t : Str) → get_or t 0 0 ≡ 48 → length t ≡ 1 → unpadded t ≡ some 0
+pub unpadded-zero : (t : Str) → get_or t 0 0 ≡ 48 → length t ≡ 1 → unpadded t ≡ Some 0
 unfolding unpadded
 unpadded-zero [] e h = let z : ⊥ = omega arith in absurd z
 unpadded-zero (b ∷ []) e h = rw (eq-eqb b 48 e)
 unpadded-zero (b ∷ x ∷ t) e h = let z : ⊥ = omega arith in absurd z
 
-pub unpadded-more : (t : Str) → get_or t 0 0 ≡ 48 → (length t ≡ 1 → ⊥) → unpadded t ≡ none
+pub unpadded-more : (t : Str) → get_or t 0 0 ≡ 48 → (length t ≡ 1 → ⊥) → unpadded t ≡ None
 unfolding unpadded
 unpadded-more [] e h = refl
 unpadded-more (b ∷ []) e h = absurd (h refl)
@@ -187,7 +187,7 @@ unpadded-more (b ∷ x ∷ t) e h = rw (eq-eqb b 48 e)
 
 -- the number in some columns, where the row is too short and where it is not
 module _ (t : Str) (a least most : ℕ) where
-  pub column-short : length t < a + 21 → column_of t a least most ≡ none
+  pub column-short : length t < a + 21 → column_of t a least most ≡ None
   unfolding column_of
   column-short h = rw (lt-ltb (length t) (a + 21) h)
 

@@ -3,7 +3,7 @@
 use mathlib.Core.Path.{◌≡◌, refl, sym, ap, ◌∙◌}
 use mathlib.Core.Bool.{Bool, true, false}
 use mathlib.Core.List.{[], ◌∷◌, ◌++◌, append_assoc, append-nil}
-use mathlib.Core.Option.{Option, none, some}
+use Rattle.std.specs.Prelude.{Option, None, Some}
 use Prim.Native.Nat.{ℕ, zero, suc, ◌+◌, ◌-◌, ◌*◌, ◌/◌, ◌%◌, ◌^◌, ◌≤◌, ◌<◌}
 use native.Mathlib.Nat.{add-zero}
 use native.Mathlib.Decide.{dec_lt}
@@ -22,20 +22,20 @@ use Rattle.column.specs.Texts.{ends_in}
 use Rattle.column.proofs.Laws.{unpadded-digits}
 
 -- none is no number
-pub none-some : {A : Type 0} {v : ℕ} → none ≡ some v → A
+pub none-some : {A : Type 0} {v : ℕ} → None ≡ Some v → A
 none-some e = let z : ◌≡◌ {A = ℕ} 0 1 = cc in let y : ⊥ = omega arith in absurd y
 
 -- a byte that goes on with a number: it is a digit, and the number fits
 module _ (v b : ℕ) (t : Str) where
   digits-back :
-      {A : Type 0} (n : ℕ) → digits v (b ∷ t) ≡ some n
-      → (48 ≤ b → b ≤ 57 → v * 10 + (b - 48) < 2 ^ 64 → digits (v * 10 + (b - 48)) t ≡ some n → A) → A
+      {A : Type 0} (n : ℕ) → digits v (b ∷ t) ≡ Some n
+      → (48 ≤ b → b ≤ 57 → v * 10 + (b - 48) < 2 ^ 64 → digits (v * 10 + (b - 48)) t ≡ Some n → A) → A
   unfolding digits
   digits-back {A} n e f = go (ltb b 48) refl (ltb 57 b) refl (ltb (v * 10 + (b - 48)) (2 ^ 64)) refl e
     where
       go :
           (p : Bool) → ltb b 48 ≡ p → (q : Bool) → ltb 57 b ≡ q → (r : Bool) → ltb (v * 10 + (b - 48)) (2 ^ 64) ≡ r
-          → cond p none (cond q none (cond r (digits (v * 10 + (b - 48)) t) none)) ≡ some n → A
+          → cond p None (cond q None (cond r (digits (v * 10 + (b - 48)) t) None)) ≡ Some n → A
       go true _ q _ r _ e = none-some e
       go false _ true _ r _ e = none-some e
       go false _ false _ false _ e = none-some e
@@ -48,7 +48,7 @@ module _ (v b : ℕ) (t : Str) where
 -- ---- a number printed is read
 
 -- digits after digits
-digits_append : (s t : Str) (v w : ℕ) → digits v s ≡ some w → digits v (s ++ t) ≡ digits w t
+digits_append : (s t : Str) (v w : ℕ) → digits v s ≡ Some w → digits v (s ++ t) ≡ digits w t
 unfolding digits
 digits_append [] t v w e = let h : v ≡ w = cc in rw h
 digits_append (b ∷ s) t v w e =
@@ -77,24 +77,24 @@ leads_decimal (suc k) n h p = go (leads_decimal k (n / 10)) (ltb n 10) refl
         let l = ltb-false n 10 e in
         rw (decimal-high n l) (leads_append (decimal (n / 10)) (unit (48 + n % 10)) (f (omega arith) (omega arith)))
 
-digits_last : (v d : ℕ) → d ≤ 9 → v * 10 + d < 2 ^ 64 → digits v (unit (48 + d)) ≡ some (v * 10 + d)
+digits_last : (v d : ℕ) → d ≤ 9 → v * 10 + d < 2 ^ 64 → digits v (unit (48 + d)) ≡ Some (v * 10 + d)
 unfolding digits
 digits_last v d l f =
     let e : 48 + d - 48 ≡ d = omega arith in
     digits-on v (48 + d) [] (omega arith) (omega arith) (omega arith) ∙ rw e
 
-digits_low : (n : ℕ) → n < 10 → digits 0 (decimal n) ≡ some n
+digits_low : (n : ℕ) → n < 10 → digits 0 (decimal n) ≡ Some n
 digits_low n l =
     let z : 0 * 10 + n ≡ n = omega arith in
-    rw (decimal-low n l) (digits_last 0 n (omega arith) (omega arith) ∙ ap some z)
+    rw (decimal-low n l) (digits_last 0 n (omega arith) (omega arith) ∙ ap Some z)
 
-digits_decimal : (k n : ℕ) → n ≤ k → n < 2 ^ 64 → digits 0 (decimal n) ≡ some n
+digits_decimal : (k n : ℕ) → n ≤ k → n < 2 ^ 64 → digits 0 (decimal n) ≡ Some n
 digits_decimal zero n h s = digits_low n (omega arith)
 digits_decimal (suc k) n h s = go (digits_decimal k (n / 10)) (ltb n 10) refl
   where
     go :
-        (n / 10 ≤ k → n / 10 < 2 ^ 64 → digits 0 (decimal (n / 10)) ≡ some (n / 10)) → (b : Bool) → ltb n 10 ≡ b
-        → digits 0 (decimal n) ≡ some n
+        (n / 10 ≤ k → n / 10 < 2 ^ 64 → digits 0 (decimal (n / 10)) ≡ Some (n / 10)) → (b : Bool) → ltb n 10 ≡ b
+        → digits 0 (decimal n) ≡ Some n
     go f true e = digits_low n (ltb-true n 10 e)
     go f false e =
         let l = ltb-false n 10 e in
@@ -104,7 +104,7 @@ digits_decimal (suc k) n h s = go (digits_decimal k (n / 10)) (ltb n 10) refl
         ∙ digits_last (n / 10) (n % 10) (omega arith) (omega arith) ∙ rw w)
 
 -- 0 is printed alone; any other number does not begin with 0
-unpadded-decimal : (n : ℕ) → n < 2 ^ 64 → unpadded (decimal n) ≡ some n
+unpadded-decimal : (n : ℕ) → n < 2 ^ 64 → unpadded (decimal n) ≡ Some n
 unfolding unpadded
 unpadded-decimal zero s = rw (decimal-low 0 (omega arith))
 unpadded-decimal (suc n) s =
@@ -123,7 +123,7 @@ trimmed-spaces zero [] h = refl
 trimmed-spaces zero (b ∷ s) h = rw (ne_eqb b 32 h)
 trimmed-spaces (suc k) s h = trimmed-spaces k s h
 
-pub number-padded : (n : ℕ) → n < 2 ^ 64 → number (padded n) ≡ some n
+pub number-padded : (n : ℕ) → n < 2 ^ 64 → number (padded n) ≡ Some n
 unfolding padded
 number-padded n s =
     rw (trimmed-spaces (21 - length (decimal n)) (decimal n) (decimal-no_space n)) (unpadded-decimal n s)
@@ -139,7 +139,7 @@ padded-length n s =
 -- ---- columns that read as a number
 
 -- by the first digit: what is left, after the digits of v
-decimal-digits : (s : Str) (v n : ℕ) → 0 < v → digits v s ≡ some n → decimal v ++ s ≡ decimal n
+decimal-digits : (s : Str) (v n : ℕ) → 0 < v → digits v s ≡ Some n → decimal v ++ s ≡ decimal n
 unfolding digits
 decimal-digits [] v n p e = let h : v ≡ n = cc in append-nil (decimal v) ∙ ap decimal h
 decimal-digits (b ∷ s) v n p e = digits-back v b s n e (λ l h f g.
@@ -151,16 +151,16 @@ decimal-digits (b ∷ s) v n p e = digits-back v b s n e (λ l h f g.
         let r : 48 + (v * 10 + (b - 48)) % 10 ≡ b = omega arith in
         rw (decimal-high (v * 10 + (b - 48)) (omega arith), q, r) (sym (append_assoc (decimal v) (unit b) s))
 
-decimal-unpadded : (s : Str) (n : ℕ) → unpadded s ≡ some n → s ≡ decimal n
+decimal-unpadded : (s : Str) (n : ℕ) → unpadded s ≡ Some n → s ≡ decimal n
 unfolding unpadded
 decimal-unpadded [] n e = none-some e
 decimal-unpadded (b ∷ s) n e = go (eqb b 48) refl e
   where
-    alone : b ≡ 48 → (s : Str) → lone s ≡ some n → b ∷ s ≡ decimal n
+    alone : b ≡ 48 → (s : Str) → lone s ≡ Some n → b ∷ s ≡ decimal n
     alone z [] e = let h : n ≡ 0 = cc in rw (z, h, decimal-low 0 (omega arith))
     alone z (x ∷ s) e = none-some e
 
-    go : (t : Bool) → eqb b 48 ≡ t → cond t (lone s) (digits 0 (b ∷ s)) ≡ some n → b ∷ s ≡ decimal n
+    go : (t : Bool) → eqb b 48 ≡ t → cond t (lone s) (digits 0 (b ∷ s)) ≡ Some n → b ∷ s ≡ decimal n
     go true z e = alone (eqb-true b 48 z) s e
     go false z e = digits-back 0 b s n e (λ l h f g.
         let d = eqb-false b 48 z in
@@ -191,7 +191,7 @@ trimmed-back (b ∷ s) = go (trimmed-back s) (trimmed_le s) (eqb b 32) refl
         rw (m, h) (ap (λ (r : Str). 32 ∷ r) i)
     go i l false e = let m : suc (length s) - suc (length s) ≡ 0 = omega arith in rw m
 
-pub padded-number : (t : Str) (n : ℕ) → length t ≡ 21 → number t ≡ some n → t ≡ padded n
+pub padded-number : (t : Str) (n : ℕ) → length t ≡ 21 → number t ≡ Some n → t ≡ padded n
 unfolding padded
 padded-number t n w e = rw (← decimal-unpadded (trimmed t) n e, ← w) (trimmed-back t)
 
@@ -200,7 +200,7 @@ padded-number t n w e = rw (← decimal-unpadded (trimmed t) n e, ← w) (trimme
 -- printed there, they are read
 pub column-printed :
     (t rest : Str) (a least most n : ℕ) → drop a t ≡ padded n ++ rest → n < 2 ^ 64 → least ≤ n → n ≤ most
-    → column_of t a least most ≡ some n
+    → column_of t a least most ≡ Some n
 unfolding column_of
 column-printed t rest a least most n e s l h =
     let w = padded-length n s in
@@ -222,23 +222,23 @@ pub record Stands (t : Str) (a least most n : ℕ) : Type 0 where
   pub high : n ≤ most
 
 within-back :
-    {A : Type 0} (least most n : ℕ) (v : Option ℕ) → within least most v ≡ some n → (v ≡ some n → least ≤ n → n ≤ most → A) → A
-within-back least most n none e f = none-some e
-within-back {A} least most n (some v) e f = go (ltb v least) refl (ltb most v) refl e
+    {A : Type 0} (least most n : ℕ) (v : Option ℕ) → within least most v ≡ Some n → (v ≡ Some n → least ≤ n → n ≤ most → A) → A
+within-back least most n None e f = none-some e
+within-back {A} least most n (Some v) e f = go (ltb v least) refl (ltb most v) refl e
   where
-    go : (p : Bool) → ltb v least ≡ p → (q : Bool) → ltb most v ≡ q → cond p none (cond q none (some v)) ≡ some n → A
+    go : (p : Bool) → ltb v least ≡ p → (q : Bool) → ltb most v ≡ q → cond p None (cond q None (Some v)) ≡ Some n → A
     go true _ q _ e = none-some e
     go false _ true _ e = none-some e
     go false l false h e =
         let s : v ≡ n = cc in
         f e (rw s at (ltb-false v least l)) (rw s at (ltb-false most v h))
 
-pub column_stands : (t : Str) (a least most n : ℕ) → column_of t a least most ≡ some n → Stands t a least most n
+pub column_stands : (t : Str) (a least most n : ℕ) → column_of t a least most ≡ Some n → Stands t a least most n
 unfolding column_of
 column_stands t a least most n e = go (ltb (length t) (a + 21)) refl e
   where
     go :
-        (p : Bool) → ltb (length t) (a + 21) ≡ p → cond p none (within least most (number (take 21 (drop a t)))) ≡ some n
+        (p : Bool) → ltb (length t) (a + 21) ≡ p → cond p None (within least most (number (take 21 (drop a t)))) ≡ Some n
         → Stands t a least most n
     go true _ e = none-some e
     go false w e = within-back least most n (number (take 21 (drop a t))) e (λ v l h.
@@ -341,7 +341,7 @@ last-two n rest s h = go (ltb n 10) (ltb n 100) refl refl
 -- the number in the columns from a on, by their last two bytes
 pub known_two :
     (t : Str) (a n x y : ℕ) → get_or t (a + 18) 0 ≡ 32 → x ≡ get_or t (a + 19) 0 → y ≡ get_or t (a + 20) 0
-    → column_of t a 0 (most 64) ≡ some n → x % 16 * 10 + y % 16 ≡ n
+    → column_of t a 0 (most 64) ≡ Some n → x % 16 * 10 + y % 16 ≡ n
 known_two t a n x y h e f is =
     let s = column_stands t a 0 (most 64) n is in
     let l = s.high in

@@ -2,7 +2,7 @@
 #![tactic(auto)]
 
 ghost use Rattle.std.specs.Prelude.{◌≡◌, ◌+◌, ◌≤◌, ◌<◌, length, drop, get_or, ℕ, false};
-ghost use Rattle.std.proofs.Math.Option.{some};
+ghost use Rattle.std.specs.Prelude.{Some};
 ghost use Rattle.text.specs.Bytes.{both};
 ghost use Rattle.column.specs.Number.{number_said, trimmed, digits, unpadded, column_of, most};
 ghost use Rattle.column.specs.Fours.{four_bytes};
@@ -169,7 +169,7 @@ pub fn column(t: &[u8], a: usize, least: u64, most: u64) -> Number
 // The number in the 21 columns from `a` on, where they are known to have one: the last two give it where a space stands before
 // them. Of other columns nothing is said.
 pub fn known(t: &[u8], a: usize) -> u64
-    ensures { (n : ℕ) → column_of t.now a 0 (most 64) ≡ some n → result ≡ n }
+    ensures { (n : ℕ) → column_of t.now a 0 (most 64) ≡ Some n → result ≡ n }
 {
     if t.len() < 21 {
         return 0;

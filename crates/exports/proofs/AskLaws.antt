@@ -1,6 +1,6 @@
 -- What the code's answer says of a request is what is told at the boundary: by the two cases of the answer. Assumes nothing.
 use mathlib.Core.Path.{◌≡◌, refl, sym, ap, subst, ◌∙◌}
-use mathlib.Core.Option.{none}
+use Rattle.std.specs.Prelude.{None}
 use Prim.Native.Nat.{ℕ, ◌≤◌}
 use lib.ListN.{take}
 use native.Mathlib.Omega.{arith}
@@ -79,7 +79,7 @@ said-refused fill r k line column e = rw e (record { number_is = refl; line-is =
 -- a number that is none of the nine
 pub no_accessor :
     (n leaf : ℕ) → (n ≡ 0 → ⊥) → (n ≡ 1 → ⊥) → (n ≡ 2 → ⊥) → (n ≡ 3 → ⊥) → (n ≡ 4 → ⊥) → (n ≡ 5 → ⊥) → (n ≡ 6 → ⊥) → (n ≡ 7 → ⊥)
-    → (n ≡ 8 → ⊥) → none ≡ accessor_numbered n leaf
+    → (n ≡ 8 → ⊥) → None ≡ accessor_numbered n leaf
 unfolding accessor_numbered
 no_accessor n leaf a b c d e f g h i =
     let z : 9 ≤ n = more n 8 (more n 7 (more n 6 (more n 5 (more n 4 (more n 3 (more n 2 (more n 1 (more n 0

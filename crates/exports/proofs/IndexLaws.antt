@@ -2,7 +2,7 @@
 -- at a position. Assumes nothing.
 use mathlib.Core.Path.{◌≡◌, refl, sym, ap, ◌∙◌}
 use mathlib.Core.List.{List, [], ◌∷◌}
-use mathlib.Core.Option.{Option, none, some}
+use Rattle.std.specs.Prelude.{Option, None, Some}
 use Prim.Native.Nat.{ℕ, ◌-◌, ◌≤◌}
 use lib.ListN.{length, drop}
 use Rattle.text.specs.Bytes.{Str}
@@ -47,17 +47,17 @@ pass_told o l l' r p number size h e n m =
 
 -- a number that no text has is 15, whatever the node and the field
 pub unknown_told : (ns : List Node) (k : ℕ) (o : Option tree.Field) (g : Node × tree.Field → Accessor → Out Str) (l : Str)
-    → PassTold (in_node ns k o then λ at. there none then g at) l l 15 0
+    → PassTold (in_node ns k o then λ at. there None then g at) l l 15 0
 unknown_told ns k o g l = go (nth k ns) o
   where
     not_there : PassTold (refused 15) l l 15 0
     not_there = record { number_is = refl; length-is = refl; text = λ w e h. never cc }
 
     go : (n : Option Node) (o : Option tree.Field)
-        → PassTold ((there n then λ n. there o then λ f. ok (n, f)) then λ at. there none then g at) l l 15 0
-    go (some n) (some f) = not_there
-    go (some n) none = not_there
-    go none o = not_there
+        → PassTold ((there n then λ n. there o then λ f. ok (n, f)) then λ at. there None then g at) l l 15 0
+    go (Some n) (Some f) = not_there
+    go (Some n) None = not_there
+    go None o = not_there
 
 -- a whole text is within its buffer
 pub whole-within : (l : Str) (r : Pass) (n : ℕ) → PassWithin l r → r ≡ Whole n → n ≤ length l
@@ -86,8 +86,8 @@ module _ (s : Str) (ns : List Node) (index : List ℕ) (x : Indexed s ns index) 
   node-none e = go (nth k ns) (rw (← e) at (nth-is s ns index k x))
     where
       go : (o : Option Node) → Finds s index found.Nothing o → NodeSaid s o 15 0 0 0 0
-      go (some n) h = absurd h
-      go none h = (refl, refl, refl, refl, refl)
+      go (Some n) h = absurd h
+      go None h = (refl, refl, refl, refl, refl)
 
   pub node-some : (e : Entry) (p : Span) → found.At e ≡ entry_with index k → Spans s p e.at e.params
       → NodeSaid s (nth k ns) 0 e.id p.start (p.end - p.start) e.fields
@@ -95,13 +95,13 @@ module _ (s : Str) (ns : List Node) (index : List ℕ) (x : Indexed s ns index) 
     where
       go : (o : Option Node) → Finds s index (found.At e) o
           → NodeSaid s o 0 e.id p.start (p.end - p.start) e.fields
-      go (some n) h = record {
+      go (Some n) h = record {
         number_is = refl;
         id-is = h.id;
         module-is = text h.after ∙ h.the_mod;
         fields-here = h.fields;
       }
-      go none h = absurd h
+      go None h = absurd h
 
 -- ---- the field at a position
 

@@ -1,7 +1,7 @@
 -- What the exported functions answer: the fill count after a text, or that nothing was taken; what a sheet is; what a request
 -- answers; what an index tells of a sheet's nodes, and a position of its fields. Assumes nothing.
 use Rattle.std.specs.Prelude.{◌≡◌, Bool, true, false, List, [], ◌∷◌, ℕ, ◌-◌, ◌%◌, ◌^◌, ◌≤◌, min, eqb, length, take, drop}
-use Rattle.std.proofs.Math.Option.{Option, none, some}
+use Rattle.std.specs.Prelude.{Option, None, Some}
 use Rattle.text.specs.Bytes.{Str, cond, either}
 use Rattle.text.specs.Decimal.{signed}
 use Rattle.text.specs.Text.{adv, put, state_at}
@@ -114,8 +114,8 @@ accessor_numbered number leaf = nth number (accessors leaf)
 
 -- the request for such a text of the field at a place; what has no text is no request, which is 15
 abbrev pub requested : ℕ → Option Accessor → Request
-requested place (some accessor) = of_field place accessor
-requested place none = Unknown
+requested place (Some accessor) = of_field place accessor
+requested place None = Unknown
 
 abbrev pub request_of : ℕ → ℕ → ℕ → Request
 request_of number place leaf = requested place (accessor_numbered number leaf)
@@ -153,8 +153,8 @@ SameAnswersHold =
 
 -- the length of a text, 0 where there is none
 abbrev pub length_told : Option ℕ → ℕ
-length_told (some n) = n
-length_told none = 0
+length_told (Some n) = n
+length_told None = 0
 
 -- a text that comes to o, written in one pass from the start of l on, leaves l', and is told by a number and a length
 pub record PassTold (o : Out Str) (l l' : Str) (number size : ℕ) : Type 0 where
@@ -182,8 +182,8 @@ pub record NodeIs (s : Str) (n : Node) (number id at size first : ℕ) : Type 0 
 
 -- 15 and zeros where there is none
 abbrev pub NodeSaid : Str → Option Node → ℕ → ℕ → ℕ → ℕ → ℕ → Type 0
-NodeSaid s (some n) number id at size first = NodeIs s n number id at size first
-NodeSaid s none number id at size first = (number ≡ 15) × (id ≡ 0) × (at ≡ 0) × (size ≡ 0) × (first ≡ 0)
+NodeSaid s (Some n) number id at size first = NodeIs s n number id at size first
+NodeSaid s None number id at size first = (number ≡ 15) × (id ≡ 0) × (at ≡ 0) × (size ≡ 0) × (first ≡ 0)
 
 -- the node with a number
 abbrev pub NodeTold : Str → List ℕ → ℕ → ℕ → ℕ → ℕ → ℕ → ℕ → Type 0

@@ -1,6 +1,6 @@
 -- What a field by value says of the sheet: it is the field that is read at its F or G row. Assumes nothing.
 use Rattle.std.specs.Prelude.{◌≡◌, List, [], ◌∷◌, ℕ, ◌<◌, drop, length}
-use Rattle.std.proofs.Math.Option.{Option, none, some}
+use Rattle.std.specs.Prelude.{Option, None, Some}
 use Rattle.text.specs.Bytes.{Str}
 use Rattle.row.specs.Rows.{rows, rest_of}
 use Rattle.row.specs.Line.{text_at}
@@ -55,5 +55,5 @@ Fewer s at field.Nothing = Unit {0}
 
 -- the field that was looked for, or nothing
 abbrev pub FindsField : Str → Field → Option tree.Field → Type 0
-FindsField s r (some f) = FieldIs s r f
-FindsField s r none = r ≡ field.Nothing
+FindsField s r (Some f) = FieldIs s r f
+FindsField s r None = r ≡ field.Nothing

@@ -2,7 +2,7 @@
 -- the leaf; then its option. Assumes nothing.
 use Rattle.std.specs.Prelude.{◌≡◌, ℕ, Bool, true, false, eqb, leb, ◌++◌}
 use mathlib.Core.Path.{refl, sym, ◌∙◌}
-use mathlib.Core.Option.{none, some}
+use Rattle.std.specs.Prelude.{None, Some}
 use native.Mathlib.Omega.{arith}
 use borrow.Author.Tests.{eq-eqb, ne_eqb}
 use Rattle.text.specs.Bytes.{Str, ascii, cond, both}
@@ -25,11 +25,11 @@ pub record Ok {A : Type 0} (o : Out A) : Type 0 where
   pub given : A
   pub is : o ≡ ok given
 
-pub ok-is : {A : Type 0} (o : Out A) → refusal_of o ≡ none → Ok o
+pub ok-is : {A : Type 0} (o : Out A) → refusal_of o ≡ None → Ok o
 ok-is (ok a) e = record { given = a; is = refl }
 ok-is (refused k) e = let z : ◌≡◌ {A = ℕ} 0 1 = cc in let w : ⊥ = omega arith in absurd w
 
-pub refused-is : {A : Type 0} (o : Out A) (k : ℕ) → refusal_of o ≡ some k → o ≡ refused k
+pub refused-is : {A : Type 0} (o : Out A) (k : ℕ) → refusal_of o ≡ Some k → o ≡ refused k
 refused-is (ok a) k e = let z : ◌≡◌ {A = ℕ} 0 1 = cc in let w : ⊥ = omega arith in absurd w
 refused-is (refused j) k e = let f : j ≡ k = cc in rw f refl
 
@@ -55,12 +55,12 @@ client_same sheet id ss leaf = start (node_of sheet.nodes id)
 
 -- the result type refuses nothing that the type did not
 pub result_ok : (sheet : Sheet) (t : Ty) (a : ℕ) (leaf : Leaf) (typ : Str) → HasId t a
-    → refusal_of (type_string t sheet leaf) ≡ none → refusal_of (result_type sheet t typ) ≡ none
+    → refusal_of (type_string t sheet leaf) ≡ None → refusal_of (result_type sheet t typ) ≡ None
 result_ok sheet (plain k) a leaf typ h e =
     rw (ne_eqb k 15 (λ z. let w : ⊥ = omega arith in absurd w), ne_eqb k 17 (λ z. let w : ⊥ = omega arith in absurd w))
     (either-ok (is_fallible (plain k)))
   where
-    either-ok : (b : Bool) → refusal_of (cond b (ok (sheet.root ++ ascii "::Result<" ++ typ ++ ascii ">")) (ok typ)) ≡ none
+    either-ok : (b : Bool) → refusal_of (cond b (ok (sheet.root ++ ascii "::Result<" ++ typ ++ ascii ">")) (ok typ)) ≡ None
     either-ok true = refl
     either-ok false = refl
 result_ok sheet (list t) a leaf typ h e = refl
@@ -76,18 +76,18 @@ result_ok sheet (parameter i k) a leaf typ h e = refl
 
 -- the code's four ways
 module _ (s : tree.Slot) (r : Slot) (is : SlotIs r s) where
-  pub option-absent : r.option ≡ 0 → none ≡ refusal_of (is_option_field s)
+  pub option-absent : r.option ≡ 0 → None ≡ refusal_of (is_option_field s)
   option-absent e = rw (is.option, eq-eqb r.option 0 e) refl
 
   module _ (e : r.option ≡ 0 → ⊥) where
-    pub option-client : r.kind ≡ 17 → some 9 ≡ refusal_of (is_option_field s)
+    pub option-client : r.kind ≡ 17 → Some 9 ≡ refusal_of (is_option_field s)
     option-client k = rw (is.option, ne_eqb r.option 0 e, is.kind ∙ k) refl
 
     module _ (k : r.kind ≡ 17 → ⊥) (b : Bool) (told : b ≡ both (leb 12 r.kind) (cond (eqb r.kind 15) false true)) where
-      pub option-pointer : b ≡ true → none ≡ refusal_of (is_option_field s)
+      pub option-pointer : b ≡ true → None ≡ refusal_of (is_option_field s)
       option-pointer t = rw (is.option, ne_eqb r.option 0 e, is.kind, sym told ∙ t, ne_eqb r.kind 17 k) refl
 
-      pub option-other : b ≡ false → some 9 ≡ refusal_of (is_option_field s)
+      pub option-other : b ≡ false → Some 9 ≡ refusal_of (is_option_field s)
       option-other t = rw (is.option, ne_eqb r.option 0 e, is.kind, sym told ∙ t) refl
 
 -- is_option_field's answer is the slot's own

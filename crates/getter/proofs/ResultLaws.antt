@@ -3,7 +3,7 @@
 use Rattle.std.specs.Prelude.{◌≡◌, ℕ, zero, suc, ◌<◌, ◌≤◌, Bool, true, false, not, eqb, List, [], ◌∷◌, ◌++◌, get_or, drop}
 use mathlib.Core.Path.{refl, sym, ap, ◌∙◌, subst}
 use mathlib.Core.List.{append_assoc}
-use mathlib.Core.Option.{none}
+use Rattle.std.specs.Prelude.{None}
 use native.Mathlib.Omega.{arith}
 use borrow.Author.Tests.{ne_eqb, le-leb, lt-leb}
 use Rattle.text.specs.Bytes.{Str, ascii, cond, both, same}
@@ -361,7 +361,7 @@ module _ (sheet : Sheet) (is_reader is_fn : Bool) (bytes : Str) (r : Slot) (f : 
 
   pub prim_here : {l l' : List ℕ} {t t₁ : Text} {q : Written} → r.kind ≤ 11
       → Wrote l t (as_function is_fn (primitive_text r.kind)) l' t₁
-      → (q.text ≡ t₁) × (refusal_number q.refusal ≡ none) → Writes out l t l' q
+      → (q.text ≡ t₁) × (refusal_number q.refusal ≡ None) → Writes out l t l' q
   prim_here {l} {l'} {t} le w n =
       rw (prim-out sheet f.slot is_reader is_fn r h.slot le)
       (whole (subst (λ (x : Text). Wrote l t (as_function is_fn (primitive_text r.kind)) l' x) (sym n.0) w) n.1)

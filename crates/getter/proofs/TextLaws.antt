@@ -2,7 +2,7 @@
 -- the default's, in the Rust's order. By the outcome of each step. Assumes nothing.
 use Rattle.std.specs.Prelude.{◌≡◌, ℕ, ◌≤◌, Bool, true, false, eqb, leb, List, [], drop}
 use mathlib.Core.Path.{refl, sym, ap, ◌∙◌}
-use mathlib.Core.Option.{Option, none, some}
+use Rattle.std.specs.Prelude.{Option, None, Some}
 use borrow.Author.Tests.{eqb-true, leb-true}
 use Rattle.text.specs.Bytes.{Str, unit, cond}
 use Rattle.text.specs.Lines.{stringify}
@@ -49,7 +49,7 @@ declared-here {l} {t} {l'} {t'} root name bytes r f h k w =
 
     go : (b : Bool) → has_words r.explicit r.kind ≡ b
         → Wrote l t (cond b (declaration_text root (default_name name) r.count (words_at r.count there)) []) l' t'
-        → Wrote l t (declared (cond b (some (word_array_declaration root (default_name name) f.slot.words true)) none)) l' t'
+        → Wrote l t (declared (cond b (Some (word_array_declaration root (default_name name) f.slot.words true)) None)) l' t'
     go true e x =
         declaration_of root (default_name name) there r.count x f.slot.words (rw (← k, e) at h.words) h.count
     go false e x = x
@@ -117,14 +117,14 @@ module _ (sheet : Sheet) (name : Str) (s : tree.Slot) (is_reader is_fn : Bool) (
     by-option : (k : ℕ) → is_option_field s ≡ refused k → Told
     unfolding getter_request getter_text
     by-option k e =
-        let n : of-option ≡ some k = option-told ∙ ap refusal_of e in
+        let n : of-option ≡ Some k = option-told ∙ ap refusal_of e in
         rw (typ, e) (refused-text (first ∙ rw (given.refusal, n) refl))
 
     -- or not
     module _ (b : Bool) (e : is_option_field s ≡ ok b) where
       own : refusal_number q.refusal ≡ of-default
       own =
-          let n : of-option ≡ none = option-told ∙ ap refusal_of e in
+          let n : of-option ≡ None = option-told ∙ ap refusal_of e in
           first ∙ rw (given.refusal, n) refl
 
       result-is : result_type sheet s.ty (optional b w) ≡ ok result
@@ -133,14 +133,14 @@ module _ (sheet : Sheet) (name : Str) (s : tree.Slot) (is_reader is_fn : Bool) (
       by_default : eqb (kind s.ty) s.default.kind ≡ false → Told
       unfolding getter_request getter_text
       by_default n =
-          let d : of-default ≡ some 10 = default-told w ∙ rw n refl in
+          let d : of-default ≡ Some 10 = default-told w ∙ rw n refl in
           rw (typ, e, result-is, n) (refused-text (own ∙ d))
 
       by-none : eqb (kind s.ty) s.default.kind ≡ true → Told
       unfolding getter_request getter_text
       by-none n =
           let k : s.default.kind ≡ kind s.ty = sym (eqb-true (kind s.ty) s.default.kind n) in
-          let d : of-default ≡ none = default-told w ∙ rw n refl in
+          let d : of-default ≡ None = default-told w ∙ rw n refl in
           rw (typ, e, result-is, n, option_is s b e, ← fragment-typ sheet sheet.root name s is_reader is_fn r is leaf w typ)
           (whole (text_of given ⨾ newline ⨾ code k ⨾ decl k) (own ∙ d))
 

@@ -3,7 +3,7 @@
 use Rattle.std.specs.Prelude.{◌≡◌, ℕ, zero, suc, ◌+◌, ◌-◌, ◌/◌, ◌%◌, ◌^◌, ◌<◌, ◌≤◌}
 use Rattle.std.specs.Prelude.{Bool, true, false, eqb, ltb, List, [], ◌∷◌, ◌++◌}
 use mathlib.Core.Path.{refl, ap, ◌∙◌}
-use mathlib.Core.Option.{Option, none, some}
+use Rattle.std.specs.Prelude.{Option, None, Some}
 use mathlib.Core.List.{append_assoc}
 use native.Mathlib.Nat.{mod-lt, zero-lt-suc}
 use native.Mathlib.Omega.{arith}
@@ -49,24 +49,24 @@ abbrev pub ◌⧺◌ : Str → Str → Str
 a ⧺ b = a ++ b
 
 pub set-bool : (o : ℕ) (v : Str)
-    → set_bool_field o v none ≡ ascii "self.builder.set_bool_field(" ⧺ decimal o ⧺ ascii ", " ⧺ v ⧺ ascii ");"
+    → set_bool_field o v None ≡ ascii "self.builder.set_bool_field(" ⧺ decimal o ⧺ ascii ", " ⧺ v ⧺ ascii ");"
 unfolding set_bool_field
 set-bool o v = simp append_assoc
 
 set-bool_mask : (o : ℕ) (v m : Str)
-    → set_bool_field o v (some m)
+    → set_bool_field o v (Some m)
     ≡ ascii "self.builder.set_bool_field_mask(" ⧺ decimal o ⧺ ascii ", " ⧺ v ⧺ ascii ", " ⧺ m ⧺ ascii ");"
 unfolding set_bool_field
 set-bool_mask o v m = simp append_assoc
 
 pub set-data : (t : Str) (o : ℕ) (v : Str)
-    → set_data_field t o v none
+    → set_data_field t o v None
     ≡ ascii "self.builder.set_data_field::<" ⧺ t ⧺ ascii ">(" ⧺ decimal o ⧺ ascii ", " ⧺ v ⧺ ascii ");"
 unfolding set_data_field
 set-data t o v = simp append_assoc
 
 set-data_mask : (t : Str) (o : ℕ) (v m : Str)
-    → set_data_field t o v (some m)
+    → set_data_field t o v (Some m)
     ≡ ascii "self.builder.set_data_field_mask::<" ⧺ t ⧺ ascii ">(" ⧺ decimal o ⧺ ascii ", " ⧺ v ⧺ ascii ", " ⧺ m ⧺ ascii ");"
 unfolding set_data_field
 set-data_mask t o v m = simp append_assoc
@@ -80,34 +80,34 @@ tag_test_lem true o n = simp append_assoc
 tag_test_lem false o n = simp append_assoc
 
 get-bool : (is_reader : Bool) (o : ℕ)
-    → get_bool_field is_reader o none ≡ ascii "self." ⧺ member is_reader ⧺ ascii ".get_bool_field(" ⧺ decimal o ⧺ ascii ")"
+    → get_bool_field is_reader o None ≡ ascii "self." ⧺ member is_reader ⧺ ascii ".get_bool_field(" ⧺ decimal o ⧺ ascii ")"
 unfolding get_bool_field
 get-bool true o = simp append_assoc
 get-bool false o = simp append_assoc
 
 get-bool_mask : (is_reader : Bool) (o : ℕ) (m : Str)
-    → get_bool_field is_reader o (some m)
+    → get_bool_field is_reader o (Some m)
     ≡ ascii "self." ⧺ member is_reader ⧺ ascii ".get_bool_field_mask(" ⧺ decimal o ⧺ ascii ", " ⧺ m ⧺ ascii ")"
 unfolding get_bool_field
 get-bool_mask true o m = simp append_assoc
 get-bool_mask false o m = simp append_assoc
 
 get-data : (is_reader : Bool) (t : Str) (o : ℕ)
-    → get_data_field is_reader t o none
+    → get_data_field is_reader t o None
     ≡ ascii "self." ⧺ member is_reader ⧺ ascii ".get_data_field::<" ⧺ t ⧺ ascii ">(" ⧺ decimal o ⧺ ascii ")"
 unfolding get_data_field
 get-data true t o = simp append_assoc
 get-data false t o = simp append_assoc
 
 get-data_mask : (is_reader : Bool) (t : Str) (o : ℕ) (m : Str)
-    → get_data_field is_reader t o (some m)
+    → get_data_field is_reader t o (Some m)
     ≡ ascii "self." ⧺ member is_reader ⧺ ascii ".get_data_field_mask::<" ⧺ t ⧺ ascii ">(" ⧺ decimal o ⧺ ascii ", " ⧺ m ⧺ ascii ")"
 unfolding get_data_field
 get-data_mask true t o m = simp append_assoc
 get-data_mask false t o m = simp append_assoc
 
 get-enum : (is_reader : Bool) (o : ℕ)
-    → get_enum_field is_reader o none
+    → get_enum_field is_reader o None
     ≡ ascii "::core::convert::TryFrom::try_from(self." ⧺ member is_reader ⧺ ascii ".get_data_field::<u16>(" ⧺ decimal o
     ⧺ ascii "))"
 unfolding get_data_field
@@ -115,7 +115,7 @@ get-enum true o = simp append_assoc
 get-enum false o = simp append_assoc
 
 get-enum_mask : (is_reader : Bool) (o : ℕ) (m : Str)
-    → get_enum_field is_reader o (some m)
+    → get_enum_field is_reader o (Some m)
     ≡ ascii "::core::convert::TryFrom::try_from(self." ⧺ member is_reader
     ⧺ ascii ".get_data_field_mask::<u16>(" ⧺ decimal o ⧺ ascii ", " ⧺ m ⧺ ascii "))"
 unfolding get_data_field
@@ -125,41 +125,41 @@ get-enum_mask false o m = simp append_assoc
 -- ---- lines that write
 
 pub writes-set : (k : Kind) (o : ℕ) (m : Option ℕ) → MaskFits k m
-    → writes (set_line k o (map_o (set_mask_text k) m)) ≡ some (set_op (place_of k o) value (mask_bits m), [])
+    → writes (set_line k o (map_o (set_mask_text k) m)) ≡ Some (set_op (place_of k o) value (mask_bits m), [])
 unfolding writes
-writes-set bool o none h = rw set-bool (simp parts)
-writes-set bool o (some m) h = rw set-bool_mask (simp (parts, truth_mask m h))
-writes-set (num t) o none h = rw set-data (simp parts)
-writes-set (num t) o (some m) h = rw set-data_mask (simp (parts, set_mask t m h))
-writes-set enum o none h = rw set-data (simp parts)
-writes-set enum o (some m) h = rw set-data_mask (simp (parts, set_mask_enum m h))
+writes-set bool o None h = rw set-bool (simp parts)
+writes-set bool o (Some m) h = rw set-bool_mask (simp (parts, truth_mask m h))
+writes-set (num t) o None h = rw set-data (simp parts)
+writes-set (num t) o (Some m) h = rw set-data_mask (simp (parts, set_mask t m h))
+writes-set enum o None h = rw set-data (simp parts)
+writes-set enum o (Some m) h = rw set-data_mask (simp (parts, set_mask_enum m h))
 
-pub writes_tag : (o n : ℕ) → n < 2 ^ 16 → writes (set_tag o n) ≡ some (set_op (tag_place o) (constant n) 0, [])
+pub writes_tag : (o n : ℕ) → n < 2 ^ 16 → writes (set_tag o n) ≡ Some (set_op (tag_place o) (constant n) 0, [])
 unfolding writes
 writes_tag o n h = rw set-data (simp (parts, arg_tag n h))
 
-pub writes-zero : (k : Kind) (o : ℕ) → writes (zero_call k o) ≡ some (set_op (place_of k o) (constant 0) 0, [])
+pub writes-zero : (k : Kind) (o : ℕ) → writes (zero_call k o) ≡ Some (set_op (place_of k o) (constant 0) 0, [])
 unfolding writes
 writes-zero bool o = rw set-bool (simp parts)
 writes-zero (num t) o = rw set-data (simp parts)
 writes-zero enum o = rw set-data (simp parts)
 
-pub writes-zero_tag : (o : ℕ) → writes (zero_tag o) ≡ some (set_op (tag_place o) (constant 0) 0, [])
+pub writes-zero_tag : (o : ℕ) → writes (zero_tag o) ≡ Some (set_op (tag_place o) (constant 0) 0, [])
 unfolding writes
 writes-zero_tag o = rw set-data (simp parts)
 
-pub writes-clear : (i : ℕ) → writes (clear_pointer i) ≡ some (clear_op (record { 0 = i }), [])
+pub writes-clear : (i : ℕ) → writes (clear_pointer i) ≡ Some (clear_op (record { 0 = i }), [])
 unfolding clear_pointer writes
 writes-clear i = simp parts
 
 -- ---- the tests of a haser
 
-pub tests_null : (is_reader : Bool) (i : ℕ) → tests (not_null is_reader i) ≡ some (null_test (record { 0 = i }), [])
+pub tests_null : (is_reader : Bool) (i : ℕ) → tests (not_null is_reader i) ≡ Some (null_test (record { 0 = i }), [])
 unfolding not_null tests
 tests_null true i = simp parts
 tests_null false i = simp parts
 
-pub tests_tag : (is_reader : Bool) (o n : ℕ) → tests (tag_test is_reader o n) ≡ some (meaning.tag_test o n, [])
+pub tests_tag : (is_reader : Bool) (o n : ℕ) → tests (tag_test is_reader o n) ≡ Some (meaning.tag_test o n, [])
 unfolding tests
 tests_tag true o n = rw (tag_test_lem true o n) (simp parts)
 tests_tag false o n = rw (tag_test_lem false o n) (simp parts)
@@ -254,73 +254,73 @@ in_comma : (s : Str) → gets_in true (ascii ", " ++ s) ≡ gets_in false s
 unfolding gets_in
 in_comma s = refl
 
-in_close : (gets_in true (ascii ")") ≡ some []) × (gets_in true (ascii "))") ≡ some [])
+in_close : (gets_in true (ascii ")") ≡ Some []) × (gets_in true (ascii "))") ≡ Some [])
 unfolding gets_in
 in_close = (refl, refl)
 
 -- a line that begins with the call of its one get
-one-get : (t : Str) {o : Unit {0} × Str} {g : Get} (s : Str) → opens_get (115 ∷ t) ≡ some o → gets (115 ∷ t) ≡ some (g, s)
-    → gets_in true t ≡ some [] → gets_in false (115 ∷ t) ≡ some (g ∷ [])
+one-get : (t : Str) {o : Unit {0} × Str} {g : Get} (s : Str) → opens_get (115 ∷ t) ≡ Some o → gets (115 ∷ t) ≡ Some (g, s)
+    → gets_in true t ≡ Some [] → gets_in false (115 ∷ t) ≡ Some (g ∷ [])
 unfolding gets_in
 one-get t {o} {g} s opened got rest =
     ap (λ (x : Option (Unit {0} × Str)). adds x (gets (115 ∷ t)) (gets_in true t)) opened
-    ∙ ap (λ (x : Option (Get × Str)). adds (some o) x (gets_in true t)) got
-    ∙ ap (λ (x : Option (List Get)). adds (some o) (some (g, s)) x) rest
+    ∙ ap (λ (x : Option (Get × Str)). adds (Some o) x (gets_in true t)) got
+    ∙ ap (λ (x : Option (List Get)). adds (Some o) (Some (g, s)) x) rest
 
 -- what follows the first byte of a call, without a mask and with one
 module _ (is_reader : Bool) (o : ℕ) where
-  after-bool : gets_in true (ascii "elf." ⧺ member is_reader ⧺ ascii ".get_bool_field(" ⧺ decimal o ⧺ ascii ")") ≡ some []
+  after-bool : gets_in true (ascii "elf." ⧺ member is_reader ⧺ ascii ".get_bool_field(" ⧺ decimal o ⧺ ascii ")") ≡ Some []
   after-bool = in_member is_reader _ ∙ in_bool _ ∙ in_decimal false o _ ∙ in_close.0
 
   after-bool-mask : (m : ℕ)
       → gets_in true
       (ascii "elf." ⧺ member is_reader ⧺ ascii ".get_bool_field_mask(" ⧺ decimal o ⧺ ascii ", "
       ⧺ get_mask_text bool m ⧺ ascii ")")
-      ≡ some []
+      ≡ Some []
   after-bool-mask m =
       in_member is_reader _ ∙ in_bool_mask _ ∙ in_decimal false o _ ∙ in_comma _ ∙ in_mask bool m _ ∙ in_close.0
 
-  after-data : (t : Num) (end : Str) → gets_in true end ≡ some []
+  after-data : (t : Num) (end : Str) → gets_in true end ≡ Some []
       → gets_in true
       (ascii "elf." ⧺ member is_reader ⧺ ascii ".get_data_field::<" ⧺ type_name_of t ⧺ ascii ">(" ⧺ decimal o ⧺ end)
-      ≡ some []
+      ≡ Some []
   after-data t end ends = in_member is_reader _ ∙ in_data _ ∙ in_name t _ ∙ in_offset _ ∙ in_decimal false o _ ∙ ends
 
-  after-data-mask : (t : Num) (k : Kind) (m : ℕ) (end : Str) → gets_in true end ≡ some []
+  after-data-mask : (t : Num) (k : Kind) (m : ℕ) (end : Str) → gets_in true end ≡ Some []
       → gets_in true
       (ascii "elf." ⧺ member is_reader ⧺ ascii ".get_data_field_mask::<" ⧺ type_name_of t ⧺ ascii ">(" ⧺ decimal o ⧺ ascii ", "
       ⧺ get_mask_text k m ⧺ end)
-      ≡ some []
+      ≡ Some []
   after-data-mask t k m end ends =
       in_member is_reader _ ∙ in_data_mask _ ∙ in_name t _ ∙ in_offset _ ∙ in_decimal false o _ ∙ in_comma _
       ∙ in_mask k m _ ∙ ends
 
 pub gets-line : (is_reader : Bool) (k : Kind) (o : ℕ) (m : Option ℕ) → MaskFits k m
-    → gets_in false (get_line is_reader k o (map_o (get_mask_text k) m)) ≡ some ((place_of k o, mask_bits m) ∷ [])
+    → gets_in false (get_line is_reader k o (map_o (get_mask_text k) m)) ≡ Some ((place_of k o, mask_bits m) ∷ [])
 unfolding gets
-gets-line true bool o none h = rw get-bool (one-get _ [] refl (simp parts) (after-bool true o))
-gets-line true bool o (some m) h = rw get-bool_mask (one-get _ [] refl (simp (parts, get-truth m h)) (after-bool-mask true o m))
-gets-line true (num t) o none h = rw get-data (one-get _ [] refl (simp parts) (after-data true o t _ in_close.0))
-gets-line true (num t) o (some m) h =
+gets-line true bool o None h = rw get-bool (one-get _ [] refl (simp parts) (after-bool true o))
+gets-line true bool o (Some m) h = rw get-bool_mask (one-get _ [] refl (simp (parts, get-truth m h)) (after-bool-mask true o m))
+gets-line true (num t) o None h = rw get-data (one-get _ [] refl (simp parts) (after-data true o t _ in_close.0))
+gets-line true (num t) o (Some m) h =
     rw get-data_mask (one-get _ [] refl (simp (parts, get_mask t m h)) (after-data-mask true o t (num t) m _ in_close.0))
-gets-line true enum o none h =
+gets-line true enum o None h =
     ap (gets_in false) (get-enum true o)
     ∙ in_front _
     ∙ one-get _ (ascii ")") refl (simp parts) (after-data true o (uint Two) _ in_close.1)
-gets-line true enum o (some m) h =
+gets-line true enum o (Some m) h =
     ap (gets_in false) (get-enum_mask true o (get_mask_text enum m))
     ∙ in_front _
     ∙ one-get _ (ascii ")") refl (simp (parts, get_mask_enum m h)) (after-data-mask true o (uint Two) enum m _ in_close.1)
-gets-line false bool o none h = rw get-bool (one-get _ [] refl (simp parts) (after-bool false o))
-gets-line false bool o (some m) h = rw get-bool_mask (one-get _ [] refl (simp (parts, get-truth m h)) (after-bool-mask false o m))
-gets-line false (num t) o none h = rw get-data (one-get _ [] refl (simp parts) (after-data false o t _ in_close.0))
-gets-line false (num t) o (some m) h =
+gets-line false bool o None h = rw get-bool (one-get _ [] refl (simp parts) (after-bool false o))
+gets-line false bool o (Some m) h = rw get-bool_mask (one-get _ [] refl (simp (parts, get-truth m h)) (after-bool-mask false o m))
+gets-line false (num t) o None h = rw get-data (one-get _ [] refl (simp parts) (after-data false o t _ in_close.0))
+gets-line false (num t) o (Some m) h =
     rw get-data_mask (one-get _ [] refl (simp (parts, get_mask t m h)) (after-data-mask false o t (num t) m _ in_close.0))
-gets-line false enum o none h =
+gets-line false enum o None h =
     ap (gets_in false) (get-enum false o)
     ∙ in_front _
     ∙ one-get _ (ascii ")") refl (simp parts) (after-data false o (uint Two) _ in_close.1)
-gets-line false enum o (some m) h =
+gets-line false enum o (Some m) h =
     ap (gets_in false) (get-enum_mask false o (get_mask_text enum m))
     ∙ in_front _
     ∙ one-get _ (ascii ")") refl (simp (parts, get_mask_enum m h)) (after-data-mask false o (uint Two) enum m _ in_close.1)

@@ -2,7 +2,7 @@
 use Rattle.std.specs.Prelude.{◌≡◌, ℕ, zero, suc, ◌+◌, ◌-◌, ◌/◌, ◌%◌, ◌^◌, ◌<◌, ◌≤◌}
 use Rattle.std.specs.Prelude.{Bool, true, false, eqb, ltb, List, [], ◌∷◌, ◌++◌}
 use mathlib.Core.Path.{refl, ap, ap₂, ◌∙◌, fun_ext}
-use mathlib.Core.Option.{Option, none, some}
+use Rattle.std.specs.Prelude.{Option, None, Some}
 use mathlib.Core.List.{append_assoc}
 use native.Mathlib.Omega.{arith}
 use borrow.Author.Tests.{ne_eqb, ltb-true, ltb-false}
@@ -88,7 +88,7 @@ pub ruleset wholes = (whole_append, whole-decimal, whole-name, whole-get_mask, w
 -- ---- a line says an operation: its text is the operation's, has no space in front and is one line
 
 pub record Says (l : Str) (o : Op) : Type 0 where
-  pub reads : writes l ≡ some (o, [])
+  pub reads : writes l ≡ Some (o, [])
   pub tight : trim l ≡ l
   pub one : whole l ≡ true
 
@@ -97,20 +97,20 @@ pub says-set : (k : Kind) (o : ℕ) (m : Option ℕ) → MaskFits k m
 says-set k o m h = record { reads = writes-set k o m h; tight = tight k m; one = one k m }
   where
     tight : (k : Kind) (m : Option ℕ) → trim (set_line k o (map_o (set_mask_text k) m)) ≡ set_line k o (map_o (set_mask_text k) m)
-    tight bool none = unfold set_bool_field in refl
-    tight bool (some m) = unfold set_bool_field in refl
-    tight (num t) none = unfold set_data_field in refl
-    tight (num t) (some m) = unfold set_data_field in refl
-    tight enum none = unfold set_data_field in refl
-    tight enum (some m) = unfold set_data_field in refl
+    tight bool None = unfold set_bool_field in refl
+    tight bool (Some m) = unfold set_bool_field in refl
+    tight (num t) None = unfold set_data_field in refl
+    tight (num t) (Some m) = unfold set_data_field in refl
+    tight enum None = unfold set_data_field in refl
+    tight enum (Some m) = unfold set_data_field in refl
 
     one : (k : Kind) (m : Option ℕ) → whole (set_line k o (map_o (set_mask_text k) m)) ≡ true
-    one bool none = unfold set_bool_field in simp wholes
-    one bool (some m) = unfold set_bool_field in simp wholes
-    one (num t) none = unfold set_data_field in simp wholes
-    one (num t) (some m) = unfold set_data_field in simp wholes
-    one enum none = unfold set_data_field in simp wholes
-    one enum (some m) = unfold set_data_field in simp wholes
+    one bool None = unfold set_bool_field in simp wholes
+    one bool (Some m) = unfold set_bool_field in simp wholes
+    one (num t) None = unfold set_data_field in simp wholes
+    one (num t) (Some m) = unfold set_data_field in simp wholes
+    one enum None = unfold set_data_field in simp wholes
+    one enum (Some m) = unfold set_data_field in simp wholes
 
 pub says_tag : (o n : ℕ) → n < 2 ^ 16 → Says (set_tag o n) (set_op (tag_place o) (constant n) 0)
 unfolding set_data_field
@@ -136,18 +136,18 @@ says-zero (of_pointer i) = record { reads = writes-clear i; tight = refl; one = 
 pub whole-get : (is_reader : Bool) (k : Kind) (o : ℕ) (m : Option ℕ)
     → whole (get_line is_reader k o (map_o (get_mask_text k) m)) ≡ true
 unfolding get_bool_field get_data_field
-whole-get true bool o none = simp wholes
-whole-get true bool o (some m) = simp wholes
-whole-get true (num t) o none = simp wholes
-whole-get true (num t) o (some m) = simp wholes
-whole-get true enum o none = simp wholes
-whole-get true enum o (some m) = simp wholes
-whole-get false bool o none = simp wholes
-whole-get false bool o (some m) = simp wholes
-whole-get false (num t) o none = simp wholes
-whole-get false (num t) o (some m) = simp wholes
-whole-get false enum o none = simp wholes
-whole-get false enum o (some m) = simp wholes
+whole-get true bool o None = simp wholes
+whole-get true bool o (Some m) = simp wholes
+whole-get true (num t) o None = simp wholes
+whole-get true (num t) o (Some m) = simp wholes
+whole-get true enum o None = simp wholes
+whole-get true enum o (Some m) = simp wholes
+whole-get false bool o None = simp wholes
+whole-get false bool o (Some m) = simp wholes
+whole-get false (num t) o None = simp wholes
+whole-get false (num t) o (Some m) = simp wholes
+whole-get false enum o None = simp wholes
+whole-get false enum o (Some m) = simp wholes
 
 pub whole-null : (is_reader : Bool) (i : ℕ) → whole (not_null is_reader i) ≡ true
 unfolding not_null
@@ -213,7 +213,7 @@ wholes_indented n (add l h t) w = add (spaces n ++ l) (whole-indented n l ∙ h)
 
 -- operations one after another
 unfoldable pub run_ops : Option ℕ → List Op → Record → Option Record
-run_ops v [] r = some r
+run_ops v [] r = Some r
 run_ops v (o ∷ os) r = bind_o (run_op v o r) (run_ops v os)
 
 pub data Saying : List Str → List Op → Type 0 where
@@ -224,7 +224,7 @@ pub wholes_saying : {ls : List Str} {os : List Op} → Saying ls os → Wholes l
 wholes_saying nil = Wholes.nil
 wholes_saying (add {l = l} s t) = Wholes.add l s.one (wholes_saying t)
 
-pub run_says : (v : Option ℕ) (l : Str) (o : Op) (r : Record) → writes l ≡ some (o, []) → run_line v l r ≡ run_op v o r
+pub run_says : (v : Option ℕ) (l : Str) (o : Op) (r : Record) → writes l ≡ Some (o, []) → run_line v l r ≡ run_op v o r
 unfolding run_line writes
 run_says v [] o r e = cc
 run_says v (c ∷ l) o r e = rw e
@@ -242,6 +242,6 @@ front-last : (a : Str) (l : List Str) (x : Str) → prepend a (l ++ (x ∷ [])) 
 front-last a [] x = refl
 front-last a (b ∷ l) x = ap (λ (y : List Str). a ∷ y) (front-last b l x)
 
-pub inner-body : (a b z : Str) (ls : List Str) → inner (a ∷ b ∷ (ls ++ (z ∷ []))) ≡ some ls
+pub inner-body : (a b z : Str) (ls : List Str) → inner (a ∷ b ∷ (ls ++ (z ∷ []))) ≡ Some ls
 inner-body a b z [] = refl
-inner-body a b z (l ∷ ls) = ap some (front-last l ls z)
+inner-body a b z (l ∷ ls) = ap Some (front-last l ls z)

@@ -2,7 +2,7 @@
 -- rules. Assumes nothing.
 use Rattle.std.specs.Prelude.{◌≡◌, ℕ, zero, suc, ◌+◌, ◌^◌, ◌<◌, ◌≤◌, Bool, true, false, eqb, List}
 use mathlib.Core.Path.{refl, sym, ap, ◌∙◌}
-use mathlib.Core.Option.{Option, none, some}
+use Rattle.std.specs.Prelude.{Option, None, Some}
 use native.Mathlib.Nat.{pow-suc}
 use native.Mathlib.Omega.{arith}
 use lib.Bits.{bit_xor, xor_lt, xor_zero_r}
@@ -24,8 +24,8 @@ slot-size enum o = refl
 
 -- no mask, or one whose bits fit
 pub mask_below : (k : Kind) (m : Option ℕ) → MaskFits k m → mask_bits m < 2 ^ slot_bits k
-mask_below k none h = pow_pos (slot_bits k)
-mask_below k (some m) h = h
+mask_below k None h = pow_pos (slot_bits k)
+mask_below k (Some m) h = h
 
 -- a number has fewer bits than it counts
 few_bits : (n k : ℕ) → n ≤ k → n < 2 ^ k
@@ -48,7 +48,7 @@ xor_twice v m =
 pub get_mask_bits : (k : Kind) (d : ℕ) (explicit : Bool) → mask_bits (get_mask k d explicit) ≡ d
 get_mask_bits k d explicit = go (eqb d 0) refl
   where
-    go : (b : Bool) → eqb d 0 ≡ b → mask_bits (cond b none (some d)) ≡ d
+    go : (b : Bool) → eqb d 0 ≡ b → mask_bits (cond b None (Some d)) ≡ d
     go true e = sym (eqb-true d 0 e)
     go false e = refl
 
@@ -62,11 +62,11 @@ alone d v = ap (λ (x : ℕ). bit_xor x d) (xor_zero_r v)
 
 -- a float, whose sign is its top bit
 float : (top d v : ℕ)
-    → bit_xor (bit_xor v (mask_bits (cond (either (eqb d 0) (eqb d top)) none (some d)))) d ≡ cond (eqb d top) (bit_xor v top) v
+    → bit_xor (bit_xor v (mask_bits (cond (either (eqb d 0) (eqb d top)) None (Some d)))) d ≡ cond (eqb d top) (bit_xor v top) v
 float top d v = go (eqb d 0) refl (eqb d top) refl
   where
     go : (a : Bool) → eqb d 0 ≡ a → (b : Bool) → eqb d top ≡ b
-        → bit_xor (bit_xor v (mask_bits (cond (either a b) none (some d)))) d ≡ cond b (bit_xor v top) v
+        → bit_xor (bit_xor v (mask_bits (cond (either a b) None (Some d)))) d ≡ cond b (bit_xor v top) v
     go true e true f = alone d v ∙ ap (bit_xor v) (eqb-true d top f)
     go true e false f = agree d v 0 (sym (eqb-true d 0 e))
     go false e true f = alone d v ∙ ap (bit_xor v) (eqb-true d top f)

@@ -2,7 +2,7 @@
 -- number goes by its last digit; closed text computes. Assumes nothing.
 use Rattle.std.specs.Prelude.{◌≡◌, ℕ, zero, suc, ◌+◌, ◌-◌, ◌*◌, ◌/◌, ◌%◌, ◌^◌, ◌<◌, ◌≤◌, Bool, true, false, ltb, ◌∷◌, ◌++◌}
 use mathlib.Core.Path.{refl, ap, ◌∙◌}
-use mathlib.Core.Option.{some}
+use Rattle.std.specs.Prelude.{Some}
 use mathlib.Core.List.{append_assoc}
 use native.Mathlib.Nat.{mod-lt, zero-lt-suc, div-add-mod'}
 use native.Mathlib.Omega.{arith}
@@ -28,28 +28,28 @@ digits-one k x s h =
     let e : 48 + x - 48 ≡ x = omega arith in
     rw (is_digit_lem x h, e)
 
-number-one : (x : ℕ) (s : Str) → x < 10 → numeral ((48 + x) ∷ s) ≡ some (digits_from x s)
+number-one : (x : ℕ) (s : Str) → x < 10 → numeral ((48 + x) ∷ s) ≡ Some (digits_from x s)
 number-one x s h =
     let e : 0 * 10 + (48 + x - 48) ≡ x = omega arith in
     rw (is_digit_lem x h, e)
 
 -- a number that is written is read again, and what follows goes on
-pub number-decimal : (n : ℕ) (s : Str) → numeral (decimal n ++ s) ≡ some (digits_from n s)
+pub number-decimal : (n : ℕ) (s : Str) → numeral (decimal n ++ s) ≡ Some (digits_from n s)
 number-decimal n s = go n n (omega arith) s
   where
-    go : (f n : ℕ) → n ≤ f → (s : Str) → numeral (decimal n ++ s) ≡ some (digits_from n s)
+    go : (f n : ℕ) → n ≤ f → (s : Str) → numeral (decimal n ++ s) ≡ Some (digits_from n s)
     go zero n h s = rw (decimal-low n (omega arith)) (number-one n s (omega arith))
     go (suc f) n h s = pick (ltb n 10) refl (λ k. go f (n / 10) k ((48 + n % 10) ∷ s))
       where
         pick : (b : Bool) → ltb n 10 ≡ b
-            → (n / 10 ≤ f → numeral (decimal (n / 10) ++ (48 + n % 10) ∷ s) ≡ some (digits_from (n / 10) ((48 + n % 10) ∷ s)))
-            → numeral (decimal n ++ s) ≡ some (digits_from n s)
+            → (n / 10 ≤ f → numeral (decimal (n / 10) ++ (48 + n % 10) ∷ s) ≡ Some (digits_from (n / 10) ((48 + n % 10) ∷ s)))
+            → numeral (decimal n ++ s) ≡ Some (digits_from n s)
         pick true e ih = rw (decimal-low n (ltb-true n 10 e)) (number-one n s (ltb-true n 10 e))
         pick false e ih =
             let big = ltb-false n 10 e in
             rw (decimal-high n big, append_assoc)
             (ih (omega arith)
-            ∙ ap some
+            ∙ ap Some
             (digits-one (n / 10) (n % 10) s (mod-lt n (zero-lt-suc 9)) ∙ ap (λ (y : ℕ). digits_from y s) (div-add-mod' n 10)))
 
 -- ---- types
@@ -70,35 +70,35 @@ by_type P a b c d e f g h i j (uint Eight) = h
 by_type P a b c d e f g h i j float32 = i
 by_type P a b c d e f g h i j float64 = j
 
-pub type-name : (t : Num) (s : Str) → type_name (type_name_of t ++ s) ≡ some (t, s)
+pub type-name : (t : Num) (s : Str) → type_name (type_name_of t ++ s) ≡ Some (t, s)
 unfolding type_name
-type-name t s = by_type (λ t. type_name (type_name_of t ++ s) ≡ some (t, s)) refl refl refl refl refl refl refl refl refl refl t
+type-name t s = by_type (λ t. type_name (type_name_of t ++ s) ≡ Some (t, s)) refl refl refl refl refl refl refl refl refl refl t
 
-pub type_u16 : (s : Str) → type_name (ascii "u16" ++ s) ≡ some (uint Two, s)
+pub type_u16 : (s : Str) → type_name (ascii "u16" ++ s) ≡ Some (uint Two, s)
 type_u16 s = type-name (uint Two) s
 
 -- ---- masks; each is followed by a closing parenthesis
 
-pub truth_mask : (m : ℕ) → m < 2 → (s : Str) → truth (set_mask_text bool m ++ s) ≡ some (m, s)
+pub truth_mask : (m : ℕ) → m < 2 → (s : Str) → truth (set_mask_text bool m ++ s) ≡ Some (m, s)
 unfolding truth set_mask_text
 truth_mask zero h s = refl
 truth_mask (suc zero) h s = refl
 truth_mask (suc (suc m)) h s = let z : ⊥ = omega arith in absurd z
 
-pub get-truth : (m : ℕ) → m < 2 → (s : Str) → truth (get_mask_text bool m ++ s) ≡ some (m, s)
+pub get-truth : (m : ℕ) → m < 2 → (s : Str) → truth (get_mask_text bool m ++ s) ≡ Some (m, s)
 unfolding set_mask_text get_mask_text
 get-truth m h s = truth_mask m h s
 
-below-decimal : (n k : ℕ) → k < n → (s : Str) → below n (decimal k ++ 41 ∷ s) ≡ some (k, 41 ∷ s)
+below-decimal : (n k : ℕ) → k < n → (s : Str) → below n (decimal k ++ 41 ∷ s) ≡ Some (k, 41 ∷ s)
 below-decimal n k h s = rw (number-decimal, lt-ltb k n h)
 
-below-ended : (n k c : ℕ) → k < n → (s : Str) → digit_byte c ≡ false → below n (decimal k ++ c ∷ s) ≡ some (k, c ∷ s)
+below-ended : (n k c : ℕ) → k < n → (s : Str) → digit_byte c ≡ false → below n (decimal k ++ c ∷ s) ≡ Some (k, c ∷ s)
 below-ended n k c h s e = rw (number-decimal, e, lt-ltb k n h)
 
-signed-read : (half m : ℕ) → m < half + half → (s : Str) → signed_number half (signed half m ++ 41 ∷ s) ≡ some (m, 41 ∷ s)
+signed-read : (half m : ℕ) → m < half + half → (s : Str) → signed_number half (signed half m ++ 41 ∷ s) ≡ Some (m, 41 ∷ s)
 signed-read half m h s = go (ltb m half) refl
   where
-    go : (b : Bool) → ltb m half ≡ b → signed_number half (signed half m ++ 41 ∷ s) ≡ some (m, 41 ∷ s)
+    go : (b : Bool) → ltb m half ≡ b → signed_number half (signed half m ++ 41 ∷ s) ≡ Some (m, 41 ∷ s)
     go true e = rw (signed_low half m (ltb-true m half e), below-decimal half m (ltb-true m half e) s)
     go false e =
         let l = ltb-false m half e in
@@ -114,7 +114,7 @@ double Four = refl
 double Eight = refl
 
 pub get_mask : (t : Num) (m : ℕ) → m < 2 ^ bits_of t → (s : Str)
-    → get_mask_of t (get_mask_text (num t) m ++ 41 ∷ s) ≡ some (m, 41 ∷ s)
+    → get_mask_of t (get_mask_text (num t) m ++ 41 ∷ s) ≡ Some (m, 41 ∷ s)
 unfolding get_mask_of get_mask_text
 get_mask (int w) m h s = signed-read (half_of w) m (rw (← double w) h) s
 get_mask (uint w) m h s = below-decimal (2 ^ bits_of (uint w)) m h s
@@ -122,7 +122,7 @@ get_mask float32 m h s = below-decimal (2 ^ 32) m h s
 get_mask float64 m h s = below-decimal (2 ^ 64) m h s
 
 pub set_mask : (t : Num) (m : ℕ) → m < 2 ^ bits_of t → (s : Str)
-    → set_mask_of t (set_mask_text (num t) m ++ 41 ∷ s) ≡ some (m, 41 ∷ s)
+    → set_mask_of t (set_mask_text (num t) m ++ 41 ∷ s) ≡ Some (m, 41 ∷ s)
 unfolding set_mask_of set_mask_text
 set_mask (int w) m h s = signed-read (half_of w) m (rw (← double w) h) s
 set_mask (uint w) m h s = below-decimal (2 ^ bits_of (uint w)) m h s
@@ -130,53 +130,53 @@ set_mask float32 m h s = rw (append_assoc, below-ended (2 ^ 32) m 117 h _ refl)
 set_mask float64 m h s = rw (append_assoc, below-ended (2 ^ 64) m 117 h _ refl)
 
 -- an enum's masks are those of its number
-pub get_mask_enum : (m : ℕ) → m < 2 ^ 16 → (s : Str) → get_mask_of (uint Two) (get_mask_text enum m ++ 41 ∷ s) ≡ some (m, 41 ∷ s)
+pub get_mask_enum : (m : ℕ) → m < 2 ^ 16 → (s : Str) → get_mask_of (uint Two) (get_mask_text enum m ++ 41 ∷ s) ≡ Some (m, 41 ∷ s)
 unfolding get_mask_text
 get_mask_enum m h s = get_mask (uint Two) m h s
 
-pub set_mask_enum : (m : ℕ) → m < 2 ^ 16 → (s : Str) → set_mask_of (uint Two) (set_mask_text enum m ++ 41 ∷ s) ≡ some (m, 41 ∷ s)
+pub set_mask_enum : (m : ℕ) → m < 2 ^ 16 → (s : Str) → set_mask_of (uint Two) (set_mask_text enum m ++ 41 ∷ s) ≡ Some (m, 41 ∷ s)
 unfolding set_mask_text
 set_mask_enum m h s = set_mask (uint Two) m h s
 
 -- ---- what is set
 
-pub arg_value : (t : Num) (s : Str) → data_arg t (ascii "value" ++ 41 ∷ s) ≡ some (value, 41 ∷ s)
+pub arg_value : (t : Num) (s : Str) → data_arg t (ascii "value" ++ 41 ∷ s) ≡ Some (value, 41 ∷ s)
 unfolding data_arg
 arg_value t s =
-    by_type (λ t. data_arg t (ascii "value" ++ 41 ∷ s) ≡ some (value, 41 ∷ s)) refl refl refl refl refl refl refl refl refl refl t
+    by_type (λ t. data_arg t (ascii "value" ++ 41 ∷ s) ≡ Some (value, 41 ∷ s)) refl refl refl refl refl refl refl refl refl refl t
 
-pub arg_value_mask : (t : Num) (s : Str) → data_arg t (ascii "value" ++ 44 ∷ s) ≡ some (value, 44 ∷ s)
+pub arg_value_mask : (t : Num) (s : Str) → data_arg t (ascii "value" ++ 44 ∷ s) ≡ Some (value, 44 ∷ s)
 unfolding data_arg
 arg_value_mask t s =
-    by_type (λ t. data_arg t (ascii "value" ++ 44 ∷ s) ≡ some (value, 44 ∷ s)) refl refl refl refl refl refl refl refl refl refl t
+    by_type (λ t. data_arg t (ascii "value" ++ 44 ∷ s) ≡ Some (value, 44 ∷ s)) refl refl refl refl refl refl refl refl refl refl t
 
-pub arg_enum : (s : Str) → data_arg (uint Two) (ascii "value as u16" ++ s) ≡ some (value, s)
+pub arg_enum : (s : Str) → data_arg (uint Two) (ascii "value as u16" ++ s) ≡ Some (value, s)
 unfolding data_arg
 arg_enum s = refl
 
 -- a tag's number
-pub arg_tag : (n : ℕ) → n < 2 ^ 16 → (s : Str) → data_arg (uint Two) (decimal n ++ 41 ∷ s) ≡ some (constant n, 41 ∷ s)
+pub arg_tag : (n : ℕ) → n < 2 ^ 16 → (s : Str) → data_arg (uint Two) (decimal n ++ 41 ∷ s) ≡ Some (constant n, 41 ∷ s)
 unfolding data_arg
 arg_tag n h s = rw (below-decimal (2 ^ 16) n h s)
 
 -- zero, with the type's name behind it
-pub arg_zero : (t : Num) (s : Str) → data_arg t (48 ∷ (type_name_of t ++ s)) ≡ some (constant 0, s)
+pub arg_zero : (t : Num) (s : Str) → data_arg t (48 ∷ (type_name_of t ++ s)) ≡ Some (constant 0, s)
 unfolding data_arg
 arg_zero t s =
-    by_type (λ t. data_arg t (48 ∷ (type_name_of t ++ s)) ≡ some (constant 0, s))
+    by_type (λ t. data_arg t (48 ∷ (type_name_of t ++ s)) ≡ Some (constant 0, s))
     refl refl refl refl refl refl refl refl refl refl t
 
-pub arg_zero_u16 : (s : Str) → data_arg (uint Two) (ascii "0u16" ++ s) ≡ some (constant 0, s)
+pub arg_zero_u16 : (s : Str) → data_arg (uint Two) (ascii "0u16" ++ s) ≡ Some (constant 0, s)
 arg_zero_u16 s = arg_zero (uint Two) s
 
-pub arg_zero_tag : (s : Str) → data_arg (uint Two) (48 ∷ 41 ∷ s) ≡ some (constant 0, 41 ∷ s)
+pub arg_zero_tag : (s : Str) → data_arg (uint Two) (48 ∷ 41 ∷ s) ≡ Some (constant 0, 41 ∷ s)
 unfolding data_arg
 arg_zero_tag s = refl
 
-pub bool-value : (s : Str) → bool_arg (ascii "value" ++ s) ≡ some (value, s)
+pub bool-value : (s : Str) → bool_arg (ascii "value" ++ s) ≡ Some (value, s)
 unfolding bool_arg truth
 bool-value s = refl
 
-pub bool_false : (s : Str) → bool_arg (ascii "false" ++ s) ≡ some (constant 0, s)
+pub bool_false : (s : Str) → bool_arg (ascii "false" ++ s) ≡ Some (constant 0, s)
 unfolding bool_arg truth
 bool_false s = refl

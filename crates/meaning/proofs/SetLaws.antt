@@ -3,7 +3,7 @@
 use Rattle.std.specs.Prelude.{◌≡◌, ℕ, ◌^◌, ◌<◌, true, List, [], ◌∷◌, ◌++◌}
 use mathlib.Core.Path.{refl, sym, ap, ◌∙◌, subst, fun_ext}
 use mathlib.Core.Logic.{inl, inr}
-use mathlib.Core.Option.{Option, none, some}
+use Rattle.std.specs.Prelude.{Option, None, Some}
 use native.Mathlib.Omega.{arith}
 use Rattle.text.specs.Bytes.{Str, ascii}
 use Rattle.text.specs.Lines.{FormattedTexts, Indent, Branch, Line, none as no_more, ◌&◌, to_lines, flat_map, stringify, spaces}
@@ -39,7 +39,7 @@ body-lines (l ∷ ls) = ap (λ (x : List Str). (spaces 4 ++ l) ∷ x) (body-line
 
 -- the lines between the first two and the last
 pub function-inner : (opening : Str) (ls : List Str) → whole opening ≡ true → Wholes ls
-    → inner (lines (function_text opening (body ls))) ≡ some (indented 4 ls)
+    → inner (lines (function_text opening (body ls))) ≡ Some (indented 4 ls)
 unfolding function_text to_lines flat_map
 function-inner opening ls h w =
     ap inner
@@ -52,9 +52,9 @@ function-inner opening ls h w =
 
 -- a setter's text does what its lines say
 pub setter-runs : {ls : List Str} {os : List Op} (opening : Str) → whole opening ≡ true → Saying ls os → (v : ℕ) (r : Record)
-    → run_setter (function_text opening (body ls)) v r ≡ run_ops (some v) os r
+    → run_setter (function_text opening (body ls)) v r ≡ run_ops (Some v) os r
 unfolding run_setter
-setter-runs {ls} opening h s v r = rw (function-inner opening ls h (wholes_saying s)) (run_lines_lem (some v) 4 s r)
+setter-runs {ls} opening h s v r = rw (function-inner opening ls h (wholes_saying s)) (run_lines_lem (Some v) 4 s r)
 
 -- A GETTER: its text is its one get
 pub get_holds : TextGetHolds
@@ -68,40 +68,40 @@ get_holds typ is_reader k o m r h f =
 -- ---- the tag
 
 abbrev tag_ops : Option Tag → List Op
-tag_ops none = []
-tag_ops (some t) = set_op (tag_place t.0) (constant t.1) 0 ∷ []
+tag_ops None = []
+tag_ops (Some t) = set_op (tag_place t.0) (constant t.1) 0 ∷ []
 
 abbrev tagged : Option Tag → Record → Record
-tagged none r = r
-tagged (some t) r = after (tag_place t.0) t.1 0 r
+tagged None r = r
+tagged (Some t) r = after (tag_place t.0) t.1 0 r
 
 tag_same : (tag : Option Tag) (r : Record) → TagHolds tag r → Same (TagHas tag) r (tagged tag r)
-tag_same none r h = record { length-same = refl; bits-same = λ b _. refl; pointers-same = refl }
-tag_same (some t) r h = after_same (tag_place t.0) t.1 0 r h
+tag_same None r h = record { length-same = refl; bits-same = λ b _. refl; pointers-same = refl }
+tag_same (Some t) r h = after_same (tag_place t.0) t.1 0 r h
 
 tag_is : (tag : Option Tag) (r : Record) → TagFits tag → TagHolds tag r → TagIs tag (tagged tag r)
-tag_is none r f h = tt
-tag_is (some t) r f h = get_set (tag_place t.0) t.1 0 r h f
+tag_is None r f h = tt
+tag_is (Some t) r f h = get_set (tag_place t.0) t.1 0 r h f
 
 -- the lines of a setter's body
 abbrev tag_lines : Option Tag → List Str → List Str
-tag_lines none more = more
-tag_lines (some t) more = set_tag t.0 t.1 ∷ more
+tag_lines None more = more
+tag_lines (Some t) more = set_tag t.0 t.1 ∷ more
 
 body_tag : (tag : Option Tag) (more : List Str) → tag_then tag (body more) ≡ body (tag_lines tag more)
-body_tag none more = refl
-body_tag (some t) more = refl
+body_tag None more = refl
+body_tag (Some t) more = refl
 
 saying_tag : (tag : Option Tag) → TagFits tag → {ls : List Str} {os : List Op} → Saying ls os
     → Saying (tag_lines tag ls) (tag_ops tag ++ os)
-saying_tag none f s = s
-saying_tag (some t) f s = Saying.add (says_tag t.0 t.1 f) s
+saying_tag None f s = s
+saying_tag (Some t) f s = Saying.add (says_tag t.0 t.1 f) s
 
 -- a setter's text: its tag, then what its other lines say
 pub tagged-runs : {ls : List Str} {os : List Op} (opening : Str) → whole opening ≡ true → (tag : Option Tag) → TagFits tag
     → Saying ls os
     → (v : ℕ) (r : Record)
-    → run_setter (function_text opening (tag_then tag (body ls))) v r ≡ run_ops (some v) (tag_ops tag ++ os) r
+    → run_setter (function_text opening (tag_then tag (body ls))) v r ≡ run_ops (Some v) (tag_ops tag ++ os) r
 tagged-runs {ls} opening h tag f s v r =
     ap (λ (b : FormattedTexts). run_setter (function_text opening b) v r) (body_tag tag ls)
     ∙ setter-runs opening h (saying_tag tag f s) v r
@@ -111,56 +111,56 @@ tagged-runs {ls} opening h tag f s v r =
 run_tag : (v : Option ℕ) (tag : Option Tag) (os : List Op) (r : Record)
     → run_ops v (tag_ops tag ++ os) r ≡ bind_o (void_leaves tag r) (run_ops v os)
 unfolding run_ops run_op
-run_tag v none os r = refl
-run_tag v (some t) os r = refl
+run_tag v None os r = refl
+run_tag v (Some t) os r = refl
 
 run_end : (v : Option ℕ) (o : Option Record) → bind_o o (run_ops v []) ≡ o
 unfolding run_ops
-run_end v none = refl
-run_end v (some r) = refl
+run_end v None = refl
+run_end v (Some r) = refl
 
-run_set : (p : Place) (m v : ℕ) (r : Record) → run_ops (some v) (set_op p value m ∷ []) r ≡ put_value p v m r
+run_set : (p : Place) (m v : ℕ) (r : Record) → run_ops (Some v) (set_op p value m ∷ []) r ≡ put_value p v m r
 unfolding run_ops run_op
-run_set p m v r = run_end (some v) (put_value p v m r)
+run_set p m v r = run_end (Some v) (put_value p v m r)
 
 -- A SETTER: the tag's write, then the value's
 pub set_holds : TextSetHolds
 set_holds opening tag k o ms v r h f fs =
     let p : Place = place_of k o in
     tagged-runs opening h tag f (Saying.add (says-set k o ms fs) Saying.nil) v r
-    ∙ run_tag (some v) tag (set_op p value (mask_bits ms) ∷ []) r
+    ∙ run_tag (Some v) tag (set_op p value (mask_bits ms) ∷ []) r
     ∙ ap (λ (f : Record → Option Record). bind_o (void_leaves tag r) f) (fun_ext (λ x. run_set p (mask_bits ms) v x))
 
 pub void-holds : TextVoidHolds
 void-holds opening tag v r h f =
-    tagged-runs opening h tag f Saying.nil v r ∙ run_tag (some v) tag [] r ∙ run_end (some v) (void_leaves tag r)
+    tagged-runs opening h tag f Saying.nil v r ∙ run_tag (Some v) tag [] r ∙ run_end (Some v) (void_leaves tag r)
 
 -- ---- where it has a meaning
 
-void-left : (tag : Option Tag) (r : Record) → TagHolds tag r → void_leaves tag r ≡ some (tagged tag r)
-void-left none r t = refl
-void-left (some x) r t = put-inside (tag_place x.0) x.1 0 r t
+void-left : (tag : Option Tag) (r : Record) → TagHolds tag r → void_leaves tag r ≡ Some (tagged tag r)
+void-left None r t = refl
+void-left (Some x) r t = put-inside (tag_place x.0) x.1 0 r t
 
 -- the slot is held after the tag's write where it was held before
 still_held : (tag : Option Tag) (p : Place) (r : Record) → TagHolds tag r → Holds p r → Holds p (tagged tag r)
 still_held tag p r t h = rw (tag_same tag r t).length-same h
 
 setter-left : (tag : Option Tag) (p : Place) (v m : ℕ) (r : Record) → Holds p r → TagHolds tag r
-    → setter_leaves tag p v m r ≡ some (after p v m (tagged tag r))
+    → setter_leaves tag p v m r ≡ Some (after p v m (tagged tag r))
 setter-left tag p v m r h t =
     ap (λ (o : Option Record). bind_o o (put_value p v m)) (void-left tag r t)
     ∙ put-inside p v m (tagged tag r) (still_held tag p r t h)
 
 -- a bind that gives something: so did what it is made of
-bind-some : (o : Option Record) (f : Record → Option Record) (s : Record) → bind_o o f ≡ some s
-    → (x : Record) × (o ≡ some x) × (f x ≡ some s)
-bind-some none f s e = let z : ◌≡◌ {A = ℕ} 0 1 = cc in absurd (omega arith)
-bind-some (some x) f s e = (x, refl, e)
+bind-some : (o : Option Record) (f : Record → Option Record) (s : Record) → bind_o o f ≡ Some s
+    → (x : Record) × (o ≡ Some x) × (f x ≡ Some s)
+bind-some None f s e = let z : ◌≡◌ {A = ℕ} 0 1 = cc in absurd (omega arith)
+bind-some (Some x) f s e = (x, refl, e)
 
-setter-held : (tag : Option Tag) (p : Place) (v m : ℕ) (r s : Record) → setter_leaves tag p v m r ≡ some s
+setter-held : (tag : Option Tag) (p : Place) (v m : ℕ) (r s : Record) → setter_leaves tag p v m r ≡ Some s
     → Holds p r × TagHolds tag r
-setter-held none p v m r s e = (put-held p v m r s e, tt)
-setter-held (some t) p v m r s e =
+setter-held None p v m r s e = (put-held p v m r s e, tt)
+setter-held (Some t) p v m r s e =
     let q : Place = tag_place t.0 in
     let x = bind-some (put_value q t.1 0 r) (put_value p v m) s e in
     (rw (put-length q t.1 0 r x.0 x.1) at (put-held p v m x.0 s x.2), put-held q t.1 0 r x.0 x.1)
@@ -174,9 +174,9 @@ setter_means tag p v m r =
 -- the tag stands after the set, where the two have no bit in common
 tag_stays : (tag : Option Tag) (p : Place) (v m : ℕ) (r : Record) → TagFits tag → TagHolds tag r → Holds p (tagged tag r)
     → TagClear tag p → TagIs tag (after p v m (tagged tag r))
-tag_stays none p v m r f t h c = tt
-tag_stays (some x) p v m r f t h c =
-    get_other p v m (after (tag_place x.0) x.1 0 r) h (tag_place x.0) 0 c ∙ tag_is (some x) r f t
+tag_stays None p v m r f t h c = tt
+tag_stays (Some x) p v m r f t h c =
+    get_other p v m (after (tag_place x.0) x.1 0 r) h (tag_place x.0) 0 c ∙ tag_is (Some x) r f t
 
 left_after : (tag : Option Tag) (p : Place) (v m : ℕ) (r : Record) → TagFits tag → v < 2 ^ bit_count p → m < 2 ^ bit_count p
     → Holds p r → TagHolds tag r → SetterLeft tag p v m r (after p v m (tagged tag r))
@@ -197,7 +197,7 @@ left_after tag p v m r f hv hm h t =
 pub setter-leaves : SetterLeavesHolds
 setter-leaves tag p v m r left f hv hm e =
     let x = setter-held tag p v m r left e in
-    let d : some (after p v m (tagged tag r)) ≡ some left = sym (setter-left tag p v m r x.0 x.1) ∙ e in
+    let d : Some (after p v m (tagged tag r)) ≡ Some left = sym (setter-left tag p v m r x.0 x.1) ∙ e in
     let g : after p v m (tagged tag r) ≡ left = cc in
     subst (λ (s : Record). SetterLeft tag p v m r s) g (left_after tag p v m r f hv hm x.0 x.1)
 
@@ -223,7 +223,7 @@ set-get-holds opening tag k o ms mg v r h f fs fg hv hp t =
       left = run.0;
       runs = set_holds opening tag k o ms v r h f fs ∙ run.1;
       answers = λ typ w is_reader.
-          get_holds typ is_reader k o mg run.0 w fg ∙ ap some (x.reads (mask_bits mg) (rw n (mask_below k mg fg)));
+          get_holds typ is_reader k o mg run.0 w fg ∙ ap Some (x.reads (mask_bits mg) (rw n (mask_below k mg fg)));
       same = x.same;
       tagged = x.tagged;
     }

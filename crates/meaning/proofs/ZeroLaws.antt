@@ -4,7 +4,7 @@ use Rattle.std.specs.Prelude.{◌≡◌, ℕ, zero, suc, ◌+◌, ◌-◌, ◌^�
 use Rattle.std.specs.Prelude.{Bool, true, false, ◌⊎◌, List, [], ◌∷◌, length, get_or, replicate}
 use mathlib.Core.Path.{refl, sym, ap, ◌∙◌, subst}
 use mathlib.Core.Logic.{inl, inr}
-use mathlib.Core.Option.{none, some}
+use Rattle.std.specs.Prelude.{None, Some}
 use native.Mathlib.Omega.{arith}
 use native.Mathlib.Decide.{dec_lt, ℕ_discrete}
 use lib.Bits.{xor_zero_l}
@@ -38,7 +38,7 @@ step (of_slot k o) r = after (place_of k o) 0 0 r
 step (of_tag o) r = after (tag_place o) 0 0 r
 step (of_pointer i) r = cleared (record { 0 = i }) r
 
-step-runs : (z : Zero) (r : Record) → HoldsZero z r → run_op none (zero_op z) r ≡ some (step z r)
+step-runs : (z : Zero) (r : Record) → HoldsZero z r → run_op None (zero_op z) r ≡ Some (step z r)
 unfolding run_op
 step-runs (of_slot k o) r h = put-inside (place_of k o) 0 0 r h
 step-runs (of_tag o) r h = put-inside (tag_place o) 0 0 r h
@@ -144,7 +144,7 @@ here z zs r h = h z (inl refl)
 rest : (z : Zero) (zs : List Zero) (r : Record) → Holding (z ∷ zs) r → Holding zs (step z r)
 rest z zs r h y i = step-holds z y r (h z (inl refl)) (h y (inr i))
 
-steps_run : (zs : List Zero) (r : Record) → Holding zs r → run_ops none (ops zs) r ≡ some (steps zs r)
+steps_run : (zs : List Zero) (r : Record) → Holding zs r → run_ops None (ops zs) r ≡ Some (steps zs r)
 unfolding run_ops steps
 steps_run [] r h = refl
 steps_run (z ∷ zs) r h = rw (step-runs z r (here z zs r h)) (steps_run zs (step z r) (rest z zs r h))
@@ -185,14 +185,14 @@ indented-none [] = refl
 indented-none (l ∷ ls) = ap (λ (x : List Str). l ∷ x) (indented-none ls)
 
 zeroing-runs : (zs : List Zero) (ft : FormattedText) (r : Record) → to_lines ft 0 ≡ zero_texts zs
-    → run_zeroing (stringify ft) r ≡ run_ops none (ops zs) r
+    → run_zeroing (stringify ft) r ≡ run_ops None (ops zs) r
 unfolding run_zeroing run_lines run_line run_ops
 zeroing-runs [] ft r e = rw (stringify-none ft e)
 zeroing-runs (z ∷ zs) ft r e =
-    ap (λ (x : List Str). run_lines none x r)
+    ap (λ (x : List Str). run_lines None x r)
     (lines-stringify ft (zeroing_line z) (zero_texts zs) e (wholes_saying (saying_zeros (z ∷ zs)))
     ∙ sym (indented-none (zero_texts (z ∷ zs))))
-    ∙ run_lines_lem none 0 (saying_zeros (z ∷ zs)) r
+    ∙ run_lines_lem None 0 (saying_zeros (z ∷ zs)) r
 
 -- a line that is among the lines is one of their zeros', with the same operation
 line_of : (l : Str) (o : Op) → Says l o → (zs : List Zero) → In l (zero_texts zs) → (z : Zero) × (In z zs) × (zero_op z ≡ o)
@@ -268,7 +268,7 @@ module _ (zs : List Zero) (r : Record) (h : Holding zs r) where
     runs = zeroing-runs zs ft r e ∙ steps_run zs r h;
     defaults = λ k o i mg f typ w is_reader.
         get_holds typ is_reader k o mg left w f
-        ∙ ap some
+        ∙ ap Some
         (get_off (place_of k o) (mask_bits mg) left (rw (slot-size k o) (mask_below k mg f)) (slot-off k o i));
     absent = pointer-null;
     hasers = λ i n opening w is_reader tag. haser-null opening w is_reader tag i left (pointer-null i n);

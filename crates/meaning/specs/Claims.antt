@@ -2,7 +2,7 @@
 -- The masks of setter and getter are parameters; `expected` says what document 01's rules for masks make of them. Assumes
 -- nothing.
 use Rattle.std.specs.Prelude.{◌≡◌, ℕ, ◌^◌, ◌<◌, Bool, true, false, not, ◌⊎◌, List, [], ◌∷◌, length, ◌==◌, bit_xor, slice_index_or}
-use Rattle.std.proofs.Math.Option.{Option, none, some}
+use Rattle.std.specs.Prelude.{Option, None, Some}
 use Rattle.text.specs.Bytes.{Str, cond, both}
 use Rattle.text.specs.Lines.{FormattedText, to_lines, stringify}
 use Rattle.calls.specs.Calls.{clear_pointer}
@@ -21,31 +21,31 @@ use Rattle.meaning.specs.Meaning.{whole, run_setter, run_getter, run_haser, run_
 
 -- a mask is of the slot's type: its bits fit
 abbrev pub MaskFits : Kind → Option ℕ → Type 0
-MaskFits k none = Unit {0}
-MaskFits k (some m) = m < 2 ^ slot_bits k
+MaskFits k None = Unit {0}
+MaskFits k (Some m) = m < 2 ^ slot_bits k
 
 -- a member's discriminant value has 16 bits
 abbrev pub TagFits : Option Tag → Type 0
-TagFits none = Unit {0}
-TagFits (some t) = t.1 < 2 ^ 16
+TagFits None = Unit {0}
+TagFits (Some t) = t.1 < 2 ^ 16
 
 -- of no tag: nothing to hold, no bits, nothing in common
 abbrev pub TagHolds : Option Tag → Record → Type 0
-TagHolds none r = Unit {0}
-TagHolds (some t) r = Holds (tag_place t.0) r
+TagHolds None r = Unit {0}
+TagHolds (Some t) r = Holds (tag_place t.0) r
 
 abbrev pub TagHas : Option Tag → ℕ → Type 0
-TagHas none b = ⊥
-TagHas (some t) b = Covers (tag_place t.0) b
+TagHas None b = ⊥
+TagHas (Some t) b = Covers (tag_place t.0) b
 
 abbrev pub TagClear : Option Tag → Place → Type 0
-TagClear none p = Unit {0}
-TagClear (some t) p = Clear p (tag_place t.0)
+TagClear None p = Unit {0}
+TagClear (Some t) p = Clear p (tag_place t.0)
 
 -- the tag reads as the member's discriminant value; past the end of the section it reads 0
 abbrev pub TagIs : Option Tag → Record → Type 0
-TagIs none r = Unit {0}
-TagIs (some t) r = get (tag_place t.0) 0 r ≡ t.1
+TagIs None r = Unit {0}
+TagIs (Some t) r = get (tag_place t.0) 0 r ≡ t.1
 
 -- ---- a getter alone, a setter alone
 
@@ -54,12 +54,12 @@ abbrev pub TextGetHolds : Type 0
 TextGetHolds =
     (typ : Str) (is_reader : Bool) (k : Kind) (o : ℕ) (mg : Option ℕ) (r : Record) → whole typ ≡ true → MaskFits k mg
     → run_getter (getter_lines typ (get_line is_reader k o (map_o (get_mask_text k) mg))) r
-    ≡ some (get (place_of k o) (mask_bits mg) r)
+    ≡ Some (get (place_of k o) (mask_bits mg) r)
 
 -- what the tag's line leaves, and after it the value's line
 abbrev pub void_leaves : Option Tag → Record → Option Record
-void_leaves none r = some r
-void_leaves (some t) r = put_value (tag_place t.0) t.1 0 r
+void_leaves None r = Some r
+void_leaves (Some t) r = put_value (tag_place t.0) t.1 0 r
 
 abbrev pub setter_leaves : Option Tag → Place → ℕ → ℕ → Record → Option Record
 setter_leaves tag p v m r = bind_o (void_leaves tag r) (put_value p v m)
@@ -76,8 +76,8 @@ TextSetHolds =
 abbrev pub SetterMeansHolds : Type 0
 SetterMeansHolds =
     (tag : Option Tag) (p : Place) (v m : ℕ) (r : Record)
-    → (Holds p r → TagHolds tag r → (left : Record) × (setter_leaves tag p v m r ≡ some left))
-    × ((left : Record) → setter_leaves tag p v m r ≡ some left → Holds p r × TagHolds tag r)
+    → (Holds p r → TagHolds tag r → (left : Record) × (setter_leaves tag p v m r ≡ Some left))
+    × ((left : Record) → setter_leaves tag p v m r ≡ Some left → Holds p r × TagHolds tag r)
 
 -- What it leaves: a get of the slot under mask k gives the value, exclusive or both masks; only the slot's bits and the tag's
 -- change; the tag is the member's where the slot has no bit in common with it.
@@ -89,7 +89,7 @@ pub record SetterLeft (tag : Option Tag) (p : Place) (v m : ℕ) (r left : Recor
 abbrev pub SetterLeavesHolds : Type 0
 SetterLeavesHolds =
     (tag : Option Tag) (p : Place) (v m : ℕ) (r left : Record) → TagFits tag → v < 2 ^ bit_count p → m < 2 ^ bit_count p
-    → setter_leaves tag p v m r ≡ some left → SetterLeft tag p v m r left
+    → setter_leaves tag p v m r ≡ Some left → SetterLeft tag p v m r left
 
 -- A Void slot's setter writes its tag and nothing else.
 abbrev pub TextVoidHolds : Type 0
@@ -103,10 +103,10 @@ TextVoidHolds =
 -- change.
 pub record TextSetGet (opening : Str) (tag : Option Tag) (k : Kind) (o : ℕ) (ms mg : Option ℕ) (v : ℕ) (r : Record) : Type 0 where
   pub left : Record
-  pub runs : run_setter (setter_text opening tag k o (map_o (set_mask_text k) ms)) v r ≡ some left
+  pub runs : run_setter (setter_text opening tag k o (map_o (set_mask_text k) ms)) v r ≡ Some left
   pub answers : (typ : Str) → whole typ ≡ true → (is_reader : Bool)
       → run_getter (getter_lines typ (get_line is_reader k o (map_o (get_mask_text k) mg))) left
-      ≡ some (bit_xor (bit_xor v (mask_bits ms)) (mask_bits mg))
+      ≡ Some (bit_xor (bit_xor v (mask_bits ms)) (mask_bits mg))
   pub same : Same (λ b. Covers (place_of k o) b ⊎ TagHas tag b) r left
   pub tagged : TagClear tag (place_of k o) → TagIs tag left
 
@@ -137,7 +137,7 @@ ExpectedHolds =
 
 pub record TextVoidSet (opening : Str) (tag : Option Tag) (v : ℕ) (r : Record) : Type 0 where
   pub left : Record
-  pub runs : run_setter (void_setter_text opening tag) v r ≡ some left
+  pub runs : run_setter (void_setter_text opening tag) v r ≡ Some left
   pub same : Same (TagHas tag) r left
   pub tagged : TagIs tag left
 
@@ -150,14 +150,14 @@ TextVoidSetHolds =
 
 -- false where the tag is another number, else whether the pointer is not null
 abbrev pub has_answer : Option Tag → PointerOffset → Record → Bool
-has_answer none i r = not (null i r)
-has_answer (some t) i r = both (get (tag_place t.0) 0 r == t.1) (not (null i r))
+has_answer None i r = not (null i r)
+has_answer (Some t) i r = both (get (tag_place t.0) 0 r == t.1) (not (null i r))
 
 -- A haser's text answers on every record.
 abbrev pub TextHaserHolds : Type 0
 TextHaserHolds =
     (opening : Str) (is_reader : Bool) (tag : Option Tag) (i : ℕ) (r : Record) → whole opening ≡ true
-    → run_haser (haser_text opening is_reader tag i) r ≡ some (has_answer tag (record { 0 = i }) r)
+    → run_haser (haser_text opening is_reader tag i) r ≡ Some (has_answer tag (record { 0 = i }) r)
 
 -- ---- zeroing
 
@@ -186,13 +186,13 @@ ZeroClears (of_pointer i) j = j ≡ i
 -- slot tests absent, and each of its hasers says false. What no line touches stays.
 pub record TextZeroed (zs : List Zero) (ft : FormattedText) (r : Record) : Type 0 where
   pub left : Record
-  pub runs : run_zeroing (stringify ft) r ≡ some left
+  pub runs : run_zeroing (stringify ft) r ≡ Some left
   pub defaults : (k : Kind) (o : ℕ) → In (zero_call k o) (zero_texts zs) → (mg : Option ℕ) → MaskFits k mg
       → (typ : Str) → whole typ ≡ true → (is_reader : Bool)
-      → run_getter (getter_lines typ (get_line is_reader k o (map_o (get_mask_text k) mg))) left ≡ some (mask_bits mg)
+      → run_getter (getter_lines typ (get_line is_reader k o (map_o (get_mask_text k) mg))) left ≡ Some (mask_bits mg)
   pub absent : (i : ℕ) → In (clear_pointer i) (zero_texts zs) → null (record { 0 = i }) left ≡ true
   pub hasers : (i : ℕ) → In (clear_pointer i) (zero_texts zs) → (opening : Str) → whole opening ≡ true
-      → (is_reader : Bool) (tag : Option Tag) → run_haser (haser_text opening is_reader tag i) left ≡ some false
+      → (is_reader : Bool) (tag : Option Tag) → run_haser (haser_text opening is_reader tag i) left ≡ Some false
   pub lengths : (length left.bits ≡ length r.bits) × (length left.pointers ≡ length r.pointers)
   pub bits-same :
       (b : ℕ) → ((z : Zero) → In z zs → ZeroHas z b → ⊥) → slice_index_or left.bits b false ≡ slice_index_or r.bits b false

@@ -3,7 +3,7 @@
 use Rattle.std.specs.Prelude.{◌≡◌, ℕ, Bool, true, false, List, [], ◌∷◌, replicate, ◌==◌}
 use Prim.Native.String.{String}
 use Rattle.std.specs.Prelude.{refl}
-use Rattle.std.proofs.Math.Option.{Option, none, some}
+use Rattle.std.specs.Prelude.{Option, None, Some}
 use Rattle.text.specs.Bytes.{Str, ascii, both, same}
 use Rattle.text.specs.Decimal.{decimal, signed}
 use Rattle.text.specs.Lines.{FormattedTexts, Branch, Line, none as no_more, ◌&◌, to_lines, flat_map, join, stringify}
@@ -21,8 +21,8 @@ use Rattle.meaning.specs.Meaning.{tests_of, run_tests, run_haser}
 
 -- document 01's numbers for kinds: Void, Bool, the first and the last of the numeric types, Text, Enum, AnyPointer
 pub kinds-right :
-    (kind_of 0 ≡ none) × (kind_of 1 ≡ some bool) × (kind_of 2 ≡ some (num (int One))) × (kind_of 9 ≡ some (num (uint Eight)))
-    × (kind_of 10 ≡ some (num float32)) × (kind_of 12 ≡ none) × (kind_of 15 ≡ some enum) × (kind_of 18 ≡ none)
+    (kind_of 0 ≡ None) × (kind_of 1 ≡ Some bool) × (kind_of 2 ≡ Some (num (int One))) × (kind_of 9 ≡ Some (num (uint Eight)))
+    × (kind_of 10 ≡ Some (num float32)) × (kind_of 12 ≡ None) × (kind_of 15 ≡ Some enum) × (kind_of 18 ≡ None)
 unfolding kind_of
 kinds-right = (refl, refl, refl, refl, refl, refl, refl, refl)
 
@@ -78,8 +78,8 @@ abbrev pub some16 : Record
 some16 = record { bits = section_bits (replicate 16 165); pointers = false ∷ true ∷ [] }
 
 abbrev pub is : Option ℕ → ℕ → Bool
-is none x = false
-is (some v) x = v == x
+is None x = false
+is (Some v) x = v == x
 
 -- a slot's lines by the rules for masks
 abbrev pub setter_line : WorkedSlot → Str
@@ -115,8 +115,8 @@ abbrev pub no_set : String → Bool
 no_set l = fails (set_with (ascii l) 1)
   where
     fails : Option Record → Bool
-    fails none = true
-    fails (some r) = false
+    fails None = true
+    fails (Some r) = false
 
 abbrev pub no_sets : List String
 no_sets =
@@ -146,23 +146,23 @@ unfolding to_lines flat_map join stringify function_text found stored get_bits p
 no-sets = refl
 
 -- a getter with two gets has no meaning, nor has one with none
-pub two-gets : run_getter (ascii "bool\nself.reader.get_bool_field(0) && self.reader.get_bool_field(1)\n") some16 ≡ none
+pub two-gets : run_getter (ascii "bool\nself.reader.get_bool_field(0) && self.reader.get_bool_field(1)\n") some16 ≡ None
 unfolding type_name truth get_mask_of gets gets_in run_getter
 two-gets = refl
 
-pub no-get : run_getter (ascii "self.reader.get_bool_field(0)\n()\n") some16 ≡ none
+pub no-get : run_getter (ascii "self.reader.get_bool_field(0)\n()\n") some16 ≡ None
 unfolding type_name truth get_mask_of gets gets_in run_getter
 no-get = refl
 
 -- a call inside a longer word is no get
 pub in_a_word :
-    (run_getter (ascii "bool\nmyself.reader.get_bool_field(0)\n") some16 ≡ none)
-    × (run_getter (ascii "bool\nself.reader.get_bool_field(0) && !myself.reader.get_bool_field(1)\n") some16 ≡ some 1)
+    (run_getter (ascii "bool\nmyself.reader.get_bool_field(0)\n") some16 ≡ None)
+    × (run_getter (ascii "bool\nself.reader.get_bool_field(0) && !myself.reader.get_bool_field(1)\n") some16 ≡ Some 1)
 unfolding found get_bits type_name truth get_mask_of gets gets_in run_getter
 in_a_word = (refl, refl)
 
 -- a get whose mask is not of its type leaves the text no meaning, also beside one that has one
-pub ill_mask : run_getter (ascii "bool\nself.reader.get_bool_field(0) && self.reader.get_bool_field_mask(0, 3)\n") some16 ≡ none
+pub ill_mask : run_getter (ascii "bool\nself.reader.get_bool_field(0) && self.reader.get_bool_field_mask(0, 3)\n") some16 ≡ None
 unfolding type_name truth get_mask_of gets gets_in run_getter
 ill_mask = refl
 
@@ -170,11 +170,11 @@ ill_mask = refl
 
 -- the last bit and the last byte of the section are read; past it a get finds zero bits, under its mask
 pub past_the_section :
-    (run_getter (ascii "bool\nself.reader.get_bool_field(127)\n") some16 ≡ some 1)
-    × (run_getter (ascii "bool\nself.reader.get_bool_field(128)\n") some16 ≡ some 0)
-    × (run_getter (ascii "bool\nself.reader.get_bool_field_mask(128, true)\n") some16 ≡ some 1)
-    × (run_getter (ascii "u8\nself.builder.get_data_field::<u8>(15)\n") some16 ≡ some 165)
-    × (run_getter (ascii "u64\nself.builder.get_data_field_mask::<u64>(2, 7)\n") some16 ≡ some 7)
+    (run_getter (ascii "bool\nself.reader.get_bool_field(127)\n") some16 ≡ Some 1)
+    × (run_getter (ascii "bool\nself.reader.get_bool_field(128)\n") some16 ≡ Some 0)
+    × (run_getter (ascii "bool\nself.reader.get_bool_field_mask(128, true)\n") some16 ≡ Some 1)
+    × (run_getter (ascii "u8\nself.builder.get_data_field::<u8>(15)\n") some16 ≡ Some 165)
+    × (run_getter (ascii "u64\nself.builder.get_data_field_mask::<u64>(2, 7)\n") some16 ≡ Some 7)
 unfolding found get_bits type_name truth get_mask_of gets gets_in run_getter
 past_the_section = (refl, refl, refl, refl, refl)
 
@@ -183,17 +183,17 @@ abbrev pub some3 : Record
 some3 = record { bits = section_bits (replicate 3 165); pointers = [] }
 
 pub one-byte_of_two :
-    (run_getter (ascii "u8\nself.reader.get_data_field::<u8>(2)\n") some3 ≡ some 165)
-    × (run_getter (ascii "u16\nself.reader.get_data_field::<u16>(1)\n") some3 ≡ some 0)
-    × (run_getter (ascii "u16\nself.reader.get_data_field_mask::<u16>(1, 513)\n") some3 ≡ some 513)
+    (run_getter (ascii "u8\nself.reader.get_data_field::<u8>(2)\n") some3 ≡ Some 165)
+    × (run_getter (ascii "u16\nself.reader.get_data_field::<u16>(1)\n") some3 ≡ Some 0)
+    × (run_getter (ascii "u16\nself.reader.get_data_field_mask::<u16>(1, 513)\n") some3 ≡ Some 513)
 unfolding found get_bits type_name truth get_mask_of gets gets_in run_getter
 one-byte_of_two = (refl, refl, refl)
 
 -- a Bool's setter in a union whose tag is element o: element 7 is the last of the section
 abbrev pub in_union : ℕ → Option Record
-in_union o = run_setter (setter_text (ascii "pub fn set_x(&mut self, value: bool)  {") (some (o, 1)) bool 0 none) 0 some16
+in_union o = run_setter (setter_text (ascii "pub fn set_x(&mut self, value: bool)  {") (Some (o, 1)) bool 0 None) 0 some16
 
-pub tag_held : (is_some (in_union 7) ≡ true) × (in_union 8 ≡ none)
+pub tag_held : (is_some (in_union 7) ≡ true) × (in_union 8 ≡ None)
 unfolding to_lines flat_map join stringify decimal set_bool_field set_data_field function_text found stored put_bits type_name
     truth set_mask_of data_arg bool_arg writes run_op run_line run_lines run_setter
 tag_held = (refl, refl)
@@ -201,39 +201,39 @@ tag_held = (refl, refl)
 -- a setter whose tag is inside and whose slot is past the section has no meaning, though its tag's line alone has one
 abbrev pub slot_past : Option Record
 slot_past =
-    run_setter (setter_text (ascii "pub fn set_x(&mut self, value: u64)  {") (some (0, 1)) (num (uint Eight)) 2 none) 9 some16
+    run_setter (setter_text (ascii "pub fn set_x(&mut self, value: u64)  {") (Some (0, 1)) (num (uint Eight)) 2 None) 9 some16
 
 abbrev pub tag_alone : Option Record
-tag_alone = run_setter (void_setter_text (ascii "pub fn set_x(&mut self, _value: ())  {") (some (0, 1))) 9 some16
+tag_alone = run_setter (void_setter_text (ascii "pub fn set_x(&mut self, _value: ())  {") (Some (0, 1))) 9 some16
 
-pub slot_held : (is_some tag_alone ≡ true) × (slot_past ≡ none)
+pub slot_held : (is_some tag_alone ≡ true) × (slot_past ≡ None)
 unfolding to_lines flat_map join stringify decimal set_bool_field set_data_field function_text found stored put_bits type_name
     truth set_mask_of data_arg bool_arg writes run_op run_line run_lines run_setter
 slot_held = (refl, refl)
 
 -- ---- a haser of the second pointer in a union, whose tag is 42405 = 165 * 257; a zeroing
 
-pub has-second : run_haser (haser_text (ascii "pub fn has_x(&self) -> bool {") true (some (3, 42405)) 1) some16 ≡ some true
+pub has-second : run_haser (haser_text (ascii "pub fn has_x(&self) -> bool {") true (Some (3, 42405)) 1) some16 ≡ Some true
 unfolding to_lines flat_map join stringify decimal not_null tag_test function_text found get_bits null_flag type_name tests
     tests_of run_tests run_haser
 has-second = refl
 
-pub has_other_tag : run_haser (haser_text (ascii "pub fn has_x(&self) -> bool {") false (some (3, 7)) 1) some16 ≡ some false
+pub has_other_tag : run_haser (haser_text (ascii "pub fn has_x(&self) -> bool {") false (Some (3, 7)) 1) some16 ≡ Some false
 unfolding to_lines flat_map join stringify decimal not_null tag_test function_text found get_bits null_flag type_name tests
     tests_of run_tests run_haser
 has_other_tag = refl
 
 -- a tag past the section reads 0: the member with discriminant 0 goes on to its pointer, any other says false
 pub tag_past :
-    (run_haser (haser_text (ascii "pub fn has_x(&self) -> bool {") true (some (8, 0)) 1) some16 ≡ some true)
-    × (run_haser (haser_text (ascii "pub fn has_x(&self) -> bool {") true (some (8, 0)) 0) some16 ≡ some false)
-    × (run_haser (haser_text (ascii "pub fn has_x(&self) -> bool {") true (some (8, 1)) 1) some16 ≡ some false)
+    (run_haser (haser_text (ascii "pub fn has_x(&self) -> bool {") true (Some (8, 0)) 1) some16 ≡ Some true)
+    × (run_haser (haser_text (ascii "pub fn has_x(&self) -> bool {") true (Some (8, 0)) 0) some16 ≡ Some false)
+    × (run_haser (haser_text (ascii "pub fn has_x(&self) -> bool {") true (Some (8, 1)) 1) some16 ≡ Some false)
 unfolding to_lines flat_map join stringify decimal not_null tag_test function_text found get_bits null_flag type_name tests
     tests_of run_tests run_haser
 tag_past = (refl, refl, refl)
 
 -- a pointer past the pointers is absent
-pub no_third : run_haser (haser_text (ascii "pub fn has_x(&self) -> bool {") true none 2) some16 ≡ some false
+pub no_third : run_haser (haser_text (ascii "pub fn has_x(&self) -> bool {") true None 2) some16 ≡ Some false
 unfolding to_lines flat_map join stringify decimal not_null function_text found null_flag type_name tests tests_of run_tests
     run_haser
 no_third = refl
@@ -248,7 +248,7 @@ pub zeroed :
     (run_zeroing
     (stringify (Branch (zeros (of_tag 4 ∷ of_slot (num (uint Two)) 4 ∷ of_slot enum 4 ∷ of_slot bool 0 ∷ of_pointer 1 ∷ []))))
     some16)
-    ≡ some (false ∷ false ∷ [])
+    ≡ Some (false ∷ false ∷ [])
 unfolding to_lines flat_map join stringify decimal set_bool_field set_data_field clear_pointer found stored put_bits clear_flag
     type_name truth data_arg bool_arg writes run_op run_line run_lines run_zeroing
 zeroed = refl

@@ -1,7 +1,7 @@
 -- What a text does to a record, from its bytes alone (document 01, "What a line does to a record"): a text that is none of these
 -- has no meaning. Assumes nothing.
 use Rattle.std.specs.Prelude.{ℕ, Bool, true, false, not, List, [], ◌∷◌, ◌++◌, ◌==◌}
-use Rattle.std.proofs.Math.Option.{Option, none, some}
+use Rattle.std.specs.Prelude.{Option, None, Some}
 use Rattle.text.specs.Bytes.{Str, cond, both}
 use Rattle.record.specs.Offsets.{Place, bool_at, data_at}
 use Rattle.record.specs.Record.{Record, map_o, get, put_value, null, clear}
@@ -108,13 +108,13 @@ opens_get = lit "self." >> member_dot >> (lit "get_bool_field" or lit "get_data_
 
 -- one get more where its call begins; a call that is none of the four gets, with a mask of its own type, has no meaning
 abbrev pub adds : Option (Unit {0} × Str) → Option (Get × Str) → Option (List Get) → Option (List Get)
-adds none g more = more
-adds (some opened) none more = none
-adds (some opened) (some g) more = map_o (λ gs. g.0 ∷ gs) more
+adds None g more = more
+adds (Some opened) None more = None
+adds (Some opened) (Some g) more = map_o (λ gs. g.0 ∷ gs) more
 
 -- All gets of a line; the Bool says whether a word's byte stands in front of it, since no call begins inside a word.
 unfoldable pub gets_in : Bool → Str → Option (List Get)
-gets_in in_word [] = some []
+gets_in in_word [] = Some []
 gets_in true (c ∷ s) = gets_in (word_byte c) s
 gets_in false (c ∷ s) = adds (opens_get (c ∷ s)) (gets (c ∷ s)) (gets_in (word_byte c) s)
 
@@ -172,16 +172,16 @@ prepend a (b ∷ l) = a ∷ prepend b l
 
 -- the lines without the first two and the last, of three at least
 abbrev pub inner : List Str → Option (List Str)
-inner [] = none
-inner (a ∷ []) = none
-inner (a ∷ (b ∷ [])) = none
-inner (a ∷ (b ∷ (c ∷ l))) = some (prepend c l)
+inner [] = None
+inner (a ∷ []) = None
+inner (a ∷ (b ∷ [])) = None
+inner (a ∷ (b ∷ (c ∷ l))) = Some (prepend c l)
 
 -- ---- running; v is the accessor's `value`, where there is one
 
 abbrev pub arg_bits : Option ℕ → Arg → Option ℕ
 arg_bits v value = v
-arg_bits v (constant k) = some k
+arg_bits v (constant k) = Some k
 
 unfoldable pub run_op : Option ℕ → Op → Record → Option Record
 run_op v (set_op p a m) r = bind_o (arg_bits v a) (λ x. put_value p x m r)
@@ -189,25 +189,25 @@ run_op v (clear_op i) r = clear i r
 
 -- an empty line does nothing
 unfoldable pub run_line : Option ℕ → Str → Record → Option Record
-run_line v [] r = some r
+run_line v [] r = Some r
 run_line v (c ∷ s) r = bind_o (writes (c ∷ s)) (λ x. run_op v x.0 r)
 
 -- lines run from the top, each on the record that the line before left
 unfoldable pub run_lines : Option ℕ → List Str → Record → Option Record
-run_lines v [] r = some r
+run_lines v [] r = Some r
 run_lines v (l ∷ ls) r = bind_o (run_line v (trim l) r) (run_lines v ls)
 
 -- a setter: the first two lines and the last do nothing
 unfoldable pub run_setter : Str → ℕ → Record → Option Record
-run_setter t v r = bind_o (inner (lines t)) (λ ls. run_lines (some v) ls r)
+run_setter t v r = bind_o (inner (lines t)) (λ ls. run_lines (Some v) ls r)
 
 -- a zeroing
 unfoldable pub run_zeroing : Str → Record → Option Record
-run_zeroing t r = run_lines none (lines t) r
+run_zeroing t r = run_lines None (lines t) r
 
 -- a getter: line 1 does nothing; the single get below it, whatever stands around it, is the answer
 abbrev pub all_gets : List Str → Option (List Get)
-all_gets [] = some []
+all_gets [] = Some []
 all_gets (l ∷ ls) = bind_o (gets_in false l) (λ gs. map_o (λ more. gs ++ more) (all_gets ls))
 
 abbrev pub after_first : List Str → List Str
@@ -215,16 +215,16 @@ after_first [] = []
 after_first (l ∷ ls) = ls
 
 abbrev pub single : List Get → Option Get
-single [] = none
-single (g ∷ []) = some g
-single (g ∷ (h ∷ l)) = none
+single [] = None
+single (g ∷ []) = Some g
+single (g ∷ (h ∷ l)) = None
 
 unfoldable pub run_getter : Str → Record → Option ℕ
 run_getter t r = map_o (λ g. get g.0 g.1 r) (bind_o (all_gets (after_first (lines t))) single)
 
 -- a haser: the first two lines and the last do nothing; each line between them that is not empty is a test
 unfoldable pub tests_of : List Str → Option (List Test)
-tests_of [] = some []
+tests_of [] = Some []
 tests_of (l ∷ ls) = one (trim l) (tests_of ls)
   where
     one : Str → Option (List Test) → Option (List Test)
@@ -233,13 +233,13 @@ tests_of (l ∷ ls) = one (trim l) (tests_of ls)
 
 -- one null test, or a tag test before it: false where that finds another number, else whether the pointer is not null
 unfoldable pub run_tests : List Test → Record → Option Bool
-run_tests [] r = none
-run_tests (null_test i ∷ []) r = some (not (null i r))
-run_tests (null_test i ∷ (t ∷ ts)) r = none
-run_tests (tag_test o n ∷ []) r = none
-run_tests (tag_test o n ∷ (null_test i ∷ [])) r = some (both (get (tag_place o) 0 r == n) (not (null i r)))
-run_tests (tag_test o n ∷ (null_test i ∷ (t ∷ ts))) r = none
-run_tests (tag_test o n ∷ (tag_test p m ∷ ts)) r = none
+run_tests [] r = None
+run_tests (null_test i ∷ []) r = Some (not (null i r))
+run_tests (null_test i ∷ (t ∷ ts)) r = None
+run_tests (tag_test o n ∷ []) r = None
+run_tests (tag_test o n ∷ (null_test i ∷ [])) r = Some (both (get (tag_place o) 0 r == n) (not (null i r)))
+run_tests (tag_test o n ∷ (null_test i ∷ (t ∷ ts))) r = None
+run_tests (tag_test o n ∷ (tag_test p m ∷ ts)) r = None
 
 unfoldable pub run_haser : Str → Record → Option Bool
 run_haser t r = bind_o (inner (lines t)) (λ ls. bind_o (tests_of ls) (λ ts. run_tests ts r))

@@ -1,7 +1,7 @@
 -- Reading from the front of a line: fixed bytes, numbers, types and masks as they are written in a call. Assumes nothing.
 use Rattle.std.specs.Prelude.{ℕ, ◌+◌, ◌-◌, ◌*◌, ◌^◌, Bool, [], ◌∷◌, ◌==◌, nat_le, nat_lt}
 use Prim.Native.String.{String}
-use Rattle.std.proofs.Math.Option.{Option, none, some}
+use Rattle.std.specs.Prelude.{Option, None, Some}
 use Rattle.text.specs.Bytes.{Str, ascii, cond, both, either}
 use Rattle.record.specs.Masks.{half_of}
 use Rattle.record.specs.Record.{only}
@@ -12,13 +12,13 @@ use Rattle.record.specs.declared.Width.TheVariants.{One, Two, Four, Eight}
 abbrev pub Reads : Type 0 → Type 0
 Reads A = Str → Option (A × Str)
 
-abbrev pub bind_o {ℓ ℓ'} : {A : Type ℓ} {B : Type ℓ'} → Option A → (A → Option B) → Option B
-bind_o none f = none
-bind_o (some x) f = f x
+abbrev pub bind_o : {A B : Type 0} → Option A → (A → Option B) → Option B
+bind_o None f = None
+bind_o (Some x) f = f x
 
 abbrev pub else_o : {A : Type 0} → Option A → Option A → Option A
-else_o none o = o
-else_o (some a) o = some a
+else_o None o = o
+else_o (Some a) o = Some a
 
 infixl 20 ◌>>=◌ ◌>>◌
 abbrev pub ◌>>=◌ : {A B : Type 0} → Reads A → (A → Reads B) → Reads B
@@ -28,7 +28,7 @@ abbrev pub ◌>>◌ : {A B : Type 0} → Reads A → Reads B → Reads B
 ◌>>◌ m f = λ s. bind_o (m s) (λ x. f x.1)
 
 abbrev pub pure : {A : Type 0} → A → Reads A
-pure a = λ s. some (a, s)
+pure a = λ s. Some (a, s)
 
 -- the first reading, or where it finds nothing the second
 infixr 15 ◌or◌
@@ -37,17 +37,17 @@ abbrev pub ◌or◌ : {A : Type 0} → Reads A → Reads A → Reads A
 
 -- these bytes
 abbrev pub strip : Str → Reads (Unit {0})
-strip [] s = some (tt, s)
-strip (c ∷ p) [] = none
-strip (c ∷ p) (x ∷ s) = cond (c == x) (strip p s) none
+strip [] s = Some (tt, s)
+strip (c ∷ p) [] = None
+strip (c ∷ p) (x ∷ s) = cond (c == x) (strip p s) None
 
 abbrev pub lit : String → Reads (Unit {0})
 lit t = strip (ascii t)
 
 -- the end of the line
 abbrev pub end : Reads (Unit {0})
-end [] = some (tt, [])
-end (x ∷ s) = none
+end [] = Some (tt, [])
+end (x ∷ s) = None
 
 -- ---- numbers
 
@@ -66,7 +66,7 @@ digits_from n (c ∷ s) = cond (digit_byte c) (digits_from (n * 10 + (c - 48)) s
 
 -- a number: one digit at least, and all that follow
 abbrev pub numeral : Reads ℕ
-numeral [] = none
+numeral [] = None
 numeral (c ∷ s) = only (digit_byte c) (digits_from 0 (c ∷ s))
 
 -- a number below a limit
@@ -137,13 +137,13 @@ ending t = strip (type_name_of t) or pure tt
 
 -- an enum's value is written as its number, of type u16
 abbrev pub enum_value : Num → Reads Arg
-enum_value (int w) = λ s. none
-enum_value (uint One) = λ s. none
+enum_value (int w) = λ s. None
+enum_value (uint One) = λ s. None
 enum_value (uint Two) = lit "value as u16" >> pure value
-enum_value (uint Four) = λ s. none
-enum_value (uint Eight) = λ s. none
-enum_value float32 = λ s. none
-enum_value float64 = λ s. none
+enum_value (uint Four) = λ s. None
+enum_value (uint Eight) = λ s. None
+enum_value float32 = λ s. None
+enum_value float64 = λ s. None
 
 unfoldable pub data_arg : Num → Reads Arg
 data_arg t = (do k ← below (limit t); ending t; pure (constant k)) or enum_value t or (lit "value" >> pure value)

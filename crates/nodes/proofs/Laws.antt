@@ -3,7 +3,7 @@
 use mathlib.Core.Path.{◌≡◌, refl, ap, ◌∙◌}
 use mathlib.Core.Bool.{Bool, true, false}
 use mathlib.Core.List.{List, [], ◌∷◌}
-use mathlib.Core.Option.{none, some}
+use Rattle.std.specs.Prelude.{None, Some}
 use Prim.Native.Nat.{ℕ, zero, suc, ◌+◌, ◌-◌, ◌*◌, ◌/◌, ◌%◌, ◌<◌, ◌≤◌, min}
 use native.Mathlib.Numerals.{add-one, sub-one}
 use native.Mathlib.Decide.{dec_lt}
@@ -88,7 +88,7 @@ found_from s index id p (n ∷ ns) x =
   where
     go : Finds s index (lookup_from index id (length ns) (p + 12)) (by_id id ns) → (t u : Bool) → t ≡ u
         → Finds s index (cond t (At (entry_at index p)) (lookup_from index id (length ns) (p + 12)))
-        (cond u (some n) (by_id id ns))
+        (cond u (Some n) (by_id id ns))
     go h true true e = x.1
     go h true false e = never cc
     go h false true e = never cc
@@ -102,7 +102,7 @@ found-is s ns index id x = rw x.count (found_from s index id 1 ns x.entries)
 -- the entry of the node with a number, and the node
 record Nth (s : Str) (index : List ℕ) (k p : ℕ) (ns : List Node) : Type 0 where
   node : Node
-  is : nth k ns ≡ some node
+  is : nth k ns ≡ Some node
   fits : p + 12 * k + 12 ≤ length index
   entry : EntryIs s index (entry_at index (p + 12 * k)) node
 
@@ -194,19 +194,19 @@ module _ (s : Str) (index : List ℕ) (e : Entry) (k : ℕ) (n : Node) (x : Entr
 
 -- the rows of a parameter, as the code finds them
 module _ (s : Str) (index : List ℕ) (e : Entry) (k : ℕ) where
-  pub rows_none : e.count ≤ k → none ≡ parameter_rows s index e k
+  pub rows_none : e.count ≤ k → None ≡ parameter_rows s index e k
   unfolding parameter_rows
   rows_none h = rw (le-ltb k e.count h)
 
   module _ (h : k < e.count) where
     pub rows-first :
         k < mark_every → (q : ℕ) → rows (drop q s) ≡ rows_after k (rows (drop e.params s))
-        → some (rows (drop q s)) ≡ parameter_rows s index e k
+        → Some (rows (drop q s)) ≡ parameter_rows s index e k
     unfolding parameter_rows
     rows-first l q f = rw (lt-ltb k e.count h, lt-ltb k mark_every l, f)
 
     module _ (l : mark_every ≤ k) where
-      pub rows-unmarked : length index ≤ e.marks + (k / mark_every - 1) → none ≡ parameter_rows s index e k
+      pub rows-unmarked : length index ≤ e.marks + (k / mark_every - 1) → None ≡ parameter_rows s index e k
       unfolding parameter_rows
       rows-unmarked o =
           rw (lt-ltb k e.count h, le-ltb k mark_every l, le-ltb (e.marks + (k / mark_every - 1)) (length index) o)
@@ -214,7 +214,7 @@ module _ (s : Str) (index : List ℕ) (e : Entry) (k : ℕ) where
       pub rows-marked :
           e.marks + (k / mark_every - 1) < length index → (q : ℕ)
           → rows (drop q s) ≡ rows_after (k % mark_every) (rows (drop (get_or index (e.marks + (k / mark_every - 1)) 0) s))
-          → some (rows (drop q s)) ≡ parameter_rows s index e k
+          → Some (rows (drop q s)) ≡ parameter_rows s index e k
       unfolding parameter_rows
       rows-marked i q f =
           rw (lt-ltb k e.count h, le-ltb k mark_every l, lt-ltb (e.marks + (k / mark_every - 1)) (length index) i, f)

@@ -3,7 +3,7 @@
 use mathlib.Core.Path.{◌≡◌, refl, sym, ap, ◌∙◌}
 use mathlib.Core.Bool.{true, false}
 use mathlib.Core.List.{List, [], ◌∷◌}
-use mathlib.Core.Option.{Option, none, some}
+use Rattle.std.specs.Prelude.{Option, None, Some}
 use Prim.Native.Nat.{ℕ, zero, suc, ◌+◌, ◌-◌, ◌<◌, ◌≤◌}
 use native.Mathlib.Nat.{zero-add, suc-add}
 use native.Mathlib.Numerals.{sub-one}
@@ -59,8 +59,8 @@ params-names [] = refl
 params-names (r ∷ rs) = go (line_of r) (read_params rs) (params-names rs)
   where
     ended : (o : Option Fault) → On {A = List Str} (told o (got []) (r ∷ rs)) (λ ps. ps ≡ [])
-    ended (some k) = tt
-    ended none = refl
+    ended (Some k) = tt
+    ended None = refl
 
     other : On {A = List Str} (or_fault 80 (got []) (r ∷ rs)) (λ ps. ps ≡ [])
     other = ended (fault_of 80 (line_of r))
@@ -97,7 +97,7 @@ names-after (suc k) rs h =
     names-after k (rest_of rs) (omega (arith, ap length e)) ∙ sym (rw e)
 
 -- the text of that row is the name with the number k
-pub name-after : (k : ℕ) (rs : Rows) → k < length (names_of rs) → nth k (names_of rs) ≡ some (text_at (rows_after k rs))
+pub name-after : (k : ℕ) (rs : Rows) → k < length (names_of rs) → nth k (names_of rs) ≡ Some (text_at (rows_after k rs))
 unfolding rows_after nth
 name-after zero rs h = rw (names-first rs h)
 name-after (suc k) rs h =
@@ -113,11 +113,11 @@ nth_drop (suc j) k (x ∷ l) = rw suc-add (nth_drop j k l)
 -- the same where the names are those of a list from j on
 pub name-past :
     (j k : ℕ) (names : List Str) (rs : Rows) → names_of rs ≡ drop j names → j + k < length names
-    → nth (j + k) names ≡ some (text_at (rows_after k rs))
+    → nth (j + k) names ≡ Some (text_at (rows_after k rs))
 name-past j k names rs e h =
     sym (nth_drop j k names) ∙ rw (← e) (name-after k rs (omega (arith, ap length e, length-drop j names)))
 
-pub names_out : {A : Type 0} (k : ℕ) (l : List A) → length l ≤ k → nth k l ≡ none
+pub names_out : {A : Type 0} (k : ℕ) (l : List A) → length l ≤ k → nth k l ≡ None
 unfolding nth
 names_out k [] h = refl
 names_out zero (x ∷ l) h = let z : ⊥ = omega arith in absurd z

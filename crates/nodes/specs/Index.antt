@@ -2,7 +2,7 @@
 -- each of them, and the positions of every 16th parameter. Assumes nothing.
 use Rattle.std.specs.Prelude.{◌≡◌, List, [], ◌∷◌, ◌++◌, ℕ, zero, suc, ◌+◌, ◌-◌, ◌*◌, ◌/◌, ◌%◌, ◌<◌, ◌≤◌, min, eqb, ltb, length}
 use Rattle.std.specs.Prelude.{take, drop, get_or}
-use Rattle.std.proofs.Math.Option.{Option, none, some}
+use Rattle.std.specs.Prelude.{Option, None, Some}
 use Rattle.text.specs.Bytes.{Str, cond}
 use Rattle.row.specs.Rows.{rows, rest_of}
 use Rattle.row.specs.Line.{line_of, text_of, text_at, as_parameter}
@@ -66,13 +66,13 @@ with_entry index p e =
 
 -- the node with an id
 unfoldable pub by_id : ℕ → List Node → Option Node
-by_id id [] = none
-by_id id (n ∷ ns) = cond (eqb n.id id) (some n) (by_id id ns)
+by_id id [] = None
+by_id id (n ∷ ns) = cond (eqb n.id id) (Some n) (by_id id ns)
 
 -- the part with a number, from 0
 unfoldable pub nth : {A : Type 0} → ℕ → List A → Option A
-nth k [] = none
-nth zero (x ∷ xs) = some x
+nth k [] = None
+nth zero (x ∷ xs) = Some x
 nth (suc k) (x ∷ xs) = nth k xs
 
 -- the names of the P rows that stand first
@@ -138,30 +138,30 @@ pub record Indexed (s : Str) (ns : List Node) (index : List ℕ) : Type 0 where
 
 -- an entry that was looked for is that of the node, and there is none where there is no node
 abbrev pub Finds : Str → List ℕ → Found → Option Node → Type 0
-Finds s index (At e) (some n) = EntryIs s index e n
-Finds s index (At e) none = ⊥
-Finds s index Nothing (some n) = ⊥
-Finds s index Nothing none = Unit {0}
+Finds s index (At e) (Some n) = EntryIs s index e n
+Finds s index (At e) None = ⊥
+Finds s index Nothing (Some n) = ⊥
+Finds s index Nothing None = Unit {0}
 
 -- the text at a position that was found is the name with a number, from 0; no position stands for none
 abbrev pub NameAt : Str → Position → ℕ → List Str → Type 0
-NameAt s (position.At q) k names = nth k names ≡ some (text_at (rows (drop q s)))
-NameAt s position.Nothing k names = nth k names ≡ none
+NameAt s (position.At q) k names = nth k names ≡ Some (text_at (rows (drop q s)))
+NameAt s position.Nothing k names = nth k names ≡ None
 
 -- the rows that a position stands for, if there is one
 abbrev pub rows_there : Str → Position → Option Rows
-rows_there s (position.At q) = some (rows (drop q s))
-rows_there s position.Nothing = none
+rows_there s (position.At q) = Some (rows (drop q s))
+rows_there s position.Nothing = None
 
 -- the rows from the P row of an entry's parameter with a number, from 0, on: one before the first mark is counted from the
 -- first P row, any other from the last mark before it, if the index has that mark
 unfoldable pub parameter_rows : Str → List ℕ → Entry → ℕ → Option Rows
 parameter_rows s index e k =
     cond (ltb k e.count)
-    (cond (ltb k mark_every) (some (rows_after k (rows (drop e.params s))))
+    (cond (ltb k mark_every) (Some (rows_after k (rows (drop e.params s))))
     (cond (ltb (e.marks + (k / mark_every - 1)) (length index))
-    (some (rows_after (k % mark_every) (rows (drop (get_or index (e.marks + (k / mark_every - 1)) 0) s)))) none))
-    none
+    (Some (rows_after (k % mark_every) (rows (drop (get_or index (e.marks + (k / mark_every - 1)) 0) s)))) None))
+    None
 
 -- a sheet by its root and its nodes
 abbrev pub sheet_of : Str → List Node → Sheet

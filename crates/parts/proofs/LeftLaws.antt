@@ -2,7 +2,7 @@
 -- pieces over a buffer. Assumes nothing.
 use mathlib.Core.Path.{◌≡◌, refl, sym, ap, ◌∙◌}
 use mathlib.Core.List.{List, [], ◌∷◌, ◌++◌, append_assoc, append-nil}
-use mathlib.Core.Option.{Option, none, some}
+use Rattle.std.specs.Prelude.{Option, None, Some}
 use Prim.Native.Nat.{ℕ, zero, suc, ◌+◌, ◌-◌, ◌*◌, ◌≤◌, ◌<◌}
 use native.Mathlib.Nat.{suc-mul}
 use native.Mathlib.Numerals.{add-one}
@@ -44,19 +44,19 @@ use Rattle.parts.proofs.FitLaws.{lent, back, lent_length, back-length, before-ke
 
 -- ---- the part of a list with a number, and those after it
 
-nth-below : {A : Type 0} (k : ℕ) (xs : List A) (x : A) → nth k xs ≡ some x → k < length xs
+nth-below : {A : Type 0} (k : ℕ) (xs : List A) (x : A) → nth k xs ≡ Some x → k < length xs
 unfolding nth
 nth-below k [] x e = never cc
 nth-below zero (y ∷ xs) x e = omega arith
 nth-below (suc k) (y ∷ xs) x e = omega (arith, nth-below k xs x e)
 
-nth-first : {A : Type 0} (k : ℕ) (xs : List A) (x : A) → nth k xs ≡ some x → drop k xs ≡ x ∷ drop (suc k) xs
+nth-first : {A : Type 0} (k : ℕ) (xs : List A) (x : A) → nth k xs ≡ Some x → drop k xs ≡ x ∷ drop (suc k) xs
 unfolding nth
 nth-first k [] x e = never cc
 nth-first zero (y ∷ xs) x e = let z : y ≡ x = cc in rw z
 nth-first (suc k) (y ∷ xs) x e = nth-first k xs x e
 
-nth_past : {A : Type 0} (k : ℕ) (xs : List A) → nth k xs ≡ none → drop k xs ≡ []
+nth_past : {A : Type 0} (k : ℕ) (xs : List A) → nth k xs ≡ None → drop k xs ≡ []
 unfolding nth
 nth_past k [] e = drop-nil k
 nth_past zero (y ∷ xs) e = never cc
@@ -82,8 +82,8 @@ module _ (index : List ℕ) (k : ℕ) (h : k < 64) (f : Found) (found-is : f ≡
     where
       go : (s : Str) (nodes : List Node) (o : Option Node) → nth k nodes ≡ o → Finds s index found.Nothing o
           → each_text (node_text (sheet_in s nodes)) (drop k nodes) ≡ []
-      go s nodes (some n) i x = absurd x
-      go s nodes none i x = rw (nth_past k nodes i)
+      go s nodes (Some n) i x = absurd x
+      go s nodes None i x = rw (nth_past k nodes i)
 
   pub enter-found : (e : Entry) → f ≡ found.At e → Enters index k (At k e.fields)
   unfolding each_text node_text
@@ -98,7 +98,7 @@ module _ (index : List ℕ) (k : ℕ) (h : k < 64) (f : Found) (found-is : f ≡
       go : (s : Str) (nodes : List Node) → Indexed s nodes index → (o : Option Node) → nth k nodes ≡ o
           → Finds s index (found.At e) o
           → LeftAt s index k e.fields (each_text (node_text (sheet_in s nodes)) (drop k nodes))
-      go s nodes x (some n) j y = record {
+      go s nodes x (Some n) j y = record {
         nodes = nodes;
         indexed = x;
         node = n;
@@ -107,12 +107,12 @@ module _ (index : List ℕ) (k : ℕ) (h : k < 64) (f : Found) (found-is : f ≡
         here = y.fields;
         is = rw (add-one, nth-first k nodes n j);
       }
-      go s nodes x none j y = absurd y
+      go s nodes x None j y = absurd y
 
 -- what is found for the number of a node is its entry
 pub node-found :
     (s : Str) (nodes : List Node) (index : List ℕ) (k : ℕ) (n : Node) (f : Found) → f ≡ entry_with index k
-    → Indexed s nodes index → nth k nodes ≡ some n → Finds s index f (some n)
+    → Indexed s nodes index → nth k nodes ≡ Some n → Finds s index f (Some n)
 node-found s nodes index k n f found-is x i =
     let below = nth-below k nodes n i in
     rw i at (finds index k (omega (arith, below, x.few)) f found-is s nodes x)
@@ -171,7 +171,7 @@ module _ (s index : List ℕ) (k q : ℕ) (l l' : Str) (r : Field)
 
   -- a field, whose unit was written
   module _ (tag : ℕ) (fit : Fit) (there : r ≡ field_is.Nothing → ⊥)
-      (tagged : (s : Str) (ns : List Node) (n : Node) → Indexed s ns index → nth k ns ≡ some n → n.tag_offset ≡ tag)
+      (tagged : (s : Str) (ns : List Node) (n : Node) → Indexed s ns index → nth k ns ≡ Some n → n.tag_offset ≡ tag)
       (put : FieldPut (text_at (rows s)) s index tag r l l' fit) where
     field-there : (text : Str) (left : LeftAt s index k q text) → Reads s q r left.fields
     field-there text left = reads s q r left.fields left.here (first left.fields left.here) there
@@ -186,7 +186,7 @@ module _ (s index : List ℕ) (k q : ℕ) (l l' : Str) (r : Field)
 
   pub field-turn :
       (tag : ℕ) (fit : Fit) → (r ≡ field_is.Nothing → ⊥)
-      → ((s : Str) (ns : List Node) (n : Node) → Indexed s ns index → nth k ns ≡ some n → n.tag_offset ≡ tag)
+      → ((s : Str) (ns : List Node) (n : Node) → Indexed s ns index → nth k ns ≡ Some n → n.tag_offset ≡ tag)
       → FieldPut (text_at (rows s)) s index tag r l l' fit → Turns s index (At k q) l l' fit (At k (next_of r))
   unfolding each_text
   field-turn tag (Whole n) there tagged put = record {
@@ -329,7 +329,7 @@ module _ (s index : List ℕ) (place : Place) (l l' : Str) (r : Piece) (here : R
     λ room.
         at-end r.next
         (λ more.
-        let some = filled.some-bytes more (omega (arith, e, room)) here.rest here.left in
-        let z : ⊥ = omega (arith, some, empty) in
+        let Some = filled.some-bytes more (omega (arith, e, room)) here.rest here.left in
+        let z : ⊥ = omega (arith, Some, empty) in
         absurd z),
   )

@@ -1,7 +1,7 @@
 -- Laws of the parts of a field: what stands under a header, a part, and the parts from one on. Assumes nothing.
 use mathlib.Core.Path.{◌≡◌, refl, sym, ap, ◌∙◌}
 use mathlib.Core.List.{List, [], ◌∷◌, ◌++◌, append_assoc, append-nil}
-use mathlib.Core.Option.{none, some}
+use Rattle.std.specs.Prelude.{None, Some}
 use Prim.Native.Nat.{ℕ, zero, suc, ◌+◌, ◌*◌, ◌^◌, ◌≤◌, ◌<◌}
 use native.Mathlib.Omega.{arith}
 use native.Mathlib.Nat.{suc-mul}
@@ -39,15 +39,15 @@ module _ {l l' : Str} {t₀ : Text} {r : Written} (z : t₀ ≡ state_at 0) wher
   -- it is refused with a number
   pub refused-part : (o : Out Str) (k : ℕ) → Writes o l t₀ l' r → r.refusal ≡ Number k → refused_text k ≡ part_text o
   unfolding part_text
-  refused-part (ok w) k h e = let f : some k ≡ none = rw e at h.refusal in never cc
-  refused-part (refused j) k h e = let f : some k ≡ some j = rw e at h.refusal in let i : k ≡ j = cc in rw i
+  refused-part (ok w) k h e = let f : Some k ≡ None = rw e at h.refusal in never cc
+  refused-part (refused j) k h e = let f : Some k ≡ Some j = rw e at h.refusal in let i : k ≡ j = cc in rw i
 
   -- it is longer than a text may be
   pub long-part : (o : Out Str) → Writes o l t₀ l' r → r.refusal ≡ None → 65536 < r.text.at → refused_text 22 ≡ part_text o
   unfolding part_text
   long-part (ok w) h e g =
       let f : 65536 < length w = omega (arith, text-end z (h.text w refl)) in rw (lt-ltb 65536 (length w) f)
-  long-part (refused j) h e g = let f : none ≡ some j = rw e at h.refusal in never cc
+  long-part (refused j) h e g = let f : None ≡ Some j = rw e at h.refusal in never cc
 
   -- it is whole
   pub whole_part :
@@ -57,7 +57,7 @@ module _ {l l' : Str} {t₀ : Text} {r : Written} (z : t₀ ≡ state_at 0) wher
   whole_part (ok w) fit h e b g i =
       let f : length w ≤ 65536 = omega (arith, text-end z (h.text w refl)) in
       rw (le-ltb 65536 (length w) f) (taken-puts z (h.text w refl) b fit i)
-  whole_part (refused j) fit h e b g i = let f : none ≡ some j = rw e at h.refusal in never cc
+  whole_part (refused j) fit h e b g i = let f : None ≡ Some j = rw e at h.refusal in never cc
 
 -- ---- a part: a header of n bytes, and under it a text of m bytes of what was lent from n on
 

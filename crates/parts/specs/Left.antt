@@ -1,6 +1,6 @@
 -- Where the printing of a sheet stands, what is left to print there, and what a piece leaves. Assumes nothing.
 use Rattle.std.specs.Prelude.{◌≡◌, List, [], ◌++◌, ℕ, ◌+◌, drop}
-use Rattle.std.proofs.Math.Option.{some}
+use Rattle.std.specs.Prelude.{Some}
 use Rattle.text.specs.Bytes.{Str}
 use Rattle.row.specs.Rows.{rows}
 use Rattle.row.specs.Line.{text_at}
@@ -21,7 +21,7 @@ pub record LeftAt (s index : List ℕ) (number q : ℕ) (text : Str) : Type 0 wh
   pub nodes : List Node
   pub indexed : Indexed s nodes index
   pub node : Node
-  pub numbered : nth number nodes ≡ some node
+  pub numbered : nth number nodes ≡ Some node
   pub fields : List Field
   pub here : FieldsHere (rows (drop q s)) fields
   pub is : text ≡ each_text (field_text (sheet_in s nodes) node) fields

@@ -5,7 +5,7 @@
 // the same sheet (`Reached`) where something is left. What no contract can say, that `print_large` goes on at the place that
 // `print_small` came to, is what `print_sheet` is to be read for.
 ghost use Rattle.std.specs.Prelude.{◌≡◌, List, ◌+◌, ◌≤◌, ◌<◌, length};
-ghost use Rattle.std.proofs.Math.Option.{some};
+ghost use Rattle.std.specs.Prelude.{Some};
 ghost use Rattle.io.specs.Counts.{IsPrefixLen};
 ghost use Rattle.text.specs.Bytes.{Str};
 ghost use Rattle.text.specs.Text.{Wrote};
@@ -66,7 +66,7 @@ fn next_node(index: &[u64], node: usize) -> Place
 
 // The offset of the tag of the node with a number.
 fn tag_of(index: &[u64], node: usize) -> u64
-    ensures { (s : Str) (ns : List Node) (n : Node) → Indexed s ns index.now → nth node ns ≡ some n
+    ensures { (s : Str) (ns : List Node) (n : Node) → Indexed s ns index.now → nth node ns ≡ Some n
         → n.tag_offset ≡ result }
 {
     match nodes::nth(index, node) {

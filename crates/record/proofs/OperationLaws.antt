@@ -2,7 +2,7 @@
 -- one for each turn of a loop. Assumes nothing.
 use mathlib.Core.Path.{◌≡◌, refl, sym, ap, ◌∙◌, subst}
 use mathlib.Core.Bool.{Bool, true, false, not}
-use mathlib.Core.Option.{none, some}
+use Rattle.std.specs.Prelude.{None, Some}
 use mathlib.Core.List.{List, [], ◌∷◌, ◌++◌, append_assoc, append-nil}
 use Prim.Native.Nat.{ℕ, zero, suc, ◌+◌, ◌-◌, ◌*◌, ◌/◌, ◌%◌, ◌^◌, ◌≤◌, ◌<◌}
 use native.Mathlib.Nat.{mod-lt, zero-lt-suc, pow-succ', one-le-pow, one-mul}
@@ -129,7 +129,7 @@ module _ (l : List ℕ) (o : BitOffset) (h : o.0 / 8 < length l) where
 
   pub put-bool : (v m : ℕ) → v < 2 → m < 2
       → put_bits (bool_at o) v m (section_bits l)
-      ≡ some (section_bits (set l (o.0 / 8) (with_bit (get_or l (o.0 / 8) 0) (o.0 % 8) (bit_xor v m))))
+      ≡ Some (section_bits (set l (o.0 / 8) (with_bit (get_or l (o.0 / 8) 0) (o.0 % 8) (bit_xor v m))))
   unfolding put_bits
   put-bool v m hv hm =
       let s : List Bool = section_bits l in
@@ -144,7 +144,7 @@ module _ (l : List ℕ) (o : BitOffset) (h : o.0 / 8 < length l) where
       subst (λ (n : ℕ). write i (to_bits 1 x) (to_bits n b) ≡ to_bits n (with_bit b i x)) e
       (sym (with-bit-bits i (7 - i) b x (xor_lt 1 v m hv hm))) in
       rw (xors_xor 1 v m, stored-inside (a * 8 + i) (to_bits 1 x) s bool-inside)
-      (ap some (sym (write-part (a * 8) i 8 (to_bits 1 x) s (omega arith) f)
+      (ap Some (sym (write-part (a * 8) i 8 (to_bits 1 x) s (omega arith) f)
       ∙ rw (byte-bits, byte)
       (ap (λ (w : List Bool). write (a * 8) w s) (sym (append-nil (to_bits 8 (with_bit b i x))))
       ∙ write_section a (with_bit b i x ∷ []) l (omega arith))))
@@ -167,7 +167,7 @@ module _ (l : List ℕ) (w : Width) (o : ElementOffset) (h : o.0 * bytes_of w + 
 
   pub put-data : (v m : ℕ)
       → put_bits (data_at w o) v m (section_bits l)
-      ≡ some (section_bits (sets l (o.0 * bytes_of w) (little_bytes (bytes_of w) (bit_xor v m))))
+      ≡ Some (section_bits (sets l (o.0 * bytes_of w) (little_bytes (bytes_of w) (bit_xor v m))))
   unfolding put_bits
   put-data v m =
       let n : ℕ = bytes_of w in
@@ -199,7 +199,7 @@ module _ (p : Place) (l : List ℕ) (h : length l * 8 < from p + bit_count p) wh
   get-past-bytes m =
       rw (found-past (from p) (bit_count p) (section_bits l) (rw (length_section l) h)) (mask_alone (bit_count p) m)
 
-  pub put-past-bytes : (v m : ℕ) → put_bits p v m (section_bits l) ≡ none
+  pub put-past-bytes : (v m : ℕ) → put_bits p v m (section_bits l) ≡ None
   unfolding put_bits
   put-past-bytes v m =
       stored_past (from p) (coded p v m) (section_bits l) (rw (length_section l, length-xors (bit_count p) v m) h)
@@ -261,14 +261,14 @@ module _ (l : List ℕ) (i : PointerOffset) where
   unfolding null_flag
   null-past-bytes h = rw (found-past i.0 1 (flags l) (rw (length-flags l) (omega arith)))
 
-  pub clear-inside : i.0 < length l → clear_flag i (flags l) ≡ some (flags (set l i.0 0))
+  pub clear-inside : i.0 < length l → clear_flag i (flags l) ≡ Some (flags (set l i.0 0))
   unfolding clear_flag
   clear-inside h =
       let g : i.0 < length (flags l) = rw (length-flags l) h in
       let e : i.0 + 1 ≡ suc i.0 = omega arith in
       rw (stored-inside i.0 (false ∷ []) (flags l) (omega arith), e, set-flags l i.0, set_split (flags l) i.0 false g)
 
-  pub clear-past : length l ≤ i.0 → clear_flag i (flags l) ≡ none
+  pub clear-past : length l ≤ i.0 → clear_flag i (flags l) ≡ None
   unfolding clear_flag
   clear-past h = stored_past i.0 (false ∷ []) (flags l) (rw (length-flags l) (omega arith))
 

@@ -2,7 +2,7 @@
 -- width. A bit of the section lies in a place or not, and the laws of writes settle both. Assumes nothing.
 use mathlib.Core.Path.{◌≡◌, refl, sym, ap, ◌∙◌, subst}
 use mathlib.Core.Bool.{Bool, true, false, not}
-use mathlib.Core.Option.{Option, none, some}
+use Rattle.std.specs.Prelude.{Option, None, Some}
 use mathlib.Core.Logic.{◌≢◌}
 use mathlib.Core.List.{[], ◌∷◌}
 use Prim.Native.Nat.{ℕ, ◌+◌, ◌-◌, ◌*◌, ◌^◌, ◌≤◌, ◌<◌}
@@ -47,7 +47,7 @@ module _ (p : Place) (v m : ℕ) (r : Record) (h : Holds p r) where
   fits : from p + length (coded p v m) ≤ length r.bits
   fits = rw (coded-size p v m) h
 
-  pub put-inside : put_value p v m r ≡ some (after p v m r)
+  pub put-inside : put_value p v m r ≡ Some (after p v m r)
   unfolding after put_bits
   put-inside = rw (stored-inside (from p) (coded p v m) r.bits fits)
 
@@ -93,26 +93,26 @@ module _ (p : Place) (v m : ℕ) (r : Record) (h : Holds p r) where
   get_set l = get-coded m ∙ rw (xors_twice (bit_count p) v m) (of_to (bit_count p) v l)
 
 -- past the section a set has no meaning
-pub put-past : (p : Place) (v m : ℕ) (r : Record) → length r.bits < from p + bit_count p → put_value p v m r ≡ none
+pub put-past : (p : Place) (v m : ℕ) (r : Record) → length r.bits < from p + bit_count p → put_value p v m r ≡ None
 unfolding put_bits
 put-past p v m r h = rw (stored_past (from p) (coded p v m) r.bits (rw (coded-size p v m) h))
 
 -- where a set has a meaning, the section holds its place whole
-pub put-held : (p : Place) (v m : ℕ) (r s : Record) → put_value p v m r ≡ some s → Holds p r
+pub put-held : (p : Place) (v m : ℕ) (r s : Record) → put_value p v m r ≡ Some s → Holds p r
 put-held p v m r s e = go (dec_lt (length r.bits) (from p + bit_count p))
   where
     go : Dec (length r.bits < from p + bit_count p) → Holds p r
     go (yes h) =
-        let d : ◌≡◌ {A = Option Record} none (some s) = sym (put-past p v m r h) ∙ e in
+        let d : ◌≡◌ {A = Option Record} None (Some s) = sym (put-past p v m r h) ∙ e in
         let z : ◌≡◌ {A = ℕ} 0 1 = cc in
         absurd (omega arith)
     go (no h) = omega arith
 
 -- and it leaves as many bits as there were
-pub put-length : (p : Place) (v m : ℕ) (r s : Record) → put_value p v m r ≡ some s → length s.bits ≡ length r.bits
+pub put-length : (p : Place) (v m : ℕ) (r s : Record) → put_value p v m r ≡ Some s → length s.bits ≡ length r.bits
 put-length p v m r s e =
     let h = put-held p v m r s e in
-    let d : some (after p v m r) ≡ some s = sym (put-inside p v m r h) ∙ e in
+    let d : Some (after p v m r) ≡ Some s = sym (put-inside p v m r h) ∙ e in
     let f : s ≡ after p v m r = cc in
     ap (λ (x : Record). length x.bits) f ∙ after-length p v m r h
 
@@ -137,7 +137,7 @@ module _ (i : PointerOffset) (r : Record) (h : HoldsPointer i r) where
   one_inside : pointer_address i + 1 ≤ length r.pointers
   one_inside = omega arith
 
-  pub clear-inside : clear i r ≡ some (cleared i r)
+  pub clear-inside : clear i r ≡ Some (cleared i r)
   unfolding clear_flag cleared
   clear-inside = rw (stored-inside (pointer_address i) (false ∷ []) r.pointers one_inside)
 

@@ -1,7 +1,7 @@
 -- Sections: what a write leaves, bit by bit; what is found and stored inside a section and past it. Assumes nothing.
 use mathlib.Core.Path.{◌≡◌, refl, sym, ap, ◌∙◌, subst}
 use mathlib.Core.Bool.{Bool, false}
-use mathlib.Core.Option.{none, some}
+use Rattle.std.specs.Prelude.{None, Some}
 use mathlib.Core.Logic.{◌⊎◌, inl, inr}
 use mathlib.Core.List.{List, ◌++◌}
 use Prim.Native.Nat.{ℕ, ◌+◌, ◌-◌, ◌≤◌, ◌<◌}
@@ -159,10 +159,10 @@ pub found_ext : (a n : ℕ) (l m : List Bool) → length m ≡ length l
 unfolding found
 found_ext a n l m e f = rw (e, read_ext a n l m e f)
 
-pub stored-inside : (a : ℕ) (vs l : List Bool) → a + length vs ≤ length l → stored a vs l ≡ some (write a vs l)
+pub stored-inside : (a : ℕ) (vs l : List Bool) → a + length vs ≤ length l → stored a vs l ≡ Some (write a vs l)
 unfolding stored
 stored-inside a vs l h = rw (le-leb _ _ h)
 
-pub stored_past : (a : ℕ) (vs l : List Bool) → length l < a + length vs → stored a vs l ≡ none
+pub stored_past : (a : ℕ) (vs l : List Bool) → length l < a + length vs → stored a vs l ≡ None
 unfolding stored
 stored_past a vs l h = rw (lt-leb _ _ h)

@@ -1,6 +1,6 @@
 -- What sets and clears of a lent record answer and leave, in the words of the definitions on sections. Assumes nothing.
 use Rattle.std.specs.Prelude.{ℕ, ◌≡◌, Bool, true, false, List, set}
-use Rattle.std.proofs.Math.Option.{Option, none, some}
+use Rattle.std.specs.Prelude.{Option, None, Some}
 use Rattle.record.specs.Bits.{section_bits, flags}
 use Rattle.record.specs.Offsets.{Place, pointer_address}
 use Rattle.record.specs.Record.{is_some, put_bits, clear_flag}
@@ -15,8 +15,8 @@ set_means sets.NoMeaning = false
 
 -- the section that an operation leaves: the one before it where it has no meaning
 abbrev pub leaves : Option (List Bool) → List Bool → List Bool
-leaves none l = l
-leaves (some k) l = k
+leaves None l = l
+leaves (Some k) l = k
 
 -- a set of v with mask m at a place, on data bytes l, leaves l' and answers r
 pub record Put (p : Place) (v m : ℕ) (l l' : List ℕ) (r : Set) : Type 0 where

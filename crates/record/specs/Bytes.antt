@@ -2,7 +2,7 @@
 -- is, and which bytes a set changes. Worked instances follow, computed. Assumes nothing.
 use Rattle.std.specs.Prelude.{ℕ, ◌+◌, ◌*◌, ◌/◌, ◌%◌, ◌^◌, ◌≤◌, ◌<◌, ◌≡◌, refl, true, false, List, [], ◌∷◌, eqb, length, take}
 use Rattle.std.specs.Prelude.{drop, get_or, set}
-use Rattle.std.proofs.Math.Option.{some}
+use Rattle.std.specs.Prelude.{Some}
 use Rattle.std.specs.Int.Bits.{bit_xor}
 use Rattle.std.proofs.lemmas.List.Edits.{sets}
 use Rattle.record.specs.Bits.{of_bits, with_bit, section_bits, little, little_bytes}
@@ -35,10 +35,10 @@ abbrev pub SetBytesHolds : Type 0
 SetBytesHolds =
     ((l : List ℕ) (o : BitOffset) → o.0 / 8 < length l → (v m : ℕ) → v < 2 → m < 2
     → put_bits (bool_at o) v m (section_bits l)
-    ≡ some (section_bits (set l (o.0 / 8) (with_bit (get_or l (o.0 / 8) 0) (o.0 % 8) (bit_xor v m)))))
+    ≡ Some (section_bits (set l (o.0 / 8) (with_bit (get_or l (o.0 / 8) 0) (o.0 % 8) (bit_xor v m)))))
     × ((l : List ℕ) (w : Width) (o : ElementOffset) → o.0 * bytes_of w + bytes_of w ≤ length l → (v m : ℕ)
     → put_bits (data_at w o) v m (section_bits l)
-    ≡ some (section_bits (sets l (o.0 * bytes_of w) (little_bytes (bytes_of w) (bit_xor v m)))))
+    ≡ Some (section_bits (sets l (o.0 * bytes_of w) (little_bytes (bytes_of w) (bit_xor v m)))))
 
 -- Bytes with the same bits are the same, so that a contract that says the bits of lent bytes says the bytes.
 abbrev pub SameBytesHolds : Type 0
@@ -63,8 +63,8 @@ number-one = (refl, refl)
 
 -- false set at 11 takes 8 from byte 1; 258, masked with 3, set at element 1 makes its bytes 1 and 1
 pub sets-right :
-    (put_bits (bool_at (record { 0 = 11 })) 0 0 (section_bits some_bytes) ≡ some (section_bits (1 ∷ 0 ∷ 3 ∷ 4 ∷ [])))
-    × (put_bits (data_at Two (record { 0 = 1 })) 258 3 (section_bits some_bytes) ≡ some (section_bits (1 ∷ 8 ∷ 1 ∷ 1 ∷ [])))
+    (put_bits (bool_at (record { 0 = 11 })) 0 0 (section_bits some_bytes) ≡ Some (section_bits (1 ∷ 0 ∷ 3 ∷ 4 ∷ [])))
+    × (put_bits (data_at Two (record { 0 = 1 })) 258 3 (section_bits some_bytes) ≡ Some (section_bits (1 ∷ 8 ∷ 1 ∷ 1 ∷ [])))
 unfolding stored put_bits
 sets-right = (refl, refl)
 

@@ -1,7 +1,7 @@
 -- The lines and texts of a slot's accessors, from the calls in them: those of Void, Bool, numeric and enum slots, the hasers of
 -- pointer slots, and zeroing lines. What stands in a function's opening line or in a result type is left open. Assumes nothing.
 use Rattle.std.specs.Prelude.{Bool, List, [], ◌∷◌, ◌++◌, ℕ}
-use Rattle.std.proofs.Math.Option.{Option, none, some}
+use Rattle.std.specs.Prelude.{Option, None, Some}
 use Rattle.text.specs.Bytes.{Str, ascii, unit}
 use Rattle.text.specs.Lines.{FormattedTexts, Indent, Branch, Line, none as no_more, ◌&◌, stringify}
 use Rattle.record.specs.Types.{type_name_of, Kind, bool, num, enum}
@@ -49,8 +49,8 @@ function_text opening body =
 
 -- a setter's body: the tag's line where the slot is a union's member, then the set; a Void slot has no set
 abbrev pub tag_then : Option Tag → FormattedTexts → FormattedTexts
-tag_then none more = more
-tag_then (some t) more = Line (set_tag t.0 t.1) & more
+tag_then None more = more
+tag_then (Some t) more = Line (set_tag t.0 t.1) & more
 
 abbrev pub setter_text : Str → Option Tag → Kind → ℕ → Option Str → Str
 setter_text opening tag k o mask = function_text opening (tag_then tag (Line (set_line k o mask) & no_more))
@@ -64,8 +64,8 @@ getter_lines typ line = typ ++ unit 10 ++ stringify (Line line)
 
 -- a haser's body: the test of the tag where there is one, then that the pointer is not null
 abbrev pub haser_body : Bool → Option Tag → ℕ → FormattedTexts
-haser_body is_reader none i = Line (not_null is_reader i) & no_more
-haser_body is_reader (some t) i = Line (tag_test is_reader t.0 t.1) & Line (not_null is_reader i) & no_more
+haser_body is_reader None i = Line (not_null is_reader i) & no_more
+haser_body is_reader (Some t) i = Line (tag_test is_reader t.0 t.1) & Line (not_null is_reader i) & no_more
 
 abbrev pub haser_text : Str → Bool → Option Tag → ℕ → Str
 haser_text opening is_reader tag i = function_text opening (haser_body is_reader tag i)

@@ -1,7 +1,7 @@
 -- The masks of a slot's getter and setter, from its kind, its default's bits and its explicit flag: as bits, and as they are
 -- written. Assumes nothing.
 use Rattle.std.specs.Prelude.{Bool, ◌++◌, ℕ, ◌-◌, ◌*◌, ◌^◌, eqb}
-use Rattle.std.proofs.Math.Option.{Option, none, some}
+use Rattle.std.specs.Prelude.{Option, None, Some}
 use Rattle.text.specs.Bytes.{Str, ascii, cond, either}
 use Rattle.text.specs.Decimal.{decimal, signed}
 use Rattle.record.specs.Offsets.{bytes_of}
@@ -13,7 +13,7 @@ abbrev pub half_of : Width → ℕ
 half_of w = 2 ^ (bytes_of w * 8 - 1)
 
 abbrev unless_zero : ℕ → Option ℕ
-unless_zero d = cond (eqb d 0) none (some d)
+unless_zero d = cond (eqb d 0) None (Some d)
 
 -- the getter's rule: a default whose bits are not all zero (getter_text)
 abbrev pub get_mask : Kind → ℕ → Bool → Option ℕ
@@ -24,9 +24,9 @@ abbrev pub set_mask : Kind → ℕ → Bool → Option ℕ
 set_mask bool d explicit = unless_zero d
 set_mask (num (int w)) d explicit = unless_zero d
 set_mask (num (uint w)) d explicit = unless_zero d
-set_mask (num float32) d explicit = cond (either (eqb d 0) (eqb d (2 ^ 31))) none (some d)
-set_mask (num float64) d explicit = cond (either (eqb d 0) (eqb d (2 ^ 63))) none (some d)
-set_mask enum d explicit = cond explicit (some d) none
+set_mask (num float32) d explicit = cond (either (eqb d 0) (eqb d (2 ^ 31))) None (Some d)
+set_mask (num float64) d explicit = cond (either (eqb d 0) (eqb d (2 ^ 63))) None (Some d)
+set_mask enum d explicit = cond explicit (Some d) None
 
 -- how a getter writes a mask: a signed number with its sign, a float as its bits
 unfoldable pub get_mask_text : Kind → ℕ → Str
@@ -48,5 +48,5 @@ set_mask_text enum m = decimal m
 
 -- no mask counts as 0
 abbrev pub mask_bits : Option ℕ → ℕ
-mask_bits none = 0
-mask_bits (some m) = m
+mask_bits None = 0
+mask_bits (Some m) = m

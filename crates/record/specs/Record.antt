@@ -2,7 +2,7 @@
 -- flags, is a list of Bools, so that one get and one set serve Bools, numbers and pointers. Assumes nothing.
 use Rattle.std.specs.Prelude.{ℕ, ◌+◌, ◌≤◌, ◌<◌, ◌≡◌, Bool, true, false, List, [], ◌∷◌, ◌++◌, eqb, leb, length, take, drop}
 use Rattle.std.specs.Prelude.{get_or, replicate}
-use Rattle.std.proofs.Math.Option.{Option, none, some}
+use Rattle.std.specs.Prelude.{Option, None, Some}
 use Rattle.text.specs.Bytes.{cond}
 use Rattle.record.specs.Bits.{to_bits, of_bits, xors}
 use Rattle.record.specs.Offsets.{Place, data_at, from, bit_count, pointer_address}
@@ -11,18 +11,18 @@ use Rattle.record.specs.declared.PointerOffset.{PointerOffset}
 use Rattle.record.specs.declared.Width.TheVariants.{Two}
 
 -- a value where the test holds, else none
-abbrev pub only {ℓ} : {A : Type ℓ} → Bool → A → Option A
-only true a = some a
-only false a = none
+abbrev pub only : {A : Type 0} → Bool → A → Option A
+only true a = Some a
+only false a = None
 
 -- whether there is one
-abbrev pub is_some {ℓ} : {A : Type ℓ} → Option A → Bool
-is_some none = false
-is_some (some a) = true
+abbrev pub is_some : {A : Type 0} → Option A → Bool
+is_some None = false
+is_some (Some a) = true
 
-abbrev pub map_o {ℓ} : {A B : Type ℓ} → (A → B) → Option A → Option B
-map_o f none = none
-map_o f (some a) = some (f a)
+abbrev pub map_o : {A B : Type 0} → (A → B) → Option A → Option B
+map_o f None = None
+map_o f (Some a) = Some (f a)
 
 -- n bits from a on, and the section with vs put there
 abbrev pub read : ℕ → ℕ → List Bool → List Bool

@@ -1,6 +1,6 @@
 -- The types of slots that have bits: Bool, the numeric types and enums, with document 01's numbers for them. Assumes nothing.
 use Rattle.std.specs.Prelude.{List, [], ◌∷◌, ℕ, ◌*◌, get_or}
-use Rattle.std.proofs.Math.Option.{Option, none, some}
+use Rattle.std.specs.Prelude.{Option, None, Some}
 use Rattle.text.specs.Bytes.{Str, ascii}
 use Rattle.record.specs.Offsets.{Place, bool_at, data_at, bytes_of}
 use Rattle.record.specs.declared.Width.{Width}
@@ -50,14 +50,14 @@ slot_bits enum = 16
 -- the kinds by document 01's numbers, 0 to 15: Void and the pointer kinds have no bits, nor have 16 to 18, past the list
 abbrev kinds : List (Option Kind)
 kinds =
-    none ∷ some bool
-    ∷ some (num (int One)) ∷ some (num (int Two)) ∷ some (num (int Four)) ∷ some (num (int Eight))
-    ∷ some (num (uint One)) ∷ some (num (uint Two)) ∷ some (num (uint Four)) ∷ some (num (uint Eight))
-    ∷ some (num float32) ∷ some (num float64)
-    ∷ none ∷ none ∷ none ∷ some enum ∷ []
+    None ∷ Some bool
+    ∷ Some (num (int One)) ∷ Some (num (int Two)) ∷ Some (num (int Four)) ∷ Some (num (int Eight))
+    ∷ Some (num (uint One)) ∷ Some (num (uint Two)) ∷ Some (num (uint Four)) ∷ Some (num (uint Eight))
+    ∷ Some (num float32) ∷ Some (num float64)
+    ∷ None ∷ None ∷ None ∷ Some enum ∷ []
 
 unfoldable pub kind_of : ℕ → Option Kind
-kind_of n = get_or kinds n none
+kind_of n = get_or kinds n None
 
 -- where a slot's bits stand: its offset is in bits for a Bool, in elements for any other
 abbrev pub place_of : Kind → ℕ → Place

@@ -1,6 +1,6 @@
 -- What the boundary's functions answer and leave, from the definitions on sections. Assumes nothing.
 use Rattle.std.specs.Prelude.{◌≡◌, Bool, List, ℕ, eqb}
-use Rattle.std.proofs.Math.Option.{Option, none, some}
+use Rattle.std.specs.Prelude.{Option, None, Some}
 use Rattle.text.specs.Bytes.{cond}
 use Rattle.record.specs.Bits.{section_bits}
 use Rattle.record.specs.Offsets.{bool_at, data_at}
@@ -25,8 +25,8 @@ pointer_at n = record { 0 = n }
 -- the width of so many bytes, if there is one
 abbrev pub as_width : ℕ → Option Width
 as_width n =
-    cond (eqb n 1) (some One)
-    (cond (eqb n 2) (some Two) (cond (eqb n 4) (some Four) (cond (eqb n 8) (some Eight) none)))
+    cond (eqb n 1) (Some One)
+    (cond (eqb n 2) (Some Two) (cond (eqb n 4) (Some Four) (cond (eqb n 8) (Some Eight) None)))
 
 -- a get and a set of a Bool
 abbrev pub gets_bool : ℕ → ℕ → List ℕ → ℕ
@@ -37,16 +37,16 @@ put_bool o v m l = put_bits (bool_at (bits o)) v m (section_bits l)
 
 -- a get and a set of a number: of no width nothing is found or set
 abbrev pub get_of : Option Width → ElementOffset → ℕ → List Bool → Option ℕ
-get_of none o m l = none
-get_of (some w) o m l = some (get_bits (data_at w o) m l)
+get_of None o m l = None
+get_of (Some w) o m l = Some (get_bits (data_at w o) m l)
 
 abbrev pub put_of : Option Width → ElementOffset → ℕ → ℕ → List Bool → Option (List Bool)
-put_of none o v m l = none
-put_of (some w) o v m l = put_bits (data_at w o) v m l
+put_of None o v m l = None
+put_of (Some w) o v m l = put_bits (data_at w o) v m l
 
 abbrev pub or : Option ℕ → ℕ → ℕ
-or none x = x
-or (some v) x = v
+or None x = x
+or (Some v) x = v
 
 -- what a get of a number answers and leaves in its value
 pub record Gave (found : Option ℕ) (old new : ℕ) (r : Bool) : Type 0 where

@@ -1,6 +1,6 @@
 -- Laws of the answer: each way in which a request ends. The fill count is within the buffer, but for 21. Assumes nothing.
 use mathlib.Core.Path.{◌≡◌, refl, ap, ◌∙◌}
-use mathlib.Core.Option.{none, some}
+use Rattle.std.specs.Prelude.{None, Some}
 use Prim.Native.Nat.{ℕ, ◌+◌, ◌-◌, ◌^◌, ◌≤◌, ◌<◌, min}
 use native.Mathlib.Omega.{arith}
 use borrow.Author.Tests.{lt-ltb, le-ltb}
@@ -61,10 +61,10 @@ module _ (l : Str) (t : Text) (within : t.at ≤ length l) where
 
 -- what is refused where it is measured is refused wherever it would be written
 pub refused_so : (o : Out Str) {l₀ : Str} {t₀ : Text} {l₁ : Str} {r : Written} {l : Str} {t : Text} {l' : Str} {q : Written}
-    → Writes o l₀ t₀ l₁ r → (k : ℕ) → r.refusal ≡ Number k → refusal_number q.refusal ≡ some k → Writes o l t l' q
+    → Writes o l₀ t₀ l₁ r → (k : ℕ) → r.refusal ≡ Number k → refusal_number q.refusal ≡ Some k → Writes o l t l' q
 refused_so o {l = l} {t = t} {l' = l'} {q = q} w k e n = go o (rw e at w.refusal)
   where
-    go : (o : Out Str) → some k ≡ refusal_of o → Writes o l t l' q
+    go : (o : Out Str) → Some k ≡ refusal_of o → Writes o l t l' q
     go (ok w) e = never cc
     go (refused j) e = let z : j ≡ k = cc in rw z (refused-text n)
 
@@ -76,7 +76,7 @@ module _
     pub own-refusal : (k : ℕ) → r.refusal ≡ Number k → Answered l t (outcome o) l (Refused k 0 0)
     own-refusal k e = go o (rw e at measured.refusal)
       where
-        go : (o : Out Str) → some k ≡ refusal_of o → Answered l t (outcome o) l (Refused k 0 0)
+        go : (o : Out Str) → Some k ≡ refusal_of o → Answered l t (outcome o) l (Refused k 0 0)
         go (ok w) e = never cc
         go (refused j) e = let z : j ≡ k = cc in rw z (refuses_so l t within k 0 0)
 
@@ -86,7 +86,7 @@ module _
       pub own-long : length l - fill < n → Answered l t (outcome o) l (Refused 22 0 0)
       own-long h = go o (rw whole at measured.refusal) measured
         where
-          go : (o : Out Str) → none ≡ refusal_of o → Writes o l₀ t₀ l₁ r → Answered l t (outcome o) l (Refused 22 0 0)
+          go : (o : Out Str) → None ≡ refusal_of o → Writes o l₀ t₀ l₁ r → Answered l t (outcome o) l (Refused 22 0 0)
           go (ok w) e m = too_long l t within w b (omega (arith, text-end z (text_of m), long, f))
           go (refused j) e m = never cc
 
@@ -95,7 +95,7 @@ module _
           → u ≡ state_at (fill + n) → Answered l t (outcome o) (back l fill l₂) (Done u)
       own-text l₂ q u h written d = go o (rw whole at measured.refusal) measured (rw f at written)
         where
-          go : (o : Out Str) → none ≡ refusal_of o → Writes o l₀ t₀ l₁ r → Writes o (lent l t.at) t₀ l₂ q
+          go : (o : Out Str) → None ≡ refusal_of o → Writes o l₀ t₀ l₁ r → Writes o (lent l t.at) t₀ l₂ q
               → Answered l t (outcome o) (back l fill l₂) (Done u)
           go (ok w) e m v =
               let k : n ≡ length w = omega (arith, text-end z (text_of m), long, f) in

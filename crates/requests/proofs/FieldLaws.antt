@@ -2,7 +2,7 @@
 -- arm. Assumes nothing.
 use mathlib.Core.Path.{◌≡◌, refl, sym}
 use mathlib.Core.List.{List}
-use mathlib.Core.Option.{Option, none, some}
+use Rattle.std.specs.Prelude.{Option, None, Some}
 use mathlib.Core.Bool.{true, false, not}
 use Prim.Native.Nat.{ℕ, ◌-◌, ◌<◌}
 use native.Mathlib.Omega.{arith}
@@ -52,14 +52,14 @@ module _ (s : Str) (index : List ℕ) (nodes : List Node) (id place : ℕ) where
     where
       by_field : (n : Node) (o : Option tree.Field) → n.tag_offset ≡ e.tag_offset → FindsField s f o
           → Locates s (record { tag = e.tag_offset; field = f }) (there o then λ g. ok (n, g))
-      by_field n (some g) t h = (t, h)
-      by_field n none t h = (refl, h)
+      by_field n (Some g) t h = (t, h)
+      by_field n None t h = (refl, h)
 
       go : (o : Option Node) → Finds s index (found.At e) o
           → Locates s (record { tag = e.tag_offset; field = f })
           (there o then λ n. there (nth place n.fields) then λ g. ok (n, g))
-      go (some n) h = by_field n (nth place n.fields) (sym h.tag-offset) (at_place n.fields h.fields)
-      go none h = absurd h
+      go (Some n) h = by_field n (nth place n.fields) (sym h.tag-offset) (at_place n.fields h.fields)
+      go None h = absurd h
 
   pub unlocated : Indexed s nodes index → found.Nothing ≡ lookup index id
       → Locates s (record { tag = 0; field = field.Nothing }) (field_at nodes id place)
@@ -69,8 +69,8 @@ module _ (s : Str) (index : List ℕ) (nodes : List Node) (id place : ℕ) where
       go : (o : Option Node) → Finds s index found.Nothing o
           → Locates s (record { tag = 0; field = field.Nothing })
           (there o then λ n. there (nth place n.fields) then λ g. ok (n, g))
-      go (some n) h = absurd h
-      go none h = (refl, refl)
+      go (Some n) h = absurd h
+      go None h = (refl, refl)
 
 -- whether it may have scopes: nothing but a slot, by the bytes between its type and its words
 pub scopes-none : (f : Field) → ((r : code.Slot) → f ≡ field.Slot r → ⊥) → false ≡ may_have_scopes f

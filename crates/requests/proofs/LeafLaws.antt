@@ -1,7 +1,7 @@
 -- Laws of a leaf's number: the ten leaves stand at their numbers, and no other number has one. Assumes nothing.
 use mathlib.Core.Path.{◌≡◌, refl, ap, ◌∙◌}
 use mathlib.Core.Bool.{Bool, true, false}
-use mathlib.Core.Option.{Option, none, some}
+use Rattle.std.specs.Prelude.{Option, None, Some}
 use Prim.Native.Nat.{ℕ, suc, ◌≤◌}
 use lib.Dec.{ltb}
 use native.Mathlib.Omega.{arith}
@@ -25,7 +25,7 @@ more n k h e = omega arith
 -- a number that is none of the ten
 pub no-leaf :
     (n : ℕ) → (n ≡ 0 → ⊥) → (n ≡ 1 → ⊥) → (n ≡ 2 → ⊥) → (n ≡ 3 → ⊥) → (n ≡ 4 → ⊥) → (n ≡ 5 → ⊥) → (n ≡ 6 → ⊥) → (n ≡ 7 → ⊥)
-    → (n ≡ 8 → ⊥) → (n ≡ 9 → ⊥) → none ≡ leaf_asked n
+    → (n ≡ 8 → ⊥) → (n ≡ 9 → ⊥) → None ≡ leaf_asked n
 no-leaf n a b c d e f g h i j =
     let z : 10 ≤ n = more n 9 (more n 8 (more n 7 (more n 6 (more n 5 (more n 4 (more n 3 (more n 2 (more n 1 (more n 0
     (omega arith) a) b) c) d) e) f) g) h) i) j in
@@ -46,17 +46,17 @@ leaf-at Pipeline = refl
 leaf-at GetType = refl
 
 -- a number that has a leaf, and one that has none, which is 15
-pub leaf-is : (n : ℕ) (leaf : Leaf) → some (leaf_number leaf) ≡ leaf_asked n → leaf_of n ≡ ok leaf
+pub leaf-is : (n : ℕ) (leaf : Leaf) → Some (leaf_number leaf) ≡ leaf_asked n → leaf_of n ≡ ok leaf
 leaf-is n leaf e = go (ltb n 10) e
   where
-    go : (b : Bool) → some (leaf_number leaf) ≡ cond b (some n) none → leaf_of n ≡ ok leaf
+    go : (b : Bool) → Some (leaf_number leaf) ≡ cond b (Some n) None → leaf_of n ≡ ok leaf
     go true e = let z : n ≡ leaf_number leaf = cc in ap leaf_of z ∙ leaf-at leaf
     go false e = never cc
 
-pub leaf-none : (n : ℕ) → none ≡ leaf_asked n → leaf_of n ≡ refused 15
+pub leaf-none : (n : ℕ) → None ≡ leaf_asked n → leaf_of n ≡ refused 15
 unfolding leaf_of
 leaf-none n e = go (ltb n 10) refl e
   where
-    go : (b : Bool) → ltb n 10 ≡ b → none ≡ cond b (some n) none → there (nth n leaf_numbers) ≡ refused 15
+    go : (b : Bool) → ltb n 10 ≡ b → None ≡ cond b (Some n) None → there (nth n leaf_numbers) ≡ refused 15
     go true i e = never cc
     go false i e = ap (λ (o : Option Leaf). there o) (names_out n leaf_numbers (ltb-false n 10 i))

@@ -1,7 +1,7 @@
 -- Laws of one pass: what its text comes to, in each way in which it ends, and whose text it is. Assumes nothing.
 use mathlib.Core.Path.{◌≡◌, refl, sym, ◌∙◌}
 use mathlib.Core.List.{List}
-use mathlib.Core.Option.{Option, none, some}
+use Rattle.std.specs.Prelude.{Option, None, Some}
 use Prim.Native.Nat.{ℕ, ◌-◌, ◌^◌, ◌≤◌, ◌<◌}
 use native.Mathlib.Omega.{arith}
 use borrow.Author.Tests.{lt-ltb, le-ltb}
@@ -40,7 +40,7 @@ module _ (o : Out Str) (l l' : Str) {t₀ : Text} (z : t₀ ≡ state_at 0) (r :
   pub pass_refused : (k : ℕ) → r.refusal ≡ Number k → Passed o l l' (pass.Refused k)
   pass_refused k e = go o (rw e at written.refusal)
     where
-      go : (o : Out Str) → some k ≡ refusal_of o → Passed o l l' (pass.Refused k)
+      go : (o : Out Str) → Some k ≡ refusal_of o → Passed o l l' (pass.Refused k)
       go (ok w) e = never cc
       go (refused j) e = let x : j ≡ k = cc in rw x (refused_so l l' k)
 
@@ -48,7 +48,7 @@ module _ (o : Out Str) (l l' : Str) {t₀ : Text} (z : t₀ ≡ state_at 0) (r :
     pub pass-longer : length l < n → Passed o l l' (pass.Longer n)
     pass-longer h = go o (rw whole at written.refusal) written
       where
-        go : (o : Out Str) → none ≡ refusal_of o → Writes o l t₀ l' r → Passed o l l' (pass.Longer n)
+        go : (o : Out Str) → None ≡ refusal_of o → Writes o l t₀ l' r → Passed o l l' (pass.Longer n)
         go (ok w) e v =
             let c = text-end z (text_of v) in
             let m : length l < length w = omega (arith, c, end) in
@@ -61,7 +61,7 @@ module _ (o : Out Str) (l l' : Str) {t₀ : Text} (z : t₀ ≡ state_at 0) (r :
     pub pass-whole : n ≤ length l → Passed o l l' (pass.Whole n)
     pass-whole h = go o (rw whole at written.refusal) written
       where
-        go : (o : Out Str) → none ≡ refusal_of o → Writes o l t₀ l' r → Passed o l l' (pass.Whole n)
+        go : (o : Out Str) → None ≡ refusal_of o → Writes o l t₀ l' r → Passed o l l' (pass.Whole n)
         go (ok w) e v =
             let m : n ≡ length w = omega (arith, text-end z (text_of v), end) in
             record {
@@ -76,7 +76,7 @@ module _ (o : Out Str) (l l' : Str) {t₀ : Text} (z : t₀ ≡ state_at 0) (r :
 
 module _ (s : Str) (nodes : List Node) (index : List ℕ) (x : Indexed s nodes index) (k : ℕ) (o : Option tree.Field)
     (g : Node × tree.Field → Out Str) (l l' : Str) where
-  no_node : nth k nodes ≡ none → Passed (in_node nodes k o then g) l l' (pass.Refused 15)
+  no_node : nth k nodes ≡ None → Passed (in_node nodes k o then g) l l' (pass.Refused 15)
   no_node e = rw e (refused_so l l' 15)
 
   -- a number that no node can have, and one that none has
@@ -88,8 +88,8 @@ module _ (s : Str) (nodes : List Node) (index : List ℕ) (x : Indexed s nodes i
     where
       go : (m : Option Node) → nth k nodes ≡ m → Finds s index found.Nothing m
           → Passed (in_node nodes k o then g) l l' (pass.Refused 15)
-      go (some n) e h = absurd h
-      go none e h = no_node e
+      go (Some n) e h = absurd h
+      go None e h = no_node e
 
   -- a node without such a field, and with it
   module _ (e : Entry) (f : Field) (there : found.At e ≡ entry_with index k) (is : FindsField s f o) where
@@ -101,9 +101,9 @@ module _ (s : Str) (nodes : List Node) (index : List ℕ) (x : Indexed s nodes i
       where
         go : (m : Option Node) → nth k nodes ≡ m → (o : Option tree.Field) → FindsField s field.Nothing o
             → Passed (in_node nodes k o then g) l l' (pass.Refused 15)
-        go none h o c = rw h (refused_so l l' 15)
-        go (some n) h none c = rw h (refused_so l l' 15)
-        go (some n) h (some y) c = absurd c
+        go None h o c = rw h (refused_so l l' 15)
+        go (Some n) h None c = rw h (refused_so l l' 15)
+        go (Some n) h (Some y) c = absurd c
 
     pub field-passed : (r : Pass) → (f ≡ field.Nothing → ⊥)
         → ((at : Node × tree.Field) → at.0.tag_offset ≡ e.tag_offset → FieldIs s f at.1 → Passed (g at) l l' r)
@@ -112,6 +112,6 @@ module _ (s : Str) (nodes : List Node) (index : List ℕ) (x : Indexed s nodes i
       where
         go : (m : Option Node) → nth k nodes ≡ m → Finds s index (found.At e) m → (o : Option tree.Field) → FindsField s f o
             → Passed (in_node nodes k o then g) l l' r
-        go none h b o c = absurd b
-        go (some n) h b none c = absurd (i c)
-        go (some n) h b (some y) c = rw h (p (n, y) (sym b.tag-offset) c)
+        go None h b o c = absurd b
+        go (Some n) h b None c = absurd (i c)
+        go (Some n) h b (Some y) c = rw h (p (n, y) (sym b.tag-offset) c)

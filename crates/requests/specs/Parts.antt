@@ -1,6 +1,6 @@
 -- What the private parts of the code say, in the terms of the definitions. Assumes nothing.
 use Rattle.std.specs.Prelude.{◌≡◌, List, Bool, false, not, ℕ, ◌-◌, eqb, ltb}
-use Rattle.std.proofs.Math.Option.{Option, none, some}
+use Rattle.std.specs.Prelude.{Option, None, Some}
 use Rattle.text.specs.Bytes.{Str, cond}
 use Rattle.text.specs.declared.Text.{Text}
 use Rattle.row.specs.Rows.{rows}
@@ -23,12 +23,12 @@ use Rattle.requests.specs.declared.LeafNumber.TheVariants as number
 
 -- the number of the leaf that was found, if one was
 abbrev pub leaf_said : LeafNumber → Option ℕ
-leaf_said (number.Is leaf) = some (leaf_number leaf)
-leaf_said number.Nothing = none
+leaf_said (number.Is leaf) = Some (leaf_number leaf)
+leaf_said number.Nothing = None
 
 -- a number that is asked for, if a leaf has it: there are ten
 abbrev pub leaf_asked : ℕ → Option ℕ
-leaf_asked n = cond (ltb n 10) (some n) none
+leaf_asked n = cond (ltb n 10) (Some n) None
 
 -- whether a field's type may have a brand with scopes: not where from the type to the words there is just room for one row of T,
 -- or for two, and a V row

@@ -1,6 +1,6 @@
 -- What can be requested and what it comes to: document 01, 'What can be requested' and the order of refusals. Assumes nothing.
 use Rattle.std.specs.Prelude.{Bool, List, [], ◌∷◌, ℕ, ltb, length}
-use Rattle.std.proofs.Math.Option.{Option}
+use Rattle.std.specs.Prelude.{Option}
 use Rattle.text.specs.Bytes.{Str, cond}
 use Rattle.text.specs.Answer as text
 use Rattle.tree.specs.Tree.{Arm, slot, group, Field, Node, Sheet}

@@ -1,6 +1,6 @@
 -- What the entry answers, and what is told of every sheet that has these bytes and this index. Assumes nothing.
 use Rattle.std.specs.Prelude.{◌≡◌, List, ℕ, ◌-◌, ◌^◌, ◌≤◌, ◌<◌, min, ltb, length, take}
-use Rattle.std.proofs.Math.Option.{Option, none, some}
+use Rattle.std.specs.Prelude.{Option, None, Some}
 use Rattle.text.specs.Bytes.{Str, cond}
 use Rattle.row.specs.Rows.{rows}
 use Rattle.row.specs.Line.{text_at}
@@ -40,14 +40,14 @@ AnswerWithin l t l' (Refused k line column) = l' ≡ l
 
 -- a pass as document 01's number, 0 where the whole text is there, and the length of the text, if there is one
 abbrev pub pass_numbers : Pass → ℕ × Option ℕ
-pass_numbers (pass.Whole n) = (0, some n)
-pass_numbers (pass.Longer n) = (22, some n)
-pass_numbers (pass.Refused k) = (k, none)
+pass_numbers (pass.Whole n) = (0, Some n)
+pass_numbers (pass.Longer n) = (22, Some n)
+pass_numbers (pass.Refused k) = (k, None)
 
 -- what one pass over a text says, where there is room for so many bytes. A count stops at the largest usize
 abbrev pub pass_of : ℕ → Out Str → ℕ × Option ℕ
-pass_of room (ok w) = cond (ltb room (length w)) (22, some (min (length w) (2 ^ 64 - 1))) (0, some (length w))
-pass_of room (refused k) = (k, none)
+pass_of room (ok w) = cond (ltb room (length w)) (22, Some (min (length w) (2 ^ 64 - 1))) (0, Some (length w))
+pass_of room (refused k) = (k, None)
 
 -- a text that comes to o, written in one pass from the start of l on, leaves l' and answers r: after a refusal l' may be any
 pub record Passed (o : Out Str) (l l' : Str) (r : Pass) : Type 0 where

@@ -3,7 +3,7 @@
 -- `Left` between two columns, `Column` where one was looked at. Assumes nothing.
 use mathlib.Core.Path.{◌≡◌, refl, sym, ap, ◌∙◌}
 use mathlib.Core.Bool.{Bool, true, false}
-use mathlib.Core.Option.{Option, none, some}
+use Rattle.std.specs.Prelude.{Option, None, Some}
 use Prim.Native.Nat.{ℕ, ◌+◌}
 use Rattle.text.specs.Bytes.{Str}
 use Rattle.column.specs.Number.{number_said}
@@ -14,15 +14,15 @@ use Rattle.row.specs.Line.{Content, Bad, fault, letter_of, given}
 -- a line that goes on with a number has what a line with a bad number has, and each line that it goes on with
 pub by_number :
     (P : Content → Type 0) (t : Str) (a : ℕ) (x : Option ℕ) (f : ℕ → Content) → P (Bad (letter_of t) (fault 16 (a + 1)))
-    → ((v : ℕ) → x ≡ some v → P (f v)) → P (given t a x f)
-by_number P t a (some v) f b g = g v refl
-by_number P t a none f b g = b
+    → ((v : ℕ) → x ≡ Some v → P (f v)) → P (given t a x f)
+by_number P t a (Some v) f b g = g v refl
+by_number P t a None f b g = b
 
 -- what the call says of a number that stands in its columns, and where none does
-pub is-there : {n : Number} {x : Option ℕ} {v : ℕ} → number_said n ≡ x → n ≡ Is v → x ≡ some v
+pub is-there : {n : Number} {x : Option ℕ} {v : ℕ} → number_said n ≡ x → n ≡ Is v → x ≡ Some v
 is-there e h = sym e ∙ ap number_said h
 
-pub not-there : {n : Number} {x : Option ℕ} → number_said n ≡ x → n ≡ Not → x ≡ none
+pub not-there : {n : Number} {x : Option ℕ} → number_said n ≡ x → n ≡ Not → x ≡ None
 not-there e h = sym e ∙ ap number_said h
 
 -- a line's bytes, and what the line is by what is left to read of it

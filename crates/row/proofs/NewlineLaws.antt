@@ -3,7 +3,7 @@
 use mathlib.Core.Path.{◌≡◌, refl, sym, ap, ◌∙◌}
 use mathlib.Core.Bool.{Bool, true, false}
 use mathlib.Core.List.{[], ◌∷◌}
-use mathlib.Core.Option.{Option, none, some}
+use Rattle.std.specs.Prelude.{Option, None, Some}
 use Prim.Native.Nat.{ℕ, zero, suc, ◌+◌, ◌/◌, ◌≤◌, ◌<◌}
 use native.Mathlib.Omega.{arith}
 use native.Mathlib.Decide.{dec_le}
@@ -21,7 +21,7 @@ use Rattle.row.specs.Eights.{word_of, newline_bits}
 use Rattle.row.proofs.WordLaws.{lead, lowest_eight, some-bit}
 
 -- a byte 10 is found where it stands, another is passed, and past the end there is none
-pub found_here : (s : Str) (i : ℕ) → i < length s → get_or s i 0 ≡ 10 → newline_from s i ≡ some i
+pub found_here : (s : Str) (i : ℕ) → i < length s → get_or s i 0 ≡ 10 → newline_from s i ≡ Some i
 unfolding newline_from first_newline
 found_here s i h e = rw (drop-cons s i 0 h, first_newline, eq-eqb (get_or s i 0) 10 e)
 
@@ -29,7 +29,7 @@ pub found-later : (s : Str) (i : ℕ) → i < length s → (get_or s i 0 ≡ 10 
 unfolding newline_from first_newline
 found-later s i h e = rw (add-one, drop-cons s i 0 h, first_newline, ne_eqb (get_or s i 0) 10 e)
 
-pub found_none : (s : Str) (i : ℕ) → length s ≤ i → newline_from s i ≡ none
+pub found_none : (s : Str) (i : ℕ) → length s ≤ i → newline_from s i ≡ None
 unfolding newline_from first_newline
 found_none s i h = rw (drop_of_length-le s h)
 
@@ -43,8 +43,8 @@ module _ (s : Str) (from : ℕ) (other : get_or s from 0 ≡ 10 → ⊥) where
       go (no m) = let same : j ≡ from = omega arith in other (rw same at e)
 
   first-before : (o : Option ℕ) → FirstAtOrAfter s (from + 1) o → FirstAtOrAfter s from o
-  first-before (some i) (l, h, e, f) = (omega arith, h, e, λ j. not-between i j f)
-  first-before none f = λ j. not-between (length s) j f
+  first-before (Some i) (l, h, e, f) = (omega arith, h, e, λ j. not-between i j f)
+  first-before None f = λ j. not-between (length s) j f
 
 first-within : (k : ℕ) (s : Str) (from : ℕ) → length s ≤ from + k → FirstAtOrAfter s from (newline_from s from)
 first-within zero s from h = rw (found_none s from (omega arith)) (λ j a b byte10. let z : ⊥ = omega arith in z)
@@ -86,20 +86,20 @@ past-lead s i n = rw (← drop-drop (lead (take n (drop i s))) i s) (lead-passed
 
 -- where a byte 10 stands among some bytes, it is found there
 lead-found :
-    (n : ℕ) (t : Str) (at : ℕ) → lead (take n t) < length (take n t) → first_newline at t ≡ some (at + lead (take n t))
+    (n : ℕ) (t : Str) (at : ℕ) → lead (take n t) < length (take n t) → first_newline at t ≡ Some (at + lead (take n t))
 unfolding first_newline lead
 lead-found zero t at h = absurd (not-suc-le-zero h)
 lead-found (suc n) [] at h = absurd (not-suc-le-zero h)
 lead-found (suc n) (b ∷ t) at h = go (lead-found n t (suc at)) (eqb b 10) refl h
   where
     go :
-        (lead (take n t) < length (take n t) → first_newline (suc at) t ≡ some (suc at + lead (take n t)))
+        (lead (take n t) < length (take n t) → first_newline (suc at) t ≡ Some (suc at + lead (take n t)))
         → (p : Bool) → eqb b 10 ≡ p → elim p [ true ↦ 0 | false ↦ suc (lead (take n t)) ] < suc (length (take n t))
-        → ◌≡◌ {A = Option ℕ} (elim p [ true ↦ some at | false ↦ first_newline (suc at) t ])
-        (some (at + elim p [ true ↦ 0 | false ↦ suc (lead (take n t)) ]))
-    go f true e h = ap some (sym (add-zero at))
+        → ◌≡◌ {A = Option ℕ} (elim p [ true ↦ Some at | false ↦ first_newline (suc at) t ])
+        (Some (at + elim p [ true ↦ 0 | false ↦ suc (lead (take n t)) ]))
+    go f true e h = ap Some (sym (add-zero at))
     go f false e h =
-        f (le_of_suc-le-suc h) ∙ ap some (suc-add at (lead (take n t)) ∙ sym (add-suc at (lead (take n t))))
+        f (le_of_suc-le-suc h) ∙ ap Some (suc-add at (lead (take n t)) ∙ sym (add-suc at (lead (take n t))))
 
 -- eight bytes as a word, and its bits: where one is set, the lowest tells where the first byte 10 stands, and where none is, the
 -- same is found from their end on as from their start
@@ -113,10 +113,10 @@ module _
     lowest : count_trailing_zeros 64 bits / 8 ≡ lead (take 8 (drop i s))
     lowest = ap (λ (k : ℕ). count_trailing_zeros 64 k / 8) same_bits ∙ lowest_eight s i h fits
 
-    pub found-bit : (bits ≡ 0 → ⊥) → some (i + count_trailing_zeros 64 bits / 8) ≡ newline_from s i
+    pub found-bit : (bits ≡ 0 → ⊥) → Some (i + count_trailing_zeros 64 bits / 8) ≡ newline_from s i
     unfolding newline_from
     found-bit set =
-        ap (λ (k : ℕ). some (i + k)) lowest
+        ap (λ (k : ℕ). Some (i + k)) lowest
         ∙ sym (lead-found 8 (drop i s) i (some-bit s i h fits (λ z. set (same_bits ∙ z))))
 
     pub past_word : bits ≡ 0 → newline_from s (i + 8) ≡ newline_from s i
@@ -125,34 +125,34 @@ module _
         ∙ ap (λ (k : ℕ). newline_from s (i + k)) lowest ∙ past-lead s i 8
 
 -- a row ends after the first byte 10, or has all bytes
-first_ends : (t : Str) (at i : ℕ) → first_newline at t ≡ some i → at + row_len t ≡ i + 1
+first_ends : (t : Str) (at i : ℕ) → first_newline at t ≡ Some i → at + row_len t ≡ i + 1
 unfolding first_newline row_len
 first_ends [] at i e = let z : ◌≡◌ {A = ℕ} 0 1 = cc in absurd (omega arith)
 first_ends (b ∷ t) at i e = go (first_ends t (suc at) i) (eqb b 10) refl e
   where
     go :
-        (first_newline (suc at) t ≡ some i → suc at + row_len t ≡ i + 1) → (p : Bool) → eqb b 10 ≡ p
-        → elim p [ true ↦ some at | false ↦ first_newline (suc at) t ] ≡ some i
+        (first_newline (suc at) t ≡ Some i → suc at + row_len t ≡ i + 1) → (p : Bool) → eqb b 10 ≡ p
+        → elim p [ true ↦ Some at | false ↦ first_newline (suc at) t ] ≡ Some i
         → at + elim p [ true ↦ 1 | false ↦ suc (row_len t) ] ≡ i + 1
     go f true k e = let z : at ≡ i = cc in omega arith
     go f false k e = omega (arith, f e)
 
-first-none : (t : Str) (at : ℕ) → first_newline at t ≡ none → row_len t ≡ length t
+first-none : (t : Str) (at : ℕ) → first_newline at t ≡ None → row_len t ≡ length t
 unfolding first_newline row_len
 first-none [] at e = refl
 first-none (b ∷ t) at e = go (first-none t (suc at)) (eqb b 10) refl e
   where
     go :
-        (first_newline (suc at) t ≡ none → row_len t ≡ length t) → (p : Bool) → eqb b 10 ≡ p
-        → ◌≡◌ {A = Option ℕ} (elim p [ true ↦ some at | false ↦ first_newline (suc at) t ]) none
+        (first_newline (suc at) t ≡ None → row_len t ≡ length t) → (p : Bool) → eqb b 10 ≡ p
+        → ◌≡◌ {A = Option ℕ} (elim p [ true ↦ Some at | false ↦ first_newline (suc at) t ]) None
         → elim p [ true ↦ 1 | false ↦ suc (row_len t) ] ≡ suc (length t)
     go f true k e = let z : ◌≡◌ {A = ℕ} 0 1 = cc in absurd (omega arith)
     go f false k e = ap suc (f e)
 
-pub ends_found : (s : Str) (from i : ℕ) → some i ≡ newline_from s from → i + 1 ≡ from + row_len (drop from s)
+pub ends_found : (s : Str) (from i : ℕ) → Some i ≡ newline_from s from → i + 1 ≡ from + row_len (drop from s)
 unfolding newline_from
 ends_found s from i e = sym (first_ends (drop from s) from i (sym e))
 
-pub ends-none : (s : Str) (from : ℕ) → from < length s → none ≡ newline_from s from → length s ≡ from + row_len (drop from s)
+pub ends-none : (s : Str) (from : ℕ) → from < length s → None ≡ newline_from s from → length s ≡ from + row_len (drop from s)
 unfolding newline_from
 ends-none s from h e = omega (arith, first-none (drop from s) from (sym e), length-drop from s)

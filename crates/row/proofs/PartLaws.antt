@@ -3,7 +3,7 @@
 use mathlib.Core.Path.{◌≡◌, refl, sym, ap, ◌∙◌}
 use mathlib.Core.Bool.{Bool, true, false}
 use mathlib.Core.List.{List, [], ◌∷◌}
-use mathlib.Core.Option.{some}
+use Rattle.std.specs.Prelude.{Some}
 use Prim.Native.Nat.{ℕ, suc, ◌+◌, ◌-◌, ◌*◌, ◌<◌, ◌≤◌}
 use native.Mathlib.Omega.{arith}
 use native.Mathlib.Nat.{add-zero, add-sub_cancel_left}
@@ -113,7 +113,7 @@ module _ (s : Str) (at : ℕ) (h : at < length s) (l : Content) (is : line_at (r
 -- the number in the j-th columns
 column-at :
     (s : Str) (at letter : ℕ) (ns : List ℕ) (size j : ℕ) → Here s at letter ns size → j < length ns
-    → column_of s (at + suc (j * 21)) 0 (most 64) ≡ some (get_or ns j 0)
+    → column_of s (at + suc (j * 21)) 0 (most 64) ≡ Some (get_or ns j 0)
 unfolding columns
 column-at s at letter ns size j w l =
     let n = narrow_at ns j w.narrow l in
@@ -185,10 +185,10 @@ module _ (s : Str) (at : ℕ) (h : at < length s) where
     no_room l = let z : ⊥ = omega (arith, w.inside) in absurd z
 
   -- the numbers of a T row that count
-  pub type-kind : (k a b c : ℕ) → line_at (rows (drop at s)) ≡ Typ k a b c → column_of s (at + 1) 0 (most 64) ≡ some k
+  pub type-kind : (k a b c : ℕ) → line_at (rows (drop at s)) ≡ Typ k a b c → column_of s (at + 1) 0 (most 64) ≡ Some k
   type-kind k a b c is = column-at s at 84 _ 86 0 (type-here k a b c is) (omega arith)
 
-  pub type-scopes : (k a b c : ℕ) → line_at (rows (drop at s)) ≡ Typ k a b c → column_of s (at + 43) 0 (most 64) ≡ some b
+  pub type-scopes : (k a b c : ℕ) → line_at (rows (drop at s)) ≡ Typ k a b c → column_of s (at + 43) 0 (most 64) ≡ Some b
   type-scopes k a b c is = column-at s at 84 _ 86 2 (type-here k a b c is) (omega arith)
 
   -- what is said of each letter's line is said of the row
@@ -225,7 +225,7 @@ module _ (s : Str) (at : ℕ) (h : at < length s) where
 
   module _ (x : get_or s at 0 ≡ 83) where
     pub part-scope :
-        (m : ℕ) → ((n : ℕ) → column_of s (at + 43) 0 (most 64) ≡ some n → m ≡ n)
+        (m : ℕ) → ((n : ℕ) → column_of s (at + 43) 0 (most 64) ≡ Some n → m ≡ n)
         → PartAt s at (record { owed = m; next = at + 65 })
     part-scope m own =
         part-is m (at + 65) (omega arith) (λ k a b c e. other (type-here k a b c e) 83 x refl)

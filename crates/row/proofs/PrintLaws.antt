@@ -3,7 +3,7 @@
 use mathlib.Core.Path.{◌≡◌, refl, sym, ap, ◌∙◌}
 use mathlib.Core.Bool.{Bool, true, false}
 use mathlib.Core.List.{List, [], ◌∷◌, ◌++◌, append_assoc, map}
-use mathlib.Core.Option.{some}
+use Rattle.std.specs.Prelude.{Some}
 use Prim.Native.Nat.{ℕ, zero, suc, ◌+◌, ◌-◌, ◌*◌, ◌/◌, ◌%◌, ◌^◌, ◌≤◌, ◌<◌}
 use native.Mathlib.Numerals.{add-one}
 use native.Mathlib.Omega.{arith}
@@ -80,7 +80,7 @@ drop-columns (suc k) (n ∷ ns) end f l =
 module _ (letter : ℕ) (ns : List ℕ) (end : Str) (fits : Narrow ns) where
   column-read :
       (k least most : ℕ) → k < length ns → least ≤ get_or ns k 0 → get_or ns k 0 ≤ most
-      → column_of (letter ∷ columns ns end) (suc (k * 21)) least most ≡ some (get_or ns k 0)
+      → column_of (letter ∷ columns ns end) (suc (k * 21)) least most ≡ Some (get_or ns k 0)
   unfolding columns
   column-read k least most l lo hi =
       column-printed _ (columns (drop (suc k) ns) end) (suc (k * 21)) least most (get_or ns k 0)

@@ -4,7 +4,7 @@
 use mathlib.Core.Path.{◌≡◌, refl, ap, ◌∙◌}
 use mathlib.Core.Bool.{Bool, true, false}
 use mathlib.Core.List.{[], ◌∷◌, ◌++◌}
-use mathlib.Core.Option.{Option, none, some}
+use Rattle.std.specs.Prelude.{Option, None, Some}
 use Prim.Native.Nat.{ℕ, zero, suc, ◌+◌, ◌-◌, ◌*◌, ◌^◌, ◌<◌, ◌≤◌}
 use native.Mathlib.Decide.{dec_lt}
 use native.Mathlib.Omega.{arith}
@@ -22,33 +22,33 @@ use Rattle.row.specs.Line.{type_line, scope_line, value_line, word_line, most_a,
 
 -- ---- no number has a byte 10
 
-digits_ten : (n : ℕ) (p q : Str) → digits n (p ++ 10 ∷ q) ≡ none
+digits_ten : (n : ℕ) (p q : Str) → digits n (p ++ 10 ∷ q) ≡ None
 unfolding digits
 digits_ten n [] q = refl
 digits_ten n (b ∷ p) q = go (ltb b 48) (ltb 57 b) (ltb (n * 10 + (b - 48)) (2 ^ 64)) (digits_ten (n * 10 + (b - 48)) p q)
   where
-    go : (x y z : Bool) → digits (n * 10 + (b - 48)) (p ++ 10 ∷ q) ≡ none
-        → cond x none (cond y none (cond z (digits (n * 10 + (b - 48)) (p ++ 10 ∷ q)) none)) ≡ none
+    go : (x y z : Bool) → digits (n * 10 + (b - 48)) (p ++ 10 ∷ q) ≡ None
+        → cond x None (cond y None (cond z (digits (n * 10 + (b - 48)) (p ++ 10 ∷ q)) None)) ≡ None
     go true y z h = refl
     go false true z h = refl
     go false false true h = h
     go false false false h = refl
 
-number_ten : (p q : Str) → number (p ++ 10 ∷ q) ≡ none
+number_ten : (p q : Str) → number (p ++ 10 ∷ q) ≡ None
 unfolding trimmed unpadded digits
 number_ten [] q = refl
 number_ten (b ∷ p) q = go (eqb b 32) (eqb b 48) (number_ten p q)
   where
-    lone-ten : (p : Str) → lone (p ++ 10 ∷ q) ≡ none
+    lone-ten : (p : Str) → lone (p ++ 10 ∷ q) ≡ None
     lone-ten [] = refl
     lone-ten (c ∷ p) = refl
 
-    go : (x y : Bool) → number (p ++ 10 ∷ q) ≡ none
-        → unpadded (cond x (trimmed (p ++ 10 ∷ q)) (b ∷ p ++ 10 ∷ q)) ≡ none
+    go : (x y : Bool) → number (p ++ 10 ∷ q) ≡ None
+        → unpadded (cond x (trimmed (p ++ 10 ∷ q)) (b ∷ p ++ 10 ∷ q)) ≡ None
     go true y h = h
     go false y h = by_zero (eqb b 48) refl
       where
-        by_zero : (t : Bool) → eqb b 48 ≡ t → unpadded (b ∷ p ++ 10 ∷ q) ≡ none
+        by_zero : (t : Bool) → eqb b 48 ≡ t → unpadded (b ∷ p ++ 10 ∷ q) ≡ None
         by_zero true e = rw (unpadded, e) (lone-ten p)
         by_zero false e = rw (unpadded, e) (digits_ten 0 (b ∷ p) q)
 
@@ -128,11 +128,11 @@ module _ (u w : Str) (some_bytes : 0 < length u) where
       rw (drop-append-le a u (10 ∷ w) l)
       (ap (λ (n : ℕ). take n (drop a u ++ 10 ∷ w)) e ∙ take-append-add (drop a u) (10 ∷ w) (suc (20 - length (drop a u))))
 
-  column-none : (a least most : ℕ) → a ≤ length u → length u < a + 21 → column_of v a least most ≡ none
+  column-none : (a least most : ℕ) → a ≤ length u → length u < a + 21 → column_of v a least most ≡ None
   unfolding column_of v
   column-none a least most l h = go (ltb (length (u ++ 10 ∷ w)) (a + 21))
     where
-      go : (b : Bool) → cond b none (within least most (number (take 21 (drop a (u ++ 10 ∷ w))))) ≡ none
+      go : (b : Bool) → cond b None (within least most (number (take 21 (drop a (u ++ 10 ∷ w))))) ≡ None
       go true = refl
       go false = rw (cut-column a l h, number_ten (drop a u) (take (20 - length (drop a u)) w)) refl
 
@@ -144,8 +144,8 @@ module _ (u w : Str) (some_bytes : 0 < length u) where
   number_cut a least most f g l h = go (dec_lt (length u) (a + 21))
     where
       same : ((x : ℕ) → f x ≡ g x) → (o : Option ℕ) → given u a o f ≡ given v a o g
-      same h (some x) = h x
-      same h none = ap (λ (b : ℕ). Bad b (fault 16 (a + 1))) letter-same
+      same h (Some x) = h x
+      same h None = ap (λ (b : ℕ). Bad b (fault 16 (a + 1))) letter-same
 
       go : Dec (length u < a + 21) → with_number u a least most f ≡ with_number v a least most g
       go (yes k) =

@@ -1,6 +1,6 @@
 -- Bytes as one number, by which the code looks for byte 10. Assumes nothing.
 use Rattle.std.specs.Prelude.{[], ◌∷◌, ℕ, zero, suc, ◌+◌, ◌*◌, ◌/◌, ◌%◌, eqb}
-use Rattle.std.proofs.Math.Option.{Option, some}
+use Rattle.std.specs.Prelude.{Option, Some}
 use Rattle.text.specs.Bytes.{Str, cond}
 use Rattle.row.specs.Newline.{newline_from}
 use Rattle.row.specs.declared.ends.Words.{Words}
@@ -18,5 +18,5 @@ newline_bits (suc n) w = newline_bits n (w / 256) * 256 + cond (eqb (w % 256) 10
 
 -- the first byte 10 by what the words of s say
 abbrev pub words_said : Str → Words → Option ℕ
-words_said s (Found i) = some i
+words_said s (Found i) = Some i
 words_said s (Left i) = newline_from s i

@@ -1,6 +1,6 @@
 -- Worked rows, by computation: what each says, at the bounds of document 01 and one past them. Assumes nothing.
 use Rattle.std.specs.Prelude.{◌≡◌, refl, List, [], ◌∷◌, ◌++◌, map, ℕ, ◌-◌, ◌^◌, length, replicate}
-use Rattle.std.proofs.Math.Option.{none, some}
+use Rattle.std.specs.Prelude.{None, Some}
 use Prim.Native.String as S
 use Rattle.text.specs.Bytes.{Str, ascii, unit}
 use Rattle.text.specs.Decimal.{decimal}
@@ -236,6 +236,6 @@ second = refl
 -- the first byte 10 from each start on, from the end and past it; bytes 11 and 138 are others
 newlines-from :
     map (newline_from (11 ∷ 10 ∷ 138 ∷ 10 ∷ 65 ∷ [])) (0 ∷ 1 ∷ 2 ∷ 3 ∷ 4 ∷ 5 ∷ 9 ∷ [])
-    ≡ some 1 ∷ some 1 ∷ some 3 ∷ some 3 ∷ none ∷ none ∷ none ∷ []
+    ≡ Some 1 ∷ Some 1 ∷ Some 3 ∷ Some 3 ∷ None ∷ None ∷ None ∷ []
 unfolding first_newline newline_from
 newlines-from = refl

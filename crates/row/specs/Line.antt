@@ -2,7 +2,7 @@
 -- line is read from left to right, and the first that is not as document 01 has it gives the fault: 16 for a number, 17 for a
 -- text or surplus bytes, with its column (N5). Assumes nothing.
 use Rattle.std.specs.Prelude.{Bool, List, [], ◌∷◌, ℕ, ◌+◌, ◌-◌, eqb, ltb, length, get_or, take, drop}
-use Rattle.std.proofs.Math.Option.{Option, none, some}
+use Rattle.std.specs.Prelude.{Option, None, Some}
 use Prim.Native.Char.{code}
 use Prim.Native.String as S
 use Rattle.text.specs.Bytes.{Str, cond}
@@ -64,8 +64,8 @@ letter_of t = get_or t 0 0
 
 -- the line t goes on with the number, or has a bad one in the columns from place a on, which are counted from 1: 16
 abbrev pub given : Str → ℕ → Option ℕ → (ℕ → Content) → Content
-given t a (some v) f = f v
-given t a none f = Bad (letter_of t) (fault 16 (a + 1))
+given t a (Some v) f = f v
+given t a None f = Bad (letter_of t) (fault 16 (a + 1))
 
 -- the line t has a number from least to most in the 21 columns from place a on, and goes on with it
 abbrev pub with_number : Str → ℕ → ℕ → ℕ → (ℕ → Content) → Content
@@ -282,5 +282,5 @@ as_word l y z = cases z (λ _ _ _ _ _ _ _. z) z (λ _ _ _ _. z) (λ _ _. z) (λ 
 -- the fault of a bad line with a letter, if that is what stands there
 abbrev pub fault_of : ℕ → Content → Option Fault
 fault_of letter l =
-    cases none (λ _ _ _ _ _ _ _. none) none (λ _ _ _ _. none) (λ _ _. none) (λ _ _ _ _. none) (λ _ _ _. none) none (λ _ _. none)
-    (λ _. none) (λ x k. cond (eqb x letter) (some k) none) l
+    cases None (λ _ _ _ _ _ _ _. None) None (λ _ _ _ _. None) (λ _ _. None) (λ _ _ _ _. None) (λ _ _ _. None) None (λ _ _. None)
+    (λ _. None) (λ x k. cond (eqb x letter) (Some k) None) l

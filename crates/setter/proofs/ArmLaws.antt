@@ -3,8 +3,8 @@
 use mathlib.Core.Path.{◌≡◌, refl, ap, ◌∙◌}
 use mathlib.Core.Bool.{Bool, true, false}
 use mathlib.Core.List.{List, ◌++◌, append_assoc}
-use mathlib.Core.Option as option
-use mathlib.Core.Option.{Option}
+use Rattle.std.specs.Prelude.{Option, None, Some}
+use Rattle.std.specs.Prelude.{Option}
 use Prim.Native.Nat.{ℕ, ◌≤◌}
 use native.Mathlib.Omega.{arith}
 use borrow.Author.Tests.{ne_eqb}
@@ -242,7 +242,7 @@ module _ (sheet : Sheet) (s : tree.Slot) (r : Slot) (is : SlotIs r s) (tag : ℕ
 
   module _ {l l' : List ℕ} {t t' : Text} {q : Written} where
     whole_here : (p : Parts) → setter_parts sheet s s.ty ≡ ok p → Whole l t l' t' p
-        → (q.text ≡ t') × (number_of q ≡ option.none) → Writes (setter_text_of sheet tag name d s) l t l' q
+        → (q.text ≡ t') × (number_of q ≡ None) → Writes (setter_text_of sheet tag name d s) l t l' q
     unfolding generate_setter
     whole_here p e w h = rw e (whole-writes sheet.root tag name d p w h)
 
@@ -253,19 +253,19 @@ module _ (sheet : Sheet) (s : tree.Slot) (r : Slot) (is : SlotIs r s) (tag : ℕ
     masked-here m parts e w i n = rw e (default-writes sheet.root tag name d m parts w i n)
 
     pub void-here : r.kind ≡ 0 → Whole l t l' t' (setter_only (ascii "_value") lines.none (ascii "()"))
-        → (q.text ≡ t') × (number_of q ≡ option.none) → Writes (setter_text_of sheet tag name d s) l t l' q
+        → (q.text ≡ t') × (number_of q ≡ None) → Writes (setter_text_of sheet tag name d s) l t l' q
     void-here e w h = whole_here _ (parts_at 0 e (omega arith)) w h
 
     pub text-here : r.kind ≡ 12 → Whole l t l' t' (text_parts sheet.root r.offset)
-        → (q.text ≡ t') × (number_of q ≡ option.none) → Writes (setter_text_of sheet tag name d s) l t l' q
+        → (q.text ≡ t') × (number_of q ≡ None) → Writes (setter_text_of sheet tag name d s) l t l' q
     text-here e w h = whole_here (text_parts sheet.root r.offset) (parts_at 12 e (omega arith) ∙ rw is.offset refl) w h
 
     pub data-here : r.kind ≡ 13 → Whole l t l' t' (data_parts sheet.root r.offset)
-        → (q.text ≡ t') × (number_of q ≡ option.none) → Writes (setter_text_of sheet tag name d s) l t l' q
+        → (q.text ≡ t') × (number_of q ≡ None) → Writes (setter_text_of sheet tag name d s) l t l' q
     data-here e w h = whole_here (data_parts sheet.root r.offset) (parts_at 13 e (omega arith) ∙ rw is.offset refl) w h
 
     pub any_here : r.kind ≡ 18 → r.id ≡ 0 → Whole l t l' t' (pointer_parts sheet.root r.offset)
-        → (q.text ≡ t') × (number_of q ≡ option.none) → Writes (setter_text_of sheet tag name d s) l t l' q
+        → (q.text ≡ t') × (number_of q ≡ None) → Writes (setter_text_of sheet tag name d s) l t l' q
     any_here e i w h =
         whole_here (pointer_parts sheet.root r.offset)
         (at-any (λ ty. setter_parts sheet s ty ≡ ok (pointer_parts sheet.root r.offset)) s.ty r.id is.id

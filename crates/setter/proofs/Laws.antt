@@ -4,8 +4,8 @@
 use mathlib.Core.Path.{◌≡◌, refl, sym, ap, ◌∙◌, subst}
 use mathlib.Core.Bool.{Bool, true, false}
 use mathlib.Core.List.{List, [], ◌++◌, append_assoc}
-use mathlib.Core.Option as option
-use mathlib.Core.Option.{Option, some}
+use Rattle.std.specs.Prelude.{Option, None, Some}
+use Rattle.std.specs.Prelude.{Option, Some}
 use Prim.Native.Nat.{ℕ, ◌<◌, ◌≤◌}
 use native.Mathlib.Omega.{arith}
 use borrow.Author.Tests.{eqb-false, leb-false}
@@ -41,23 +41,23 @@ number_of w = refusal_number w.refusal
 
 -- the refusal with a number
 abbrev as_refusal : Option ℕ → Refusal
-as_refusal option.none = None
-as_refusal (some k) = Number k
+as_refusal None = None
+as_refusal (Some k) = Number k
 
 as_refusal_lem : (n : Option ℕ) → refusal_number (as_refusal n) ≡ n
-as_refusal_lem option.none = refl
-as_refusal_lem (some k) = refl
+as_refusal_lem None = refl
+as_refusal_lem (Some k) = refl
 
 -- no refusal after another
-first-none : (a : Option ℕ) → first_of a option.none ≡ a
-first-none option.none = refl
-first-none (some k) = refl
+first-none : (a : Option ℕ) → first_of a None ≡ a
+first-none None = refl
+first-none (Some k) = refl
 
 -- a refusal once more, after it and another
 again : (a b : Option ℕ) → first_of a b ≡ first_of a (first_of b a)
-again option.none option.none = refl
-again option.none (some k) = refl
-again (some k) b = refl
+again None None = refl
+again None (Some k) = refl
+again (Some k) b = refl
 
 -- ---- what the match gives, as text
 
@@ -86,7 +86,7 @@ module _ (root : Str) (tag : ℕ) (name : Str) (d : ℕ) where
   abbrev both_parts : ℕ → Bool → Str → Str → Str → Parts
   both_parts offset sized line reader_type builder_type =
       setter_and_initter (line_alone (set_pointer root offset)) reader_type true (size_param sized) (line_alone line)
-      builder_type option.none
+      builder_type None
 
   both_out : (offset : ℕ) (sized : Bool) (line : Str) (o o' : Out Str)
       → ((o then λ a. ok (set_open name ++ a ++ set_end root tag d offset)) then λ x.
@@ -110,7 +110,7 @@ module _ (root : Str) (tag : ℕ) (name : Str) (d : ℕ) where
   three_parts offset initn initter builder_type owned =
       setter_and_initter (line_alone (set_pointer root offset)) (setter_input root owned) true [] (line_alone initter)
       builder_type
-      (some (builder_type, initn))
+      (Some (builder_type, initn))
 
   three-out : (offset : ℕ) (initn initter : Str) (o o' : Out Str)
       → ((o then λ b. ok (initn_open name ++ b ++ init_end tag d initn)) then λ x.
@@ -179,13 +179,13 @@ module _ (root : Str) (tag : ℕ) (name : Str) (d : ℕ) where
       → Writes (made (o then λ typ. m then λ x. ok (setter_only (ascii "value") (line_alone (line x)) typ))) l t l₃ q
   masked-writes {w = w} line (ok typ) (ok x) a h b i n = only-writes (line x) (ok typ) a h b i (n ∙ first-none (number_of w))
   masked-writes line (ok typ) (refused k) a h b i n =
-      written.refused-text (n ∙ ap (λ (z : Option ℕ). first_of z (some k)) h.refusal)
+      written.refused-text (n ∙ ap (λ (z : Option ℕ). first_of z (Some k)) h.refusal)
   masked-writes line (refused k) m a h b i n =
       written.refused-text (n ∙ ap (λ (z : Option ℕ). first_of z (refusal_of m)) h.refusal)
 
   -- a setter that is not refused, and one whose mask may be
   pub whole-writes : {l l' : List ℕ} {t t' : Text} {q : Written} (p : Parts)
-      → Wrote l t (stringify (setter_functions root tag name d p)) l' t' → (q.text ≡ t') × (number_of q ≡ option.none)
+      → Wrote l t (stringify (setter_functions root tag name d p)) l' t' → (q.text ≡ t') × (number_of q ≡ None)
       → Writes (made (ok p)) l t l' q
   whole-writes {l} {l'} {t} {t'} {q} p w e =
       written.whole (subst (λ (x : Text). Wrote l t (stringify (setter_functions root tag name d p)) l' x) (sym e.0) w) e.1
@@ -200,14 +200,14 @@ module _ (root : Str) (tag : ℕ) (name : Str) (d : ℕ) where
 -- ---- prim_default is refused but for kinds 1 to 11
 
 module _ (k b : ℕ) where
-  pub within : 1 ≤ k → k < 12 → refusal_of (prim_default (value k b)) ≡ option.none
+  pub within : 1 ≤ k → k < 12 → refusal_of (prim_default (value k b)) ≡ None
   unfolding prim_default
   within lo hi = go (eqb k 1) (leb 2 k) (leb k 9) (eqb k 10) (eqb k 11) refl refl refl refl refl _ _ _ _
     where
       go : (one low high ten eleven : Bool) → eqb k 1 ≡ one → leb 2 k ≡ low → leb k 9 ≡ high → eqb k 10 ≡ ten → eqb k 11 ≡ eleven
           → (v w x y : Option Str)
           → refusal_of (cond one (ok v) (cond (both low high) (ok w) (cond ten (ok x) (cond eleven (ok y) (refused 11)))))
-          ≡ option.none
+          ≡ None
       go true low high ten eleven e f g h i v w x y = refl
       go false true true ten eleven e f g h i v w x y = refl
       go false true false true eleven e f g h i v w x y = refl
@@ -218,8 +218,8 @@ module _ (k b : ℕ) where
       go false false high ten eleven e f g h i v w x y =
           let n1 = eqb-false k 1 e in let low = leb-false 2 k f in let z : ⊥ = omega arith in absurd z
 
-  pub below : k < 1 → refusal_of (prim_default (value k b)) ≡ some 11
+  pub below : k < 1 → refusal_of (prim_default (value k b)) ≡ Some 11
   below lo = ap refusal_of (refused-below k b lo)
 
-  pub above : 12 ≤ k → refusal_of (prim_default (value k b)) ≡ some 11
+  pub above : 12 ≤ k → refusal_of (prim_default (value k b)) ≡ Some 11
   above hi = ap refusal_of (refused-above k b hi)

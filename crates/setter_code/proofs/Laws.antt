@@ -3,8 +3,8 @@
 use mathlib.Core.Path.{◌≡◌, refl, sym, ap, ◌∙◌}
 use mathlib.Core.Bool.{Bool, true, false}
 use mathlib.Core.List.{List, [], ◌++◌, append_assoc, append-nil}
-use mathlib.Core.Option as option
-use mathlib.Core.Option.{some}
+use Rattle.std.specs.Prelude.{Option, None, Some}
+use Rattle.std.specs.Prelude.{Some}
 use Prim.Native.Nat.{ℕ}
 use native.Mathlib.Omega.{arith}
 use lib.Dec.{eqb}
@@ -132,7 +132,7 @@ module _ (root : Str) (o : ℕ) (name : Str) (d : ℕ) where
   pub both-text : (line reader_type : Str) (result sized : Bool) (initter builder_type : Str)
       → set_text root name reader_type result (tag_line o d) line ++ init_text name sized builder_type (tag_line o d) initter
       ≡ stringify (setter_functions root o name d
-      (setter_and_initter (line_alone line) reader_type result (size_param sized) (line_alone initter) builder_type option.none))
+      (setter_and_initter (line_alone line) reader_type result (size_param sized) (line_alone initter) builder_type None))
   unfolding to_lines flat_map ended
   both-text line reader_type result sized initter builder_type =
       sym (function-text (set_head root name reader_type result) (tagged o d (line_alone line))
@@ -146,7 +146,7 @@ module _ (root : Str) (o : ℕ) (name : Str) (d : ℕ) where
       → initn_text name builder_type (tag_line o d) initn
       ++ (set_text root name reader_type true (tag_line o d) line ++ init_text name false builder_type (tag_line o d) initter)
       ≡ stringify (setter_functions root o name d
-      (setter_and_initter (line_alone line) reader_type true [] (line_alone initter) builder_type (some (builder_type, initn))))
+      (setter_and_initter (line_alone line) reader_type true [] (line_alone initter) builder_type (Some (builder_type, initn))))
   unfolding to_lines flat_map ended
   parameter-text line reader_type initter builder_type initn =
       sym (stringify-lines _ (λ e. let z : ◌≡◌ {A = ℕ} 0 1 = cc in omega arith) ∙ initn-lines name builder_type o d initn

@@ -3,7 +3,7 @@
 use mathlib.Core.Path.{◌≡◌, refl, sym, ap, ◌∙◌}
 use mathlib.Core.Bool.{Bool, true, false}
 use mathlib.Core.List.{List, [], ◌∷◌, ◌++◌, append-nil, append_assoc}
-use mathlib.Core.Option.{Option, none, some}
+use Rattle.std.specs.Prelude.{Option, None, Some}
 use Prim.Native.Nat.{ℕ, ◌+◌, ◌-◌, ◌≤◌, ◌<◌}
 use native.Mathlib.Omega.{arith}
 use native.Mathlib.Numerals.{add-one}
@@ -93,8 +93,8 @@ not-read rs (line.Bad x k c) here o = rw (← here, ← here) (go (eqb x 70))
     as-group = on_group (λ i d name. got (field name d (group i))) (no misplaced)
 
     go : (b : Bool)
-        → told (cond b (some (fault k c)) none) as-group rs
-        ≡ told (cond b (some (fault k c)) none) (told (cond (eqb x 71) (some (fault k c)) none) (no misplaced)) rs
+        → told (cond b (Some (fault k c)) None) as-group rs
+        ≡ told (cond b (Some (fault k c)) None) (told (cond (eqb x 71) (Some (fault k c)) None) (no misplaced)) rs
     go true = refl
     go false = rw (← here, ← here)
 
@@ -102,17 +102,17 @@ not-read rs (line.Bad x k c) here o = rw (← here, ← here) (go (eqb x 70))
 pub walked-ends :
     {A : Type 0} (s : Str) (at : ℕ) (a b : Option Fault) (w : Walk) → w ≡ refused_by a at (refused_by b at (Next at)) → (x : A)
     → walked_with s w x ≡ told a (told b (got x)) (rows (drop at s))
-walked-ends s at (some k) b w e x = rw e
-walked-ends s at none (some k) w e x = rw e
-walked-ends s at none none w e x = rw e
+walked-ends s at (Some k) b w e x = rw e
+walked-ends s at None (Some k) w e x = rw e
+walked-ends s at None None w e x = rw e
 
 -- no more is left than what stands there
 pub ends-left :
     (s : Str) (at : ℕ) (a b : Option Fault) (w : Walk) → w ≡ refused_by a at (refused_by b at (Next at))
     → left_after s w ≤ size (rows (drop at s))
-ends-left s at (some k) b w e = rw e (omega arith)
-ends-left s at none (some k) w e = rw e (omega arith)
-ends-left s at none none w e = rw e (omega arith)
+ends-left s at (Some k) b w e = rw e (omega arith)
+ends-left s at None (Some k) w e = rw e (omega arith)
+ends-left s at None None w e = rw e (omega arith)
 
 -- where there is a line of a letter, there is a row
 shorter : (rs : Rows) → Good (line_at rs) → length (rest_of rs) < length rs
@@ -153,9 +153,9 @@ module _ (rs rest : Rows) (l : Line) (here : line_said l ≡ line_at rs) (after 
     where
       go : (a b : Option Fault) → is_field (line_at rs) ≡ either (is_some a) (is_some b)
           → read_field rs ≡ told a (told b (no misplaced)) rs → told a (told b (got seen)) rs ≡ groups_after seen rs
-      go (some k) b i f = sym (groups-no seen rs rs k i f)
-      go none (some k) i f = sym (groups-no seen rs rs k i f)
-      go none none i f =
+      go (Some k) b i f = sym (groups-no seen rs rs k i f)
+      go None (Some k) i f = sym (groups-no seen rs rs k i f)
+      go None None i f =
           sym (ap (λ (g : Reading (List Field)). g then λ fs. got (seen ++ group_ids fs)) (fields-here seen rs)
           ∙ rw (i, append-nil seen))
 

@@ -3,7 +3,7 @@
 use mathlib.Core.Path.{◌≡◌, refl, sym, ap, ◌∙◌}
 use mathlib.Core.Bool.{Bool, true, false}
 use mathlib.Core.List.{List, [], ◌∷◌}
-use mathlib.Core.Option.{none}
+use Rattle.std.specs.Prelude.{None}
 use Prim.Native.Nat.{ℕ, suc, ◌+◌, ◌-◌, ◌*◌, ◌/◌, ◌%◌, ◌^◌, ◌≤◌, ◌<◌}
 use native.Mathlib.Decide.{ℕ_discrete}
 use native.Mathlib.Omega.{arith}
@@ -102,7 +102,7 @@ module _ (s : Str) (rs : Rows) (marks : ℕ) (x y : List ℕ) (at count place : 
       (arith, p.within, length-drop count (names_of rs), ap length p.names, ap length no_names) in
       let ended : walked_with s w [] ≡ read_params (rows (drop at s)) =
       walked_end s at (fault_of 80 (line_said l)) w e [] ∙ sym (params-stop _ _ l here refl o) in
-      let less = ends-left s at (fault_of 80 (line_said l)) none w e in
+      let less = ends-left s at (fault_of 80 (line_said l)) None w e in
       record {
         walk = passed-walk s w [] ∙ ap passed ended ∙ sym p.walk;
         count = all;

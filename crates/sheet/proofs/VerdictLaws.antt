@@ -1,7 +1,7 @@
 -- The answer of `admit` itself, from its numbers: a refusal is known by its number, its line and its column, and all else
 -- is a sheet. By cases of both. Assumes nothing.
 use mathlib.Core.Path.{◌≡◌, refl, ap}
-use mathlib.Core.Option.{Option, none, some}
+use Rattle.std.specs.Prelude.{Option, None, Some}
 use Prim.Native.Nat.{ℕ}
 use Rattle.tree.specs.Read.{Admitted, sheet, refused}
 use Rattle.tree.proofs.OtherLines.{never}
@@ -16,16 +16,16 @@ verdict (refused k l c) = answer.Refused k l c
 
 -- the number, the line and the column of a refusal
 number_of : Option (ℕ × ℕ × ℕ) → ℕ
-number_of none = 0
-number_of (some p) = p.0
+number_of None = 0
+number_of (Some p) = p.0
 
 line_in : Option (ℕ × ℕ × ℕ) → ℕ
-line_in none = 0
-line_in (some p) = p.1
+line_in None = 0
+line_in (Some p) = p.1
 
 column_in : Option (ℕ × ℕ × ℕ) → ℕ
-column_in none = 0
-column_in (some p) = p.2
+column_in None = 0
+column_in (Some p) = p.2
 
 pub verdict-is : (a : Admitted) (r : Answer) → answer_numbers r ≡ refusal_in a → r ≡ verdict a
 unfolding number_of line_in column_in

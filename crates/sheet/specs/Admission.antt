@@ -1,6 +1,6 @@
 -- What the answer of admission says of a sheet and its tree, and of the index. Assumes nothing.
 use Rattle.std.specs.Prelude.{List, ℕ}
-use Rattle.std.proofs.Math.Option.{Option, none, some}
+use Rattle.std.specs.Prelude.{Option, None, Some}
 use Rattle.text.specs.Bytes.{Str}
 use Rattle.tree.specs.Read.{Admitted, sheet, refused}
 use Rattle.nodes.specs.Index.{Indexed}
@@ -9,13 +9,13 @@ use Rattle.sheet.specs.declared.Answer.TheVariants as answer
 
 -- the number, the line and the column of the refusal that an answer of the code gives, if it gives one
 abbrev pub answer_numbers : Answer → Option (ℕ × ℕ × ℕ)
-answer_numbers answer.Sheet = none
-answer_numbers (answer.Refused k l c) = some (k, l, c)
+answer_numbers answer.Sheet = None
+answer_numbers (answer.Refused k l c) = Some (k, l, c)
 
 -- the same for what is refused; none for a sheet
 abbrev pub refusal_in : Admitted → Option (ℕ × ℕ × ℕ)
-refusal_in (sheet sh) = none
-refusal_in (refused k l c) = some (k, l, c)
+refusal_in (sheet sh) = None
+refusal_in (refused k l c) = Some (k, l, c)
 
 -- the index holds the nodes of the tree, if there is one
 abbrev pub IndexOf : Str → Admitted → List ℕ → Type 0

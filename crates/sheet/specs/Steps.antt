@@ -2,7 +2,7 @@
 -- entry. Only the code needs them: what admission promises stands in Admission. Assumes nothing.
 use Rattle.std.specs.Prelude.{◌≡◌, Bool, true, List, ◌++◌, ℕ, ◌+◌, ◌-◌, ◌*◌, ◌/◌, ◌%◌, ◌≤◌, ◌<◌, eqb, ltb, length, drop, take}
 use Rattle.std.specs.Prelude.{get_or, set}
-use Rattle.std.proofs.Math.Option.{Option, none, some}
+use Rattle.std.specs.Prelude.{Option, None, Some}
 use Rattle.text.specs.Bytes.{Str, cond, both}
 use Rattle.row.specs.Rows.{rows, rest_of, size, line_no}
 use Rattle.row.specs.Line.{text_at}
@@ -22,8 +22,8 @@ use Rattle.sheet.specs.declared.NodeRun.{NodeRun}
 
 -- the number, the line and the column of the refusal of a reading of s, if it is refused
 abbrev pub refusal_of : {A : Type 0} → Str → Reading A → Option (ℕ × ℕ × ℕ)
-refusal_of s (got a rs) = none
-refusal_of s (no k rs) = some (k.number, line_no s rs, k.column)
+refusal_of s (got a rs) = None
+refusal_of s (no k rs) = Some (k.number, line_no s rs, k.column)
 
 -- ---- group ids
 

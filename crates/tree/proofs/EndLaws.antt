@@ -2,7 +2,7 @@
 -- Assumes nothing.
 use mathlib.Core.Path.{◌≡◌, refl}
 use mathlib.Core.List.{[], ◌∷◌}
-use mathlib.Core.Option.{Option, none, some}
+use Rattle.std.specs.Prelude.{Option, None, Some}
 use Prim.Native.Nat.{ℕ}
 use borrow.Author.Tests.{eq-eqb, ne_eqb}
 use types.Run.{OneOf, miss}
@@ -48,12 +48,12 @@ module _ (o : Option Fault) (at : ℕ) (r other : Walk) (e : r ≡ refused_by o 
   by_other q i = go o e
     where
       go : (o : Option Fault) → r ≡ refused_by o at (Next at) → other ≡ refused_by o at other
-      go (some k) e = never cc
-      go none e = refl
+      go (Some k) e = never cc
+      go None e = refl
 
   pub by_fault : (k c q : ℕ) → r ≡ Refused k c q → Refused k c at ≡ refused_by o at other
   by_fault k c q i = go o e
     where
       go : (o : Option Fault) → r ≡ refused_by o at (Next at) → Refused k c at ≡ refused_by o at other
-      go (some f) e = let x : f.number ≡ k = cc in let y : f.column ≡ c = cc in rw (x, y)
-      go none e = never cc
+      go (Some f) e = let x : f.number ≡ k = cc in let y : f.column ≡ c = cc in rw (x, y)
+      go None e = never cc

@@ -2,7 +2,7 @@
 use mathlib.Core.Path.{◌≡◌, refl, sym, ap, ◌∙◌}
 use mathlib.Core.Bool.{Bool, true, false}
 use mathlib.Core.List.{List, [], ◌∷◌}
-use mathlib.Core.Option.{Option, none, some}
+use Rattle.std.specs.Prelude.{Option, None, Some}
 use Prim.Native.Nat.{ℕ, zero, suc, ◌+◌, ◌-◌, ◌<◌, ◌≤◌}
 use native.Mathlib.Omega.{arith}
 use native.Mathlib.Numerals.{sub-one}
@@ -89,8 +89,8 @@ module _ (rs rest : Rows) (l : Line) (here : line_said l ≡ line_at rs) (after 
     where
       go : (o : Option Fault)
           → ◌then◌ {A = List ℕ} (told o (got []) rs) (λ ws. got (k + length ws)) ≡ told o (got k) rs
-      go (some f) = refl
-      go none = let e : k + 0 ≡ k = omega arith in ap (λ (n : ℕ). got n rs) e
+      go (Some f) = refl
+      go None = let e : k + 0 ≡ k = omega arith in ap (λ (n : ℕ). got n rs) e
 
   module _ (has : Bool) (is : has ≡ true) where
     pub words-first :
@@ -120,8 +120,8 @@ module _ (rs rest : Rows) (l : Line) (here : line_said l ≡ line_at rs) (after 
       where
         go : (k : Option Fault)
             → passed (◌then◌ {A = Value} (told k (no misplaced) rs) (λ v. read_words (has_words e v.kind))) ≡ no (fault_or k) rs
-        go (some k) = refl
-        go none = refl
+        go (Some k) = refl
+        go None = refl
 
     pub slot-words :
         (w : Reading (Unit {0})) (k b : ℕ) (has : Bool) → l ≡ line.Value k b → has ≡ has_words e k

@@ -3,8 +3,8 @@
 use mathlib.Core.Path.{◌≡◌}
 use mathlib.Core.Bool.{Bool, true, false}
 use mathlib.Core.List.{[], ◌∷◌}
-use mathlib.Core.Option.{Option}
-use mathlib.Core.Option as option
+use Rattle.std.specs.Prelude.{Option}
+use Rattle.std.specs.Prelude.{Option, None, Some}
 use Prim.Native.Nat.{ℕ, zero, suc, ◌≤◌}
 use native.Mathlib.Omega.{arith}
 use lib.ListN.{length}
@@ -100,8 +100,8 @@ leaves-cases rs _ _ _ _ _ _ _ _ _ _ _ _ _ _ _ _ _ _ _ _ _ h (line.Bad x k) = h x
 pub leaves-told :
     {A : Type 0} {ts : Rows} (o : Option Fault) (other : Reader A) (rs : Rows) → Leaves ts (other rs)
     → Leaves ts (told o other rs)
-leaves-told (option.some k) other rs h = none
-leaves-told option.none other rs h = h
+leaves-told (Some k) other rs h = none
+leaves-told None other rs h = h
 
 -- a reader that goes on after a line of its letter, one that tells the fault of a bad one, and another for every other line
 module _ {A : Type 0} (rs : Rows) (other : Reader A) (o : Left rs other) where

@@ -2,8 +2,8 @@
 -- it. Assumes nothing.
 use mathlib.Core.Path.{◌≡◌, refl, sym, ap, ◌∙◌}
 use mathlib.Core.List.{[], ◌∷◌}
-use mathlib.Core.Option.{Option}
-use mathlib.Core.Option as option
+use Rattle.std.specs.Prelude.{Option}
+use Rattle.std.specs.Prelude.{Option, None, Some}
 use Prim.Native.Nat.{ℕ, zero, suc, ◌-◌, ◌<◌, ◌≤◌}
 use native.Mathlib.Omega.{arith}
 use native.Mathlib.Numerals.{sub-one}
@@ -44,25 +44,25 @@ passed-walk s (Refused k c at) a = refl
 
 -- what is refused where a line must stand: the fault of a bad one, or 2
 abbrev pub fault_or : Option Fault → Fault
-fault_or (option.some k) = k
-fault_or option.none = misplaced
+fault_or (Some k) = k
+fault_or None = misplaced
 
 -- what holds of a fault, and of what another reader reads
 pub by_told :
     {A : Type 0} (P : Reading A → Type 0) (o : Option Fault) (other : Reader A) (rs : Rows) → ((k : Fault) → P (no k rs))
     → P (other rs) → P (told o other rs)
-by_told P (option.some k) other rs f g = f k
-by_told P option.none other rs f g = g
+by_told P (Some k) other rs f g = f k
+by_told P None other rs f g = g
 
 pub told_wrong : {A : Type 0} (o : Option Fault) (rs : Rows) → told {A = A} o (no misplaced) rs ≡ no (fault_or o) rs
-told_wrong (option.some k) rs = refl
-told_wrong option.none rs = refl
+told_wrong (Some k) rs = refl
+told_wrong None rs = refl
 
 pub walked_wrong :
     (s : Str) (at : ℕ) (o : Option Fault) (r : Walk) → r ≡ refused_by o at (Refused 2 1 at)
     → walked s r ≡ no (fault_or o) (rows (drop at s))
-walked_wrong s at (option.some k) r e = rw e
-walked_wrong s at option.none r e = rw e
+walked_wrong s at (Some k) r e = rw e
+walked_wrong s at None r e = rw e
 
 -- a walk that ends at a position, or at the fault there
 module _ (s : Str) (at : ℕ) (o : Option Fault) (r : Walk) (e : r ≡ refused_by o at (Next at)) where
@@ -70,27 +70,27 @@ module _ (s : Str) (at : ℕ) (o : Option Fault) (r : Walk) (e : r ≡ refused_b
   walked_end a = go o e
     where
       go : (o : Option Fault) → r ≡ refused_by o at (Next at) → walked_with s r a ≡ told o (got a) (rows (drop at s))
-      go (option.some k) e = rw e
-      go option.none e = rw e
+      go (Some k) e = rw e
+      go None e = rw e
 
   pub told-next : {A : Type 0} (f : Reader A) (q : ℕ) → r ≡ Next q → told o f (rows (drop at s)) ≡ f (rows (drop q s))
   told-next f q i = go o e
     where
       go : (o : Option Fault) → r ≡ refused_by o at (Next at) → told o f (rows (drop at s)) ≡ f (rows (drop q s))
-      go (option.some k) e = never cc
-      go option.none e = let z : at ≡ q = cc in rw z
+      go (Some k) e = never cc
+      go None e = let z : at ≡ q = cc in rw z
 
   pub told-refused : {A : Type 0} (f : Reader A) (k c q : ℕ) → r ≡ Refused k c q
       → told o f (rows (drop at s)) ≡ no (fault k c) (rows (drop q s))
   told-refused f k c q i = go o e
     where
       go : (o : Option Fault) → r ≡ refused_by o at (Next at) → told o f (rows (drop at s)) ≡ no (fault k c) (rows (drop q s))
-      go (option.some f) e =
+      go (Some f) e =
           let x : f.number ≡ k = cc in
           let y : f.column ≡ c = cc in
           let z : at ≡ q = cc in
           rw (← x, ← y, z)
-      go option.none e = never cc
+      go None e = never cc
 
 -- a walk by where it came to, or what it refused
 module _ (s : Str) (r : Walk) (g : Reading (Unit {0})) (e : walked s r ≡ g) where
@@ -139,8 +139,8 @@ module _ (rs rest : Rows) (l : Line) (here : line_said l ≡ line_at rs) (after 
       where
         go : (k : Option Fault)
             → passed {A = Binds → Binds} (told k (map_r (λ t bs. bound t bs) ty) rs) ≡ told k (λ rs. passed (ty rs)) rs
-        go (option.some k) = refl
-        go option.none = passed-map _ (ty rs)
+        go (Some k) = refl
+        go None = passed-map _ (ty rs)
 
     module _ (i b n : ℕ) (is : l ≡ Scope i b n) where
       pub scope-inherit : b ≡ 0 → got tt rest ≡ passed (read_scope ty rs)

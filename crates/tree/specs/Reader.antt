@@ -1,7 +1,7 @@
 -- Readers: functions from the rows of a sheet to what they say. Assumes nothing.
 use Rattle.std.specs.Prelude.{List, [], ◌∷◌, ℕ, zero, suc}
-use Rattle.std.proofs.Math.Option.{Option}
-use Rattle.std.proofs.Math.Option as option
+use Rattle.std.specs.Prelude.{Option}
+use Rattle.std.specs.Prelude.{Option, None, Some}
 use Rattle.text.specs.Bytes.{Str}
 use Rattle.row.specs.Rows.{rest_of}
 use Rattle.row.specs.Line.{line_at, text_at, as_root, as_node, as_parameter, as_field, as_group}
@@ -40,8 +40,8 @@ at_end f g (r ∷ rs) = g (r ∷ rs)
 
 -- a fault is told, if there is one; else a reader reads
 abbrev pub told : {A : Type 0} → Option Fault → Reader A → Reader A
-told (option.some k) other rs = no k rs
-told option.none other rs = other rs
+told (Some k) other rs = no k rs
+told None other rs = other rs
 
 -- the fault of a bad line with a letter, if that is the first row; else a reader reads from that row on
 abbrev pub or_fault : {A : Type 0} → ℕ → Reader A → Reader A

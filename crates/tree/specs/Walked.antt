@@ -1,5 +1,5 @@
 -- What the code says of a reading: not the tree, but where the reading came to, or what it refused where. Assumes nothing.
-use Rattle.std.proofs.Math.Option.{Option, none, some}
+use Rattle.std.specs.Prelude.{Option, None, Some}
 use Rattle.std.specs.Prelude.{ℕ, drop}
 use Rattle.text.specs.Bytes.{Str}
 use Rattle.row.specs.Rows.{rows}
@@ -25,8 +25,8 @@ walked_with s (Refused k c at) a = no (fault k c) (rows (drop at s))
 
 -- a walk that is refused by a fault, if there is one, and else another
 abbrev pub refused_by : Option Fault → ℕ → Walk → Walk
-refused_by (some k) at other = Refused k.number k.column at
-refused_by none at other = other
+refused_by (Some k) at other = Refused k.number k.column at
+refused_by None at other = other
 
 -- where a line with a letter may stand, and l stands there: a bad one is refused by its fault, and at any other the walk ends
 abbrev pub end_at : ℕ → Content → ℕ → Walk

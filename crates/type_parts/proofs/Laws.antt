@@ -1,7 +1,7 @@
 -- Laws of the parts of a type's text: texts in other groupings, arguments one after the other. Assumes nothing.
 use mathlib.Core.Path.{◌≡◌, refl, sym, ap, ◌∙◌, subst}
 use mathlib.Core.List.{List, [], ◌∷◌, ◌++◌, append_assoc, append-nil, map}
-use mathlib.Core.Option.{Option, none, some}
+use Rattle.std.specs.Prelude.{Option, None, Some}
 use Prim.Native.Nat.{ℕ, zero, suc, ◌-◌, ◌<◌, ◌≤◌}
 use native.Mathlib.Numerals.{sub-one}
 use native.Mathlib.Omega.{arith}
@@ -94,11 +94,11 @@ module _ (s : Str) (sheet : Sheet) (index : List ℕ) (id : ℕ) (f : Found) (e 
           (λ m y w. rw (parameter-named m.params k, is m w) q)
 
       pub parameter-out : g ≡ position.Nothing → Q (refused 13) → Q (type_string (parameter id k) sheet leaf)
-      parameter-out z q = by_name none (λ m w. rw z at (there m w)) q
+      parameter-out z q = by_name None (λ m w. rw z at (there m w)) q
 
       pub parameter-at : (place : ℕ) → g ≡ position.At place
           → Q (parameter_string sheet.root leaf (text_at (rows (drop place s)))) → Q (type_string (parameter id k) sheet leaf)
-      parameter-at place z q = by_name (some (text_at (rows (drop place s)))) (λ m w. rw z at (there m w)) q
+      parameter-at place z q = by_name (Some (text_at (rows (drop place s)))) (λ m w. rw z at (there m w)) q
 
 -- ---- arguments
 
@@ -121,13 +121,13 @@ listed_cons {ws = ws} a h = record { text = a ⨾ h.text; sep = h.sep ∙ last w
 
 -- arguments that are not refused, and a refusal
 pub all_listed : {l : List ℕ} {p : Arguments} {ws : List Str} {l' : List ℕ} {r : Argued} → Listed l p ws l' r.arguments
-    → refusal_number r.refusal ≡ none → Lists (ok ws) l p l' r
+    → refusal_number r.refusal ≡ None → Lists (ok ws) l p l' r
 all_listed {l} {p} {ws} {l'} {r} h n = record {
   refusal = n;
   listed = λ v e. subst (λ (x : List Str). Listed l p x l' r.arguments) (ok-one e) h;
 }
 
-pub not_listed : {l : List ℕ} {p : Arguments} {k : ℕ} {l' : List ℕ} {r : Argued} → refusal_number r.refusal ≡ some k
+pub not_listed : {l : List ℕ} {p : Arguments} {k : ℕ} {l' : List ℕ} {r : Argued} → refusal_number r.refusal ≡ Some k
     → Lists (refused k) l p l' r
 not_listed n = record { refusal = n; listed = λ ws e. absurd (not-ok e) }
 

@@ -5,7 +5,7 @@
 use mathlib.Core.Path.{◌≡◌, refl, sym, ap, ◌∙◌}
 use mathlib.Core.Bool.{Bool, true, false}
 use mathlib.Core.List.{List, [], ◌∷◌}
-use mathlib.Core.Option.{Option, none, some}
+use Rattle.std.specs.Prelude.{Option, None, Some}
 use Prim.Native.Nat.{ℕ, ◌+◌, ◌-◌, ◌<◌, ◌≤◌}
 use native.Mathlib.Omega.{arith}
 use lib.ListN.{length, drop, take, get_or}
@@ -51,7 +51,7 @@ field_own c places k = record {
 apart : {A : Type 0} → true ≡ false → A
 apart e = let z : ◌≡◌ {A = ℕ} 0 1 = cc in never z
 
-goes_on : (f : Refusal) → both (is_refused f) true ≡ false → refusal_number f ≡ none
+goes_on : (f : Refusal) → both (is_refused f) true ≡ false → refusal_number f ≡ None
 goes_on None e = refl
 goes_on (Number k) e = apart e
 
@@ -103,7 +103,7 @@ module _ (root s index : List ℕ) (left : ℕ) (l : List ℕ) (p : Arguments) (
         (omega (arith, v.few, v.ids_size)))
 
     counting-next : k < c.count → (l₂ : List ℕ) (r : Argued) → OwnTold root s index (field_own c places k) left l₁ q l₂ r
-        → WroteSome l₁ q.text l₂ r.arguments.text → refusal_number r.refusal ≡ none → (g : Refusal)
+        → WroteSome l₁ q.text l₂ r.arguments.text → refusal_number r.refusal ≡ None → (g : Refusal)
         → refusal_number g ≡ first_of (refusal_number r.refusal) (refusal_number f)
         → Counting root s index left l p c places l₂ r.arguments g (k + 1)
     unfolding outermost_first
@@ -133,7 +133,7 @@ module _ (root s index : List ℕ) (left : ℕ) (l : List ℕ) (p : Arguments) (
         (w.rest b v there ns x r (h ns x)))
 
     counting-stop : k < c.count → (l₂ : List ℕ) (r : Argued) → OwnTold root s index (field_own c places k) left l₁ q l₂ r
-        → WroteSome l₁ q.text l₂ r.arguments.text → (j : ℕ) → refusal_number r.refusal ≡ some j → (g : Refusal)
+        → WroteSome l₁ q.text l₂ r.arguments.text → (j : ℕ) → refusal_number r.refusal ≡ Some j → (g : Refusal)
         → refusal_number g ≡ first_of (refusal_number r.refusal) (refusal_number f)
         → (b : Brand) → ChainOf s index b.id c → LastScopes s b.scopes b.count (take c.count c.ids) places
         → ChainTold root s index b left l p l₂ (argued r.arguments g)
@@ -179,11 +179,11 @@ pub record Along (inward : Bool) (root s index : List ℕ) (left : ℕ) (l : Lis
 module _ (root s index : List ℕ) (left : ℕ) (l : List ℕ) (p : Arguments) (c : Links) (places : List ℕ) where
   pub along_start : (inward : Bool) → (inward ≡ true → length l ≡ 0)
       → Along inward root s index left l p c places l p c.refusal 0
-  along_start true e = record { known = counting-start root s index left l p c places (none l (e refl)) }
+  along_start true e = record { known = counting-start root s index left l p c places (is-empty l (e refl)) }
     where
-      none : (l : List ℕ) → length l ≡ 0 → l ≡ []
-      none [] h = refl
-      none (x ∷ l) h = let z : ⊥ = omega arith in absurd z
+      is-empty : (l : List ℕ) → length l ≡ 0 → l ≡ []
+      is-empty [] h = refl
+      is-empty (x ∷ l) h = let z : ⊥ = omega arith in absurd z
   along_start false e = let z : c.count - 0 ≡ c.count = omega arith in
       record { known = rw z (writing_start root s index left l p c places) }
 

@@ -2,7 +2,7 @@
 -- refusals that were met. Assumes nothing.
 use mathlib.Core.Path.{◌≡◌, refl, sym, ap, ◌∙◌, subst}
 use mathlib.Core.List.{List, [], ◌∷◌, ◌++◌}
-use mathlib.Core.Option.{Option, none, some}
+use Rattle.std.specs.Prelude.{Option, None, Some}
 use Prim.Native.Nat.{ℕ, ◌+◌, ◌-◌, ◌<◌, ◌≤◌}
 use native.Mathlib.Omega.{arith}
 use borrow.Author.Tests.{eq-eqb, ne_eqb}
@@ -53,12 +53,12 @@ use Rattle.type_string.specs.Told.{outward, only_of, ChainTold, OwnTold}
 use Rattle.type_string.specs.declared.Brand.{Brand}
 
 -- a refusal and none at once
-pub clash : {A : Type 0} {r : Option ℕ} {k : ℕ} → r ≡ none → r ≡ some k → A
+pub clash : {A : Type 0} {r : Option ℕ} {k : ℕ} → r ≡ None → r ≡ Some k → A
 clash {A} {r} {k} e f = absurd (subst go (sym e ∙ f) tt)
   where
     go : Option ℕ → Type 0
-    go none = Unit {0}
-    go (some j) = ⊥
+    go None = Unit {0}
+    go (Some j) = ⊥
 
 -- ---- lists
 
@@ -235,7 +235,7 @@ module _ (left : ℕ) (sheet : Sheet) (q ps : Rows) (line : Line) (at : line_sai
     (count : own ≡ length (names_of ps)) (l : List ℕ) (p : Arguments) (l' : List ℕ) (r : Argued) (o : Option type_string.Scope)
     (here : ScopeAt left sheet q o) where
   pub own_other : ((i b m : ℕ) → line ≡ Scope i b m → ⊥)
-      → Listed l p (replicate own (any_owned sheet.root)) l' r.arguments → refusal_number r.refusal ≡ none
+      → Listed l p (replicate own (any_owned sheet.root)) l' r.arguments → refusal_number r.refusal ≡ None
       → Lists (arguments_of sheet.root (names_of ps) o) l p l' r
   unfolding arguments_of
   own_other other w f = go q at here
@@ -246,10 +246,10 @@ module _ (left : ℕ) (sheet : Sheet) (q ps : Rows) (line : Line) (at : line_sai
       go (x ∷ rs) e h = absurd (scope-not left sheet (x ∷ rs) o line e (not_scope-tag line other) h)
 
   module _ (i b m : ℕ) (is : line ≡ Scope i b m) where
-    pub own-inherit : b ≡ 0 → Listed l p (texts_of own ps) l' r.arguments → refusal_number r.refusal ≡ none
+    pub own-inherit : b ≡ 0 → Listed l p (texts_of own ps) l' r.arguments → refusal_number r.refusal ≡ None
         → Lists (arguments_of sheet.root (names_of ps) o) l p l' r
     unfolding arguments_of
-    own-inherit z w f = let y : o ≡ some type_string.inherited = scope-inherit left sheet q o line i b m at is z
+    own-inherit z w f = let y : o ≡ Some type_string.inherited = scope-inherit left sheet q o line i b m at is z
         (scope-there left sheet q o line i b m at is here) in
         rw y (all_listed (rw (texts-names own ps count) at w) f)
 
@@ -263,13 +263,13 @@ module _ (left : ℕ) (sheet : Sheet) (q ps : Rows) (line : Line) (at : line_sai
           (binds-length left sheet m rest)
         where
           go : (g : Reading Binds) (o : Option type_string.Scope)
-              → Has g (λ bs. o ≡ some (type_string.binds (bindings_of bs sheet)))
+              → Has g (λ bs. o ≡ Some (type_string.binds (bindings_of bs sheet)))
               → On g (λ bs. Q (cond (eqb m own) (all_of (bindings_of bs sheet)) (refused 8)))
               → On g (λ bs. length (bindings_of bs sheet) ≡ m) → Q (arguments_of sheet.root (names_of ps) o)
           go (got bs k) o w v y = rw (w, y, ← count) v
           go (no j k) o w v y = absurd w
 
-      pub own-8 : (m ≡ own → ⊥) → refusal_number r.refusal ≡ some 8
+      pub own-8 : (m ≡ own → ⊥) → refusal_number r.refusal ≡ Some 8
           → Lists (arguments_of sheet.root (names_of ps) o) l p l' r
       own-8 y f = by-binds (λ a. Lists a l p l' r) (on-all {P = λ bs. Lists (cond (eqb m own) (all_of (bindings_of bs sheet))
           (refused 8)) l p l' r} (λ bs. rw (ne_eqb m own y) (not_listed f)) (times (read_binding (read_type left)) stop m rest))

@@ -1,7 +1,7 @@
 -- What the writers of types and brands tell: the text or the refusal that `type_string` gives for whatever type is read at a
 -- position, in every sheet whose nodes the index has. Assumes nothing.
 use Rattle.std.specs.Prelude.{◌≡◌, Bool, true, false, List, [], ◌∷◌, ℕ, drop, length}
-use Rattle.std.proofs.Math.Option.{Option}
+use Rattle.std.specs.Prelude.{Option}
 use Rattle.text.specs.Bytes.{Str}
 use Rattle.text.specs.declared.Text.{Text}
 use Rattle.row.specs.Rows.{rows}

@@ -3,7 +3,7 @@
 use mathlib.Core.Path.{◌≡◌, refl, sym, ◌∙◌}
 use mathlib.Core.Bool.{Bool, true, false}
 use mathlib.Core.List.{[], ◌∷◌, ◌++◌}
-use mathlib.Core.Option.{Option, none, some}
+use Rattle.std.specs.Prelude.{Option, None, Some}
 use Prim.Native.Nat.{ℕ, zero, suc, ◌+◌, ◌-◌, ◌*◌, ◌<◌, ◌≤◌}
 use native.Mathlib.Nat.{add-zero, zero-add, suc-add}
 use native.Mathlib.Numerals.{sub-one, one-add}
@@ -414,14 +414,14 @@ scope-found left id sheet (suc n) rs found o h =
     rest = past_rows (rest_of rs) (owed (line_at rs))
 
     more : (i : ℕ) (x : type_string.Scope) (t : Bool) (y : Option type_string.Scope)
-        → or_else y (cond t (some x) o) ≡ or_else (or_else y (cond t (some x) none)) o
-    more i x true none = refl
-    more i x true (some y) = refl
-    more i x false none = refl
-    more i x false (some y) = refl
+        → or_else y (cond t (Some x) o) ≡ or_else (or_else y (cond t (Some x) None)) o
+    more i x true None = refl
+    more i x true (Some y) = refl
+    more i x false None = refl
+    more i x false (Some y) = refl
 
     here : (f : Scopes → Scopes) (q : Rows) → read.read_scope (read_type left) rs ≡ got f q → (x : OneScope sheet rs f) (t : Bool)
-        → ScopeIs left sheet (cond t (some rs) found) (cond t (some x.scope) o)
+        → ScopeIs left sheet (cond t (Some rs) found) (cond t (Some x.scope) o)
     here f q e x true = rw (e, x.first end) refl
     here f q e x false = h
 
@@ -431,33 +431,33 @@ scope-found left id sheet (suc n) rs found o h =
         → On (times (read.read_scope (read_type left)) end n rs) (λ ss. ScopeIs left sheet (last_scope id n rs found)
         (or_else (scope_of id (scopes_of ss sheet)) o)))
         → On (g then λ f. map_r f (times (read.read_scope (read_type left)) end n))
-        (λ ss. ScopeIs left sheet (as_scope (line_at rs) (λ i b m. last_scope id n rest (cond (eqb i id) (some rs) found)) found)
+        (λ ss. ScopeIs left sheet (as_scope (line_at rs) (λ i b m. last_scope id n rest (cond (eqb i id) (Some rs) found)) found)
         (or_else (scope_of id (scopes_of ss sheet)) o))
     go (no k q) e x p ih = tt
     go (got f q) e x p ih =
         on-map f (λ ss. ScopeIs left sheet (as_scope (line_at rs)
-        (λ i b m. last_scope id n rest (cond (eqb i id) (some rs) found)) found) (or_else (scope_of id (scopes_of ss sheet)) o))
+        (λ i b m. last_scope id n rest (cond (eqb i id) (Some rs) found)) found) (or_else (scope_of id (scopes_of ss sheet)) o))
         (times (read.read_scope (read_type left)) end n q)
-        (on_one (λ ss. ScopeIs left sheet (last_scope id n q (cond (eqb x.id id) (some rs) found))
-        (or_else (scope_of id (scopes_of ss sheet)) (cond (eqb x.id id) (some x.scope) o)))
-        (λ ss. ScopeIs left sheet (as_scope (line_at rs) (λ i b m. last_scope id n rest (cond (eqb i id) (some rs) found)) found)
+        (on_one (λ ss. ScopeIs left sheet (last_scope id n q (cond (eqb x.id id) (Some rs) found))
+        (or_else (scope_of id (scopes_of ss sheet)) (cond (eqb x.id id) (Some x.scope) o)))
+        (λ ss. ScopeIs left sheet (as_scope (line_at rs) (λ i b m. last_scope id n rest (cond (eqb i id) (Some rs) found)) found)
         (or_else (scope_of id (scopes_of (f ss) sheet)) o))
         (times (read.read_scope (read_type left)) end n q)
         (λ ss w. rw (p, x.line, x.first ss, ← more x.id x.scope (eqb x.id id) (scope_of id (scopes_of ss sheet))) w)
-        (ih q (cond (eqb x.id id) (some rs) found) (cond (eqb x.id id) (some x.scope) o)
+        (ih q (cond (eqb x.id id) (Some rs) found) (cond (eqb x.id id) (Some x.scope) o)
         (here f q e x (eqb x.id id))))
 
 pub scope_counts : (left id : ℕ) (sheet : Sheet) (n : ℕ) (rs : Rows)
-    → On (times (read.read_scope (read_type left)) end n rs) (λ ss. ScopeIs left sheet (last_scope id n rs none)
+    → On (times (read.read_scope (read_type left)) end n rs) (λ ss. ScopeIs left sheet (last_scope id n rs None)
     (scope_of id (scopes_of ss sheet)))
 scope_counts left id sheet n rs =
-    on_one (λ ss. ScopeIs left sheet (last_scope id n rs none) (or_else (scope_of id (scopes_of ss sheet)) none))
-    (λ ss. ScopeIs left sheet (last_scope id n rs none) (scope_of id (scopes_of ss sheet)))
-    (times (read.read_scope (read_type left)) end n rs) (λ ss h. rw or-none at h) (scope-found left id sheet n rs none none refl)
+    on_one (λ ss. ScopeIs left sheet (last_scope id n rs None) (or_else (scope_of id (scopes_of ss sheet)) None))
+    (λ ss. ScopeIs left sheet (last_scope id n rs None) (scope_of id (scopes_of ss sheet)))
+    (times (read.read_scope (read_type left)) end n rs) (λ ss h. rw or-none at h) (scope-found left id sheet n rs None None refl)
   where
-    or-none : (y : Option type_string.Scope) → or_else y none ≡ y
-    or-none none = refl
-    or-none (some y) = refl
+    or-none : (y : Option type_string.Scope) → or_else y None ≡ y
+    or-none None = refl
+    or-none (Some y) = refl
 
 -- ---- searching
 
@@ -476,15 +476,15 @@ scope_other id (suc n) rs found l e h = rw (← e, not-scope l _ _ h)
 module _ (id n : ℕ) (rs next rest : Rows) (found : Option Rows) (l : Content) (m i b c : ℕ) (more : 0 < n)
     (line : l ≡ line_at rs) (is : l ≡ Scope i b c)
     (after : next ≡ rest_of rs) (owes : m ≡ owed (Scope i b c)) (past : rest ≡ past_rows next m) where
-  turn : last_scope id n rs found ≡ last_scope id (n - 1) rest (cond (eqb i id) (some rs) found)
+  turn : last_scope id n rs found ≡ last_scope id (n - 1) rest (cond (eqb i id) (Some rs) found)
   unfolding last_scope
   turn = go n more
     where
-      go : (n : ℕ) → 0 < n → last_scope id n rs found ≡ last_scope id (n - 1) rest (cond (eqb i id) (some rs) found)
+      go : (n : ℕ) → 0 < n → last_scope id n rs found ≡ last_scope id (n - 1) rest (cond (eqb i id) (Some rs) found)
       go zero h = let z : ⊥ = omega arith in absurd z
       go (suc n) h = rw (past, after, owes, sym line ∙ is, sub-one (suc n))
 
-  pub scope_this : i ≡ id → last_scope id n rs found ≡ last_scope id (n - 1) rest (some rs)
+  pub scope_this : i ≡ id → last_scope id n rs found ≡ last_scope id (n - 1) rest (Some rs)
   scope_this e = turn ∙ rw (eq-eqb i id e) refl
 
   pub scope-next : (i ≡ id → ⊥) → last_scope id n rs found ≡ last_scope id (n - 1) rest found

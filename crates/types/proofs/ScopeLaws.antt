@@ -2,7 +2,7 @@
 use mathlib.Core.Path.{◌≡◌, refl, sym, ap, ◌∙◌}
 use mathlib.Core.Bool.{Bool, true, false}
 use mathlib.Core.List.{List, [], ◌∷◌}
-use mathlib.Core.Option.{Option, none, some}
+use Rattle.std.specs.Prelude.{Option, None, Some}
 use Prim.Native.Nat.{ℕ, zero, suc, ◌+◌, ◌-◌, ◌<◌, ◌≤◌}
 use native.Mathlib.Omega.{arith}
 use native.Mathlib.Numerals.{sub-one}
@@ -88,14 +88,14 @@ unfolding last_scope
 last_or id zero rs f g h = h
 last_or id (suc n) rs f g h = go (line_at rs) (λ rest x y. last_or id n rest x y)
   where
-    found : (t : Bool) → or_none (cond t (some rs) f) ≡ or_none (cond t (some rs) g)
+    found : (t : Bool) → or_none (cond t (Some rs) f) ≡ or_none (cond t (Some rs) g)
     found true = refl
     found false = h
 
     go : (l : Content) → ((rest : Rows) (x y : Option Rows) → or_none x ≡ or_none y
         → or_none (last_scope id n rest x) ≡ or_none (last_scope id n rest y))
-        → or_none (as_scope l (λ i b m. last_scope id n (past_rows (rest_of rs) (owed l)) (cond (eqb i id) (some rs) f)) f)
-        ≡ or_none (as_scope l (λ i b m. last_scope id n (past_rows (rest_of rs) (owed l)) (cond (eqb i id) (some rs) g)) g)
+        → or_none (as_scope l (λ i b m. last_scope id n (past_rows (rest_of rs) (owed l)) (cond (eqb i id) (Some rs) f)) f)
+        ≡ or_none (as_scope l (λ i b m. last_scope id n (past_rows (rest_of rs) (owed l)) (cond (eqb i id) (Some rs) g)) g)
     go (content.Scope i b m) ih = ih _ _ _ (found (eqb i id))
     go content.Root ih = h
     go (content.Node i q k x y c o) ih = h
@@ -113,16 +113,16 @@ pub record Passing (s : Str) (from count : ℕ) (ids : List ℕ) (at n : ℕ) (p
   pub size : length places ≡ 16
   pub parts : AllParts (rows (drop from s)) count → AllParts (rows (drop at s)) n
   pub each : AllParts (rows (drop from s)) count → (k : ℕ) → k < length ids → k < 16
-      → or_none (last_scope (get_or ids k 0) count (rows (drop from s)) none)
-      ≡ or_none (last_scope (get_or ids k 0) n (rows (drop at s)) (some (rows (drop (get_or places k 0) s))))
+      → or_none (last_scope (get_or ids k 0) count (rows (drop from s)) None)
+      ≡ or_none (last_scope (get_or ids k 0) n (rows (drop at s)) (Some (rows (drop (get_or places k 0) s))))
 
 module _ (s : Str) (from count : ℕ) (ids : List ℕ) where
   pub pass_start : Passing s from count ids from count (replicate 16 (length s))
   pass_start = record {
     size = length-replicate 16 (length s);
     parts = λ p. p;
-    each = λ p k x y. last_or (get_or ids k 0) count (rows (drop from s)) none
-        (some (rows (drop (get_or (replicate 16 (length s)) k 0) s)))
+    each = λ p k x y. last_or (get_or ids k 0) count (rows (drop from s)) None
+        (Some (rows (drop (get_or (replicate 16 (length s)) k 0) s)))
         (rw (get_or-replicate 16 k (length s) 0 y) (sym (rows_out s (length s) (omega arith))));
   }
 
@@ -143,8 +143,8 @@ module _ (s : Str) (from count : ℕ) (ids : List ℕ) where
       -- after this scope
       turn_on : AllParts (rows (drop from s)) count → (rest : Rows)
           → rest ≡ past_rows (rest_of (rows (drop at s))) (owed (line_said (line.Scope i b c))) → (k : ℕ)
-          → k < length ids → k < 16 → or_none (last_scope (get_or ids k 0) count (rows (drop from s)) none)
-          ≡ or_none (last_scope (get_or ids k 0) (n - 1) rest (some (rows (drop (get_or after k 0) s))))
+          → k < length ids → k < 16 → or_none (last_scope (get_or ids k 0) count (rows (drop from s)) None)
+          ≡ or_none (last_scope (get_or ids k 0) (n - 1) rest (Some (rows (drop (get_or after k 0) s))))
       unfolding line_said
       turn_on p rest past k x y = w.each p k x y ∙ go (eqb i (get_or ids k 0)) refl
         where
@@ -152,10 +152,10 @@ module _ (s : Str) (from count : ℕ) (ids : List ℕ) where
           id = get_or ids k 0
 
           old : Option Rows
-          old = some (rows (drop (get_or places k 0) s))
+          old = Some (rows (drop (get_or places k 0) s))
 
           go : (t : Bool) → eqb i id ≡ t → or_none (last_scope id n (rows (drop at s)) old)
-              ≡ or_none (last_scope id (n - 1) rest (some (rows (drop (get_or after k 0) s))))
+              ≡ or_none (last_scope id (n - 1) rest (Some (rows (drop (get_or after k 0) s))))
           go true z =
               rw (noted.each k x y, z) (ap or_none (scope_this id n (rows (drop at s)) (rest_of (rows (drop at s))) rest old _
               (owed (content.Scope i b c)) i b c more e (ap line_said is) refl refl past (eqb-true i id z)))
@@ -206,9 +206,9 @@ module _ (s : Str) (from count : ℕ) (ids : List ℕ) where
 scope-at : (left : ℕ) (sheet : Sheet) (f : Option Rows) (o : Option Scope) → ScopeIs left sheet f o
     → ScopeAt left sheet (or_none f) o
 unfolding ScopeHere read.read_scope line_at
-scope-at left sheet none o h = h
-scope-at left sheet (some []) o h = absurd h
-scope-at left sheet (some (r ∷ rs)) o h = h
+scope-at left sheet None o h = h
+scope-at left sheet (Some []) o h = absurd h
+scope-at left sheet (Some (r ∷ rs)) o h = h
 
 -- the scope of a node of the chain stands at its place
 pub placed : (left : ℕ) (sheet : Sheet) (s : Str) (from n : ℕ) (nodes places : List ℕ) (count k : ℕ)
@@ -217,12 +217,12 @@ pub placed : (left : ℕ) (sheet : Sheet) (s : Str) (from n : ℕ) (nodes places
     (λ ss. ScopeAt left sheet (rows (drop (get_or places k 0) s)) (scope_of (get_or nodes k 0) (scopes_of ss sheet)))
 placed left sheet s from n nodes places count k w h f g =
     on-two (λ ss. AllParts (rows (drop from s)) n)
-    (λ ss. ScopeIs left sheet (last_scope (get_or nodes k 0) n (rows (drop from s)) none)
+    (λ ss. ScopeIs left sheet (last_scope (get_or nodes k 0) n (rows (drop from s)) None)
     (scope_of (get_or nodes k 0) (scopes_of ss sheet)))
     (λ ss. ScopeAt left sheet (rows (drop (get_or places k 0) s)) (scope_of (get_or nodes k 0) (scopes_of ss sheet)))
     (times (read.read_scope (read_type left)) end n (rows (drop from s)))
     (λ ss p v. rw (w.each p k (rw (length-take-le count nodes g) h) (omega arith), get_or-take count nodes k 0 h)
-    (scope-at left sheet (last_scope (get_or nodes k 0) n (rows (drop from s)) none)
+    (scope-at left sheet (last_scope (get_or nodes k 0) n (rows (drop from s)) None)
     (scope_of (get_or nodes k 0) (scopes_of ss sheet)) v))
     (scopes-parts left n (rows (drop from s))) (scope_counts left (get_or nodes k 0) sheet n (rows (drop from s)))
 

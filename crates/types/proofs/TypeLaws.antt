@@ -3,7 +3,7 @@
 use mathlib.Core.Path.{◌≡◌, refl, sym, ap, ◌∙◌, subst}
 use mathlib.Core.Bool.{Bool, true, false}
 use mathlib.Core.List.{[], ◌∷◌}
-use mathlib.Core.Option.{Option, some}
+use Rattle.std.specs.Prelude.{Option, Some}
 use Prim.Native.Nat.{ℕ, zero, suc, ◌-◌, ◌<◌, ◌≤◌}
 use native.Mathlib.Omega.{arith}
 use native.Mathlib.Numerals.{sub-one}
@@ -273,7 +273,7 @@ scope_of-more ty rs i b m e = rw e
 
 pub scope-inherit : (left : ℕ) (sheet : Sheet) (rs : Rows) (o : Option type_string.Scope) (l : Line) (i b m : ℕ)
     → line_said l ≡ line_at rs → l ≡ line.Scope i b m → b ≡ 0
-    → ScopeHere left sheet rs o → o ≡ some type_string.inherited
+    → ScopeHere left sheet rs o → o ≡ Some type_string.inherited
 unfolding line_said ScopeHere scopes_of
 scope-inherit left sheet rs o l i b m at is z h =
     rw (scope_of-more (read_type left) rs i b m (sym at ∙ ap line_said is), eq-eqb b 0 z) at h
@@ -281,7 +281,7 @@ scope-inherit left sheet rs o l i b m at is z h =
 pub scope-binds : (left : ℕ) (sheet : Sheet) (rs rest : Rows) (o : Option type_string.Scope) (l : Line) (i b m : ℕ)
     → line_said l ≡ line_at rs → l ≡ line.Scope i b m → rest ≡ rest_of rs → (b ≡ 0 → ⊥)
     → ScopeHere left sheet rs o → Has (times (read_binding (read_type left)) stop m rest)
-    (λ bs. o ≡ some (type_string.binds (bindings_of bs sheet)))
+    (λ bs. o ≡ Some (type_string.binds (bindings_of bs sheet)))
 unfolding line_said ScopeHere scopes_of
 scope-binds left sheet rs rest o l i b m at is next z h =
     go (times (read_binding (read_type left)) stop m rest) (rw (
@@ -291,7 +291,7 @@ scope-binds left sheet rs rest o l i b m at is next z h =
     ) at h)
   where
     go : (g : Reading Binds) → Has {A = Scopes → Scopes} (g then λ bs. got (λ ss. bind i bs ss))
-        (λ f. o ≡ first_scope (scopes_of (f end) sheet)) → Has g (λ bs. o ≡ some (type_string.binds (bindings_of bs sheet)))
+        (λ f. o ≡ first_scope (scopes_of (f end) sheet)) → Has g (λ bs. o ≡ Some (type_string.binds (bindings_of bs sheet)))
     go (got bs q) w = w
     go (no k q) w = w
 

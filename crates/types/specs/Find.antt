@@ -1,7 +1,7 @@
 -- Where things stand in a sheet, told by rows: what follows a type or a scope, the scope of a brand that counts, and the chain of
 -- a node's parents. Assumes nothing.
 use Rattle.std.specs.Prelude.{◌≡◌, true, List, [], ◌∷◌, ℕ, zero, suc, ◌+◌, ◌<◌, ◌≤◌, eqb, ltb, drop, take, length, get_or}
-use Rattle.std.proofs.Math.Option.{Option, none, some}
+use Rattle.std.specs.Prelude.{Option, None, Some}
 use Rattle.text.specs.Bytes.{Str, cond}
 use Rattle.row.specs.Rows.{rows, rest_of}
 use Rattle.row.specs.Line.{Content, line_of, line_at, as_type, as_scope}
@@ -73,25 +73,25 @@ unfoldable pub last_scope : ℕ → ℕ → Rows → Option Rows → Option Rows
 last_scope id zero rs found = found
 last_scope id (suc n) rs found =
     as_scope (line_at rs)
-    (λ i b m. last_scope id n (past_rows (rest_of rs) (owed (line_at rs))) (cond (eqb i id) (some rs) found))
+    (λ i b m. last_scope id n (past_rows (rest_of rs) (owed (line_at rs))) (cond (eqb i id) (Some rs) found))
     found
 
 -- the scope whose rows come first, with the texts of its bindings in a sheet
 abbrev pub first_scope : List (ℕ × Scope) → Option Scope
-first_scope [] = none
-first_scope (s ∷ ss) = some s.1
+first_scope [] = None
+first_scope (s ∷ ss) = Some s.1
 
 unfoldable pub ScopeHere : ℕ → Sheet → Rows → Option Scope → Type 0
 ScopeHere left sheet rs o = Has (read.read_scope (read.read_type left) rs) (λ f. o ≡ first_scope (scopes_of (f end) sheet))
 
 -- rows that may have been found have the scope o
 abbrev pub ScopeIs : ℕ → Sheet → Option Rows → Option Scope → Type 0
-ScopeIs left sheet (some rs) o = ScopeHere left sheet rs o
-ScopeIs left sheet none o = o ≡ none
+ScopeIs left sheet (Some rs) o = ScopeHere left sheet rs o
+ScopeIs left sheet None o = o ≡ None
 
 -- rows from a scope's row on have the scope o, and no rows have none
 abbrev pub ScopeAt : ℕ → Sheet → Rows → Option Scope → Type 0
-ScopeAt left sheet [] o = o ≡ none
+ScopeAt left sheet [] o = o ≡ None
 ScopeAt left sheet (r ∷ rs) o = ScopeHere left sheet (r ∷ rs) o
 
 -- ---- the chain of a node's parents
@@ -134,14 +134,14 @@ pub record ChainOf (s index : List ℕ) (id : ℕ) (c : Links) : Type 0 where
 
 -- the rows that were found, or none
 abbrev pub or_none : Option Rows → Rows
-or_none none = []
-or_none (some rs) = rs
+or_none None = []
+or_none (Some rs) = rs
 
 -- if the rows of so many scopes are there, the position of the last with each of these ids, of at most 16, and the sheet's end
 -- where there is none
 pub record LastScopes (s : Str) (from count : ℕ) (ids places : List ℕ) : Type 0 where
   pub each : AllParts (rows (drop from s)) count → (k : ℕ) → k < length ids → k < 16
-      → rows (drop (get_or places k 0) s) ≡ or_none (last_scope (get_or ids k 0) count (rows (drop from s)) none)
+      → rows (drop (get_or places k 0) s) ≡ or_none (last_scope (get_or ids k 0) count (rows (drop from s)) None)
 
 -- a position is noted for each of these ids that is i
 pub record Noted (ids : List ℕ) (i at : ℕ) (places after : List ℕ) : Type 0 where

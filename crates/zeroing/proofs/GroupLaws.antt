@@ -3,8 +3,8 @@
 use mathlib.Core.Path.{◌≡◌, refl, sym, ap, ◌∙◌}
 use mathlib.Core.Bool.{Bool, true, false}
 use mathlib.Core.List.{List, [], ◌∷◌, ◌++◌}
-use mathlib.Core.Option as option
-use mathlib.Core.Option.{Option, some}
+use Rattle.std.specs.Prelude.{Option, None, Some}
+use Rattle.std.specs.Prelude.{Option, Some}
 use Prim.Native.Nat.{ℕ, zero, suc, ◌-◌}
 use native.Mathlib.Numerals.{sub-one}
 use borrow.Author.Tests.{eqb-true, eq-eqb, ne_eqb}
@@ -108,12 +108,12 @@ module _ (c o : ℕ) (again : Bool) (l : List ℕ) (p : Lines) where
 -- ---- the fields of a group, one after the other
 
 -- where there is no line there is no pointer
-void-is : (s : Slot) → zero_line s ≡ option.none → is_pointer s.ty ≡ false
+void-is : (s : Slot) → zero_line s ≡ None → is_pointer s.ty ≡ false
 void-is s e =
     rw (pointer_is s)
     (go (line_type (kind s.ty)) (eqb (line_type (kind s.ty)) 0) refl (sym (line-is s) ∙ e))
   where
-    go : (d : ℕ) (t : Bool) → eqb d 0 ≡ t → cond t option.none (some (zero_text d s.offset)) ≡ option.none → eqb d 12 ≡ false
+    go : (d : ℕ) (t : Bool) → eqb d 0 ≡ t → cond t None (Some (zero_text d s.offset)) ≡ None → eqb d 12 ≡ false
     go d true z e = rw (eqb-true d 0 z) refl
     go d false z e = never cc
 
@@ -121,20 +121,20 @@ void-is s e =
 pub adds-ok : (o : Out Zeroing) (l : List ℕ) (p : Lines) (l₁ : List ℕ) (p₁ : Lines) → p₁.refusal ≡ None → Adds o l p l₁ p₁
     → (z : Zeroing) × (o ≡ ok z)
 adds-ok (ok z) l p l₁ p₁ n a = (z, refl)
-adds-ok (refused k) l p l₁ p₁ n a = let e : option.none ≡ some k = sym (ap refusal_number n) ∙ a in never cc
+adds-ok (refused k) l p l₁ p₁ n a = let e : None ≡ Some k = sym (ap refusal_number n) ∙ a in never cc
 
 module _ (inner : ℕ → Out Zeroing) (seen : List Str) where
-  fields-slot : (fs : List Field) (line : Option Str) (clear : Bool) → (line ≡ option.none → clear ≡ false)
+  fields-slot : (fs : List Field) (line : Option Str) (clear : Bool) → (line ≡ None → clear ≡ false)
       → (l : List ℕ) (p : Lines) (l₁ : List ℕ) (p₁ : Lines) (l₂ : List ℕ) (p₂ : Lines)
       → Added (added_lines seen line) clear l p l₁ p₁ → Adds (zero_fields inner (seen_line seen line) fs) l₁ p₁ l₂ p₂
       → Adds (zero_slot seen clear line (λ s. zero_fields inner s fs)) l p l₂ p₂
   unfolding to_lines flat_map
-  fields-slot fs option.none clear z l p l₁ p₁ l₂ p₂ a h = go (zero_fields inner seen fs) (rw (z refl) at a) h
+  fields-slot fs None clear z l p l₁ p₁ l₂ p₂ a h = go (zero_fields inner seen fs) (rw (z refl) at a) h
     where
       go : (o : Out Zeroing) → Added [] false l p l₁ p₁ → Adds o l₁ p₁ l₂ p₂ → Adds o l p l₂ p₂
       go (ok w) a h = a ⊞ h
       go (refused k) a h = h
-  fields-slot fs (some line) clear z l p l₁ p₁ l₂ p₂ a h = by-repeat (contains seen line) a h
+  fields-slot fs (Some line) clear z l p l₁ p₁ l₂ p₂ a h = by-repeat (contains seen line) a h
     where
       repeat : (o : Out Zeroing) → Added [] clear l p l₁ p₁ → Adds o l₁ p₁ l₂ p₂
           → Adds (o then λ z. ok (no_push clear z)) l p l₂ p₂
@@ -164,7 +164,7 @@ module _ (inner : ℕ → Out Zeroing) (seen : List Str) where
           → Adds (o then λ g. q then λ z. ok (push (Branch g.result) g.clear z)) l p l₂ p₂
       go (ok g) (ok z) a h = a ⊞ h
       go (ok g) (refused k) a h = h
-      go (refused k) q a h = let e : option.none ≡ some k = sym (ap refusal_number n) ∙ a in never cc
+      go (refused k) q a h = let e : None ≡ Some k = sym (ap refusal_number n) ∙ a in never cc
 
   fields-stop : (fs : List Field) (id k : ℕ) (l : List ℕ) (p : Lines) (l₁ : List ℕ) (p₁ : Lines)
       → p.refusal ≡ None → p₁.refusal ≡ Number k → Adds (inner id) l p l₁ p₁
@@ -266,8 +266,8 @@ module _ (s : Str) (sheet : Sheet) (index : List ℕ) (left id : ℕ) (more : le
       rw (some_left sheet left id more, node_by_id sheet.nodes id) (go (by_id id sheet.nodes) (finds Nothing h))
     where
       go : (o : Option Node) → Finds s index Nothing o → (or_refused 5 o then struct_of) ≡ refused 5
-      go option.none w = refl
-      go (some n) w = absurd w
+      go None w = refl
+      go (Some n) w = absurd w
 
   module _ (node : Entry) (there : f ≡ At node) where
     group-there : (Q : Out Zeroing → Type 0) → ((n : Node) → EntryIs s index node n → Q (struct_of n))
@@ -276,8 +276,8 @@ module _ (s : Str) (sheet : Sheet) (index : List ℕ) (left id : ℕ) (more : le
         rw (some_left sheet left id more, node_by_id sheet.nodes id) (go (by_id id sheet.nodes) (finds (At node) there))
       where
         go : (o : Option Node) → Finds s index (At node) o → Q (or_refused 5 o then struct_of)
-        go option.none w = absurd w
-        go (some n) w = law n w
+        go None w = absurd w
+        go (Some n) w = law n w
 
     pub no-struct : (node.is_struct ≡ 1 → ⊥) → zero_fields_of_group sheet left id ≡ refused 14
     no-struct h = group-there (λ o. o ≡ refused 14) (λ n w. rw (ne_eqb n.is_struct 1 (λ z. h (w.is-struct ∙ z))) refl)

@@ -5,8 +5,8 @@ use mathlib.Core.Path.{◌≡◌, refl}
 use mathlib.Core.Bool.{Bool, true, false}
 use mathlib.Core.Logic.{◌⊎◌, inl, inr}
 use mathlib.Core.List.{List, [], ◌∷◌}
-use mathlib.Core.Option as option
-use mathlib.Core.Option.{Option, some}
+use Rattle.std.specs.Prelude.{Option, None, Some}
+use Rattle.std.specs.Prelude.{Option, Some}
 use Prim.Native.Nat.{ℕ, zero, suc, ◌≤◌}
 use native.Mathlib.Omega.{arith}
 use lib.Dec.{eqb}
@@ -46,8 +46,8 @@ less_both o p q r f (inr e) h = rw e (go o)
 less_slot : (seen : List Str) (clear : Bool) (line : Option Str) (more later : List Str → Out Zeroing)
     → ((seen : List Str) → Less (more seen) (later seen))
     → Less (zero_slot seen clear line more) (zero_slot seen clear line later)
-less_slot seen clear option.none more later h = h seen
-less_slot seen clear (some line) more later h = go (contains seen line)
+less_slot seen clear None more later h = h seen
+less_slot seen clear (Some line) more later h = go (contains seen line)
   where
     go : (t : Bool) → Less
         (cond t (more seen then λ z. ok (no_push clear z)) (more (line ∷ seen) then λ z. ok (push (Line line) clear z)))
@@ -123,8 +123,8 @@ module _ (other : ℕ → Out Zeroing) where
     back-slot s e = rw e (go (zero_line s))
       where
         go : (line : Option Str) → zero_slot seen (is_pointer s.ty) line (λ s. zero_fields other s fs) ≡ refused 4
-        go option.none = later seen
-        go (some line) = rw (later seen, later (line ∷ seen)) (cond_same (contains seen line) (refused 4))
+        go None = later seen
+        go (Some line) = rw (later seen, later (line ∷ seen)) (cond_same (contains seen line) (refused 4))
 
     -- a group that was given with more levels
     pub back-group : (id : ℕ) → f.arm ≡ group id → (z : Zeroing) → Less (ok z) (other id)

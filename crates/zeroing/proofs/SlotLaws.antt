@@ -3,8 +3,8 @@
 use mathlib.Core.Path.{◌≡◌, refl, sym, ap, ◌∙◌}
 use mathlib.Core.Bool.{Bool, true, false}
 use mathlib.Core.List.{List, [], ◌∷◌, ◌++◌}
-use mathlib.Core.Option as option
-use mathlib.Core.Option.{Option, some}
+use Rattle.std.specs.Prelude.{Option, None, Some}
+use Rattle.std.specs.Prelude.{Option, Some}
 use Prim.Native.Nat.{ℕ, ◌≤◌}
 use native.Mathlib.Omega.{arith}
 use borrow.Author.Tests.{le-leb, lt-leb, ne_eqb, leb-true, leb-false, eqb-true, eqb-false}
@@ -57,22 +57,22 @@ type_least k = go (eqb k 15) (leb k 11) refl
 
 -- a slot's line
 abbrev line_of : ℕ → ℕ → Option Str
-line_of type offset = cond (eqb type 0) option.none (some (zero_text type offset))
+line_of type offset = cond (eqb type 0) None (Some (zero_text type offset))
 
 pub line-is : (s : Slot) → zero_line s ≡ line_of (line_type (kind s.ty)) s.offset
 unfolding zero_line line_type zero_text
 line-is s = go (kind s.ty) s.offset (eqb (kind s.ty) 15) (leb (kind s.ty) 11) refl refl
   where
     go : (k o : ℕ) (x y : Bool) → eqb k 15 ≡ x → leb k 11 ≡ y
-        → cond (eqb k 0) option.none (cond (eqb k 1) (some (zero_bool o)) (cond y (some (zero_data (primitive_text k) o))
-        (cond x (some (zero_data (ascii "u16") o)) (some (clear_pointer o)))))
+        → cond (eqb k 0) None (cond (eqb k 1) (Some (zero_bool o)) (cond y (Some (zero_data (primitive_text k) o))
+        (cond x (Some (zero_data (ascii "u16") o)) (Some (clear_pointer o)))))
         ≡ line_of (cond x 7 (cond y k 12)) o
     go k o true true e f = let h = eqb-true k 15 e in let g = leb-true k 11 f in let z : ⊥ = omega arith in absurd z
     go k o true false e f = let h = eqb-true k 15 e in rw h refl
     go k o false true e f = low (eqb k 0) (eqb k 1)
       where
-        low : (a b : Bool) → cond a option.none (cond b (some (zero_bool o)) (some (zero_data (primitive_text k) o)))
-            ≡ cond a option.none (some (cond b (zero_bool o)
+        low : (a b : Bool) → cond a None (cond b (Some (zero_bool o)) (Some (zero_data (primitive_text k) o)))
+            ≡ cond a None (Some (cond b (zero_bool o)
             (cond (leb k 11) (zero_data (primitive_text k) o) (clear_pointer o))))
         low true b = refl
         low false true = refl
@@ -98,8 +98,8 @@ pointer_is s = go (kind s.ty) (eqb (kind s.ty) 15) (leb (kind s.ty) 11) refl ref
 
 -- after one more slot, one more field, some fields
 abbrev pub seen_line : List Str → Option Str → List Str
-seen_line seen option.none = seen
-seen_line seen (some line) = cond (contains seen line) seen (line ∷ seen)
+seen_line seen None = seen
+seen_line seen (Some line) = cond (contains seen line) seen (line ∷ seen)
 
 abbrev pub seen_arm : List Str → Arm → List Str
 seen_arm seen (slot s) = seen_line seen (zero_line s)
@@ -121,7 +121,7 @@ module _ (c o : ℕ) (c0 : c ≡ 0 → ⊥) (c12 : c ≤ 12) where
   line = zero_text c o
 
   contains-line : (seen : List Str) (d p : ℕ) → (d ≡ 0 → ⊥) → d ≤ 12
-      → contains (seen_line seen (some (zero_text d p))) line ≡ either (contains seen line) (both (eqb p o) (eqb d c))
+      → contains (seen_line seen (Some (zero_text d p))) line ≡ either (contains seen line) (both (eqb p o) (eqb d c))
   unfolding contains
   contains-line seen d p d0 d12 = rw (← same_line d c p o d0 d12 c0 c12) (go (contains seen (zero_text d p)) refl)
     where
@@ -143,7 +143,7 @@ module _ (c o : ℕ) (c0 : c ≡ 0 → ⊥) (c12 : c ≤ 12) where
       rw (line-is s) (go (line_type (kind s.ty)) (type_least (kind s.ty)) (eqb (line_type (kind s.ty)) 0) refl)
     where
       go : (d : ℕ) → d ≤ 12 → (t : Bool) → eqb d 0 ≡ t
-          → contains (seen_line seen (cond t option.none (some (zero_text d s.offset)))) line
+          → contains (seen_line seen (cond t None (Some (zero_text d s.offset)))) line
           ≡ either (contains seen line) (both (eqb s.offset o) (eqb d c))
       go d d12 true e =
           let z : d ≡ 0 = eqb-true d 0 e in
@@ -173,8 +173,8 @@ module _ (c o : ℕ) (c0 : c ≡ 0 → ⊥) (c12 : c ≤ 12) where
 
 -- the line that a slot adds to those of its group
 abbrev pub added_lines : List Str → Option Str → List Str
-added_lines seen option.none = []
-added_lines seen (some line) = cond (contains seen line) [] (line ∷ [])
+added_lines seen None = []
+added_lines seen (Some line) = cond (contains seen line) [] (line ∷ [])
 
 pub slot-lines : (a b : ℕ) (fs : List Field) (s : Slot)
     → added_lines (seen_after (tag_lines a b) fs) (zero_line s)
@@ -183,7 +183,7 @@ slot-lines a b fs s =
     rw (line-is s) (go (line_type (kind s.ty)) (type_least (kind s.ty)) (eqb (line_type (kind s.ty)) 0) refl)
   where
     go : (d : ℕ) → d ≤ 12 → (t : Bool) → eqb d 0 ≡ t
-        → added_lines (seen_after (tag_lines a b) fs) (cond t option.none (some (zero_text d s.offset)))
+        → added_lines (seen_after (tag_lines a b) fs) (cond t None (Some (zero_text d s.offset)))
         ≡ cond t [] (cond (repeats d s.offset fs) [] (zero_text d s.offset ∷ []))
     go d d12 true e = refl
     go d d12 false e = rw (contains-repeat d s.offset (eqb-false d 0 e) d12 a b fs) refl

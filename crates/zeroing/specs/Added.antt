@@ -1,7 +1,7 @@
 -- What the writers of a group's lines leave: the lines with their byte 10 and whether one clears a pointer, or the refusal.
 -- Assumes nothing.
 use Rattle.std.specs.Prelude.{◌≡◌, Bool, true, false, List, [], ◌∷◌, ℕ, eqb}
-use Rattle.std.proofs.Math.Option.{some}
+use Rattle.std.specs.Prelude.{Some}
 use Rattle.text.specs.Bytes.{Str, either}
 use Rattle.text.specs.Lines.{flat_map, ended}
 use Rattle.text.specs.Text.{Wrote}
@@ -31,4 +31,4 @@ AddedSlot type offset fs l p l' p' = Added (slot_lines type offset (repeats type
 -- what the Rust gives: its lines, or its refusal, and then what was written counts for nothing
 abbrev pub Adds : Out Zeroing → List ℕ → Lines → List ℕ → Lines → Type 0
 Adds (ok z) l p l' p' = Added (flat_map z.result 0) z.clear l p l' p'
-Adds (refused k) l p l' p' = refusal_number p'.refusal ≡ some k
+Adds (refused k) l p l' p' = refusal_number p'.refusal ≡ Some k

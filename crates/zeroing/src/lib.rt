@@ -2,7 +2,7 @@
 #![tactic(auto)]
 
 ghost use Rattle.std.specs.Prelude.{◌≡◌, false, List, ◌*◌, ◌<◌, ◌≤◌, eqb, length, drop, take};
-ghost use Rattle.std.proofs.Math.Option.{some};
+ghost use Rattle.std.specs.Prelude.{Some};
 ghost use Rattle.text.specs.Bytes.{Str, both, either};
 ghost use Rattle.text.specs.Text.{Wrote, WroteSome};
 ghost use Rattle.row.specs.Rows.{rows};
@@ -346,7 +346,7 @@ fn tag_line(tag_count: u64, tag_offset: u64, p: Lines, buf: &mut [u8]) -> Lines
 
 // The lines so far with a refusal: what was written counts for nothing.
 fn refused(number: u64, p: Lines) -> Lines
-    ensures { (result.text ≡ p.text) × (refusal_number result.refusal ≡ some number) }
+    ensures { (result.text ≡ p.text) × (refusal_number result.refusal ≡ Some number) }
 {
     let text = p.text;
     Lines {
