@@ -1,7 +1,7 @@
 -- The bytes that the entry put between its two fill counts are the text of its request: a refusal is never done, and what is
 -- placed at the old count ends at the new one. And a text that is generated is put into any buffer with room for it. Assumes
 -- nothing.
-use Rattle.std.specs.Prelude.{◌≡◌, ℕ, ◌+◌, ◌-◌, ◌≤◌, Bool, true, false, ltb, ◌++◌, length, take, drop, replicate}
+use Rattle.std.specs.Prelude.{◌≡◌, ℕ, ◌+◌, ◌-◌, ◌≤◌, Bool, true, false, ltb, ◌++◌, length, take, drop, replicate, Ok}
 use mathlib.Core.Path.{refl, sym, ap, ◌∙◌}
 use mathlib.Core.List.{append_assoc}
 use native.Mathlib.Omega.{arith}
@@ -16,7 +16,6 @@ use Rattle.tree.specs.Read.{admitted}
 use Rattle.requests.specs.Requests.{of_field, Outcome, gives, refuses, outcome_of}
 use Rattle.requests.specs.Told.{Answered}
 use Rattle.requests.specs.declared.Accessor.{Accessor}
-use Rattle.requests.specs.declared.Answer.TheVariants.{Done}
 use Rattle.agreement.specs.Claims.{AnsweredHolds, RanHolds}
 use Rattle.agreement.specs.Slots.{Generated, bytes_between, Ran}
 
@@ -47,7 +46,7 @@ done-text l fill w l' upto e b = by_tests (ltb (length l) fill) (ltb (length l) 
         rw (z, b) (sym (placed-between l fill w (ltb-false (length l) fill h)))
 
 -- where the entry is done, the request has a text, and it stands between the two fill counts
-done-gives : (l : Str) (t : Text) (o : Outcome) (l' : Str) (t' : Text) → Answered l t o l' (Done t')
+done-gives : (l : Str) (t : Text) (o : Outcome) (l' : Str) (t' : Text) → Answered l t o l' (Ok t')
     → o ≡ gives (bytes_between t.at t'.at l')
 done-gives l t (gives w) l' t' a = ap gives (done-text l t.at w l' t'.at a.answer a.buffer)
 done-gives l t (refuses k line column) l' t' a = by-test (ltb (length l) t.at) a.answer
@@ -64,7 +63,7 @@ answered-holds s id asked l t l' t' a = done-gives l t (outcome_of (admitted s) 
 
 -- a text is put into a buffer with room for it
 done-placed : (l : Str) (fill : ℕ) (w : Str) → fill + length w ≤ length l
-    → Answered l (state_at fill) (gives w) (text.placed l fill w) (Done (state_at (fill + length w)))
+    → Answered l (state_at fill) (gives w) (text.placed l fill w) (Ok (state_at (fill + length w)))
 unfolding text.answer_of text.buffer_of
 done-placed l fill w h =
     let room : fill ≤ length l = omega arith in

@@ -2,7 +2,8 @@
 -- without and with its flag, a Float32 with default -0.0, and members of a union. Each text is what a run of the entry left in a
 -- longer buffer. The record is sixteen bytes 165 and two pointers, of which the first is null; on shorter ones getters give their
 -- defaults, hasers find a tag of 0 and null pointers, and setters have no meaning. Assumes nothing.
-use Rattle.std.specs.Prelude.{◌≡◌, ℕ, ◌+◌, ◌^◌, ◌<◌, true, false, List, [], ◌∷◌, ◌++◌, length, replicate}
+use Rattle.std.specs.Option.{option_and_then}
+use Rattle.std.specs.Prelude.{◌≡◌, ℕ, ◌+◌, ◌^◌, ◌<◌, true, false, List, [], ◌∷◌, ◌++◌, length, replicate, Ok}
 use Prim.Native.String.{String}
 use Rattle.std.specs.Prelude.{refl}
 use Rattle.std.proofs.Common.{sym, ap, ◌∙◌, arith}
@@ -46,14 +47,13 @@ use Rattle.record.specs.Types.{uint, float32, Kind, bool, num, kind_of, slot_bit
 use Rattle.record.specs.declared.Width.TheVariants.{One}
 use Rattle.meaning.specs.Claims.{TagHolds, TagClear, setter_leaves, void_leaves}
 use Rattle.meaning.specs.Examples.{some16}
-use Rattle.meaning.specs.Reading.{bind_o, type_name, truth, get_mask_of, set_mask_of, data_arg, bool_arg}
+use Rattle.meaning.specs.Reading.{type_name, truth, get_mask_of, set_mask_of, data_arg, bool_arg}
 use Rattle.meaning.specs.Meaning.{writes, gets, gets_in, tests, run_op, run_line, run_lines, run_setter, run_getter, tests_of}
 use Rattle.meaning.specs.Meaning.{run_tests}
 use Rattle.meaning.specs.Meaning.{run_haser}
 use Rattle.requests.specs.Requests.{field_at, accessor_text, of_field, refuses, outcome_of, outcome}
 use Rattle.requests.specs.Requests as requests
 use Rattle.requests.specs.Told.{Answered}
-use Rattle.requests.specs.declared.Answer.TheVariants.{Done}
 use Rattle.requests.specs.declared.Accessor.{Accessor}
 use Rattle.requests.specs.declared.Accessor.TheVariants.{Getter, Setter, Haser}
 use Rattle.agreement.specs.Slots.{Generated, bytes_between, Ran, SlotAt, slot_kind, tag_at, place_at, setter_mask, expected_at}
@@ -253,7 +253,7 @@ pub record Worked (x : Example) : Type 0 where
   pub at : SlotAt bytes 7 x.place
   pub case : Case at x.kind x.setter true false x.getter x.writes some16
   pub reads : expected_at at x.kind x.writes ≡ x.reads
-  pub runs : bind_o (run_setter x.setter x.writes some16) (run_getter x.getter) ≡ Some x.reads
+  pub runs : option_and_then (run_getter x.getter) (run_setter x.setter x.writes some16) ≡ Some x.reads
   pub past : Holds (place_at at x.kind) no_bytes → ⊥
   pub default : run_getter x.getter no_bytes ≡ Some x.slot.default.bits
 
@@ -275,7 +275,7 @@ module _ (x : Example) (e : field_at tree.nodes 7 x.place ≡ ok (bed, x.field))
       → x.writes < 2 ^ slot_bits x.kind → Holds (place_at here x.kind) some16 → TagHolds (tag_at here) some16
       → TagClear (tag_at here) (place_at here x.kind)
       → expected_at here x.kind x.writes ≡ x.reads
-      → bind_o (run_setter x.setter x.writes some16) (run_getter x.getter) ≡ Some x.reads
+      → option_and_then (run_getter x.getter) (run_setter x.setter x.writes some16) ≡ Some x.reads
       → (Holds (place_at here x.kind) no_bytes → ⊥) → run_getter x.getter no_bytes ≡ Some x.slot.default.bits
       → Worked x
   worked k s g p q v l t c r u n d = record {
@@ -501,7 +501,7 @@ no-haser-worked = (refl, ran_bytes 0 (Haser true) (unit 10) refl refl)
 -- the haser of a Bool, put into three bytes at 1
 pub answered-worked :
     Answered (0 ∷ 0 ∷ 0 ∷ []) (record { at = 1 }) (outcome_of (admitted bytes) 7 (of_field 0 (Haser true))) (0 ∷ 10 ∷ 0 ∷ [])
-    (Done (record { at = 2 }))
+    (Ok (record { at = 2 }))
 unfolding field_at by_id nth accessor_text generate_haser haser_request to_lines flat_map join stringify text.answer_of
     text.buffer_of text.placed
 answered-worked =

@@ -1,6 +1,7 @@
 -- The text of a getter's request, for a slot with bits: its default is of its type, and the text is a result type and one line
 -- with the get of the slot's kind, offset and mask. The steps of `getter_text` are taken apart once for every slot; what they
 -- come to for each kind is computed. Assumes nothing.
+use Rattle.std.specs.Option.{option_map}
 use Rattle.std.specs.Prelude.{◌≡◌, ℕ, Bool, true, false, eqb, List, [], ◌++◌}
 use mathlib.Core.Path.{refl, sym, ap, ◌∙◌}
 use Rattle.std.specs.Prelude.{Option, Some}
@@ -20,7 +21,6 @@ use Rattle.codegen.specs.Getter.{getter_code, default_declaration, declared, get
 use Rattle.codegen.specs.Default.{getter_mask}
 use Rattle.record.specs.Lines.{get_line, getter_lines}
 use Rattle.record.specs.Masks.{get_mask, get_mask_text}
-use Rattle.record.specs.Record.{map_o}
 use Rattle.record.specs.Types as types
 use Rattle.record.specs.Types.{Kind, kind_of}
 use Rattle.meaning.specs.Meaning.{whole}
@@ -173,7 +173,8 @@ pub record GivenGetter (s : Slot) (k : Kind) (explicit is_reader : Bool) (g : St
   pub typ : Str
   pub one_line : Whole typ
   pub same_kind : kind s.ty ≡ s.default.kind
-  pub text : g ≡ getter_lines typ (get_line is_reader k s.offset (map_o (get_mask_text k) (get_mask k s.default.bits explicit)))
+  pub text : g ≡ getter_lines typ (get_line is_reader k s.offset (option_map (get_mask_text k)
+      (get_mask k s.default.bits explicit)))
 
 -- the code is one line and there is no declaration
 line-text : (root name : Str) (s : Slot) (is_reader : Bool) (typ : Str) (option : Bool) (fragment : Str) → option ≡ false

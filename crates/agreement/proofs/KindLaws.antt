@@ -1,5 +1,6 @@
 -- What the kinds of slots with bits have in common, by document 01's numbers: their width, that they are no pointers and have
 -- no words, and that the masks of codegen.rs are those of the record's rules. Each is computed kind by kind. Assumes nothing.
+use Rattle.std.specs.Option.{option_map}
 use Rattle.std.specs.Prelude.{◌≡◌, ℕ, zero, suc, ◌+◌, ◌^◌, Bool, true, false, eqb, leb, List, [], ◌∷◌, get_or}
 use mathlib.Core.Path.{refl, ap}
 use Rattle.std.specs.Prelude.{Option, None, Some}
@@ -10,7 +11,6 @@ use Rattle.row.specs.Line.{most_bits}
 use Rattle.tree.specs.Read.{has_words}
 use Rattle.codegen.specs.Default.{value, unless, getter_mask}
 use Rattle.record.specs.Masks.{get_mask, get_mask_text}
-use Rattle.record.specs.Record.{map_o}
 use Rattle.record.specs.Types.{int, uint, float32, float64, Kind, bool, num, enum, slot_bits, kind_of}
 use Rattle.record.specs.declared.Width.TheVariants.{One, Two, Four, Eight}
 
@@ -66,7 +66,7 @@ most-bits =
 
 -- a mask that is left out where the test holds, written
 pub masked : (f : ℕ → Str) (d : ℕ) (text : Str) (t : Bool) → (t ≡ false → text ≡ f d)
-    → unless t text ≡ map_o f (cond t None (Some d))
+    → unless t text ≡ option_map f (cond t None (Some d))
 masked f d text true e = refl
 masked f d text false e = ap Some (e refl)
 
@@ -76,12 +76,12 @@ true_text d e = rw e
 
 -- the mask of a getter, for a default of the slot's kind
 pub getter_mask_lem : (d : ℕ) (explicit : Bool) (n : ℕ) (k : Kind) → kind_of n ≡ Some k
-    → getter_mask (value n d) ≡ map_o (get_mask_text k) (get_mask k d explicit)
+    → getter_mask (value n d) ≡ option_map (get_mask_text k) (get_mask k d explicit)
 unfolding getter_mask get_mask_text
 getter_mask_lem d explicit =
-    let same : (k : Kind) → unless (eqb d 0) (get_mask_text k d) ≡ map_o (get_mask_text k) (get_mask k d explicit) =
+    let same : (k : Kind) → unless (eqb d 0) (get_mask_text k d) ≡ option_map (get_mask_text k) (get_mask k d explicit) =
     λ k. masked (get_mask_text k) d (get_mask_text k d) (eqb d 0) (λ e. refl) in
-    by_kind (λ n k. getter_mask (value n d) ≡ map_o (get_mask_text k) (get_mask k d explicit))
+    by_kind (λ n k. getter_mask (value n d) ≡ option_map (get_mask_text k) (get_mask k d explicit))
     (masked (get_mask_text bool) d (ascii "true") (eqb d 0) (true_text d))
     (same (num (int One))) (same (num (int Two))) (same (num (int Four))) (same (num (int Eight)))
     (same (num (uint One))) (same (num (uint Two))) (same (num (uint Four))) (same (num (uint Eight)))

@@ -1,6 +1,7 @@
 -- The text of a setter's request, for a slot with bits whose default is of its type, and for a Void slot: an opening line, the
 -- tag's line if there is a tag, and the set of the slot's kind, offset and mask. What `generate_setter` gives for each kind is
 -- computed. Assumes nothing.
+use Rattle.std.specs.Option.{option_map}
 use Rattle.std.specs.Prelude.{◌≡◌, ℕ, zero, suc, ◌^◌, ◌<◌, Bool, true, false, eqb, List, [], ◌++◌}
 use mathlib.Core.Path.{refl, sym, ap, ◌∙◌}
 use Rattle.std.specs.Prelude.{Option, None, Some}
@@ -22,7 +23,6 @@ use Rattle.codegen.specs.Setter.{setter_request}
 use Rattle.calls.specs.Calls.{set_tag}
 use Rattle.record.specs.Lines.{Tag, set_line, tag_then, function_text, setter_text, void_setter_text}
 use Rattle.record.specs.Masks.{set_mask, set_mask_text}
-use Rattle.record.specs.Record.{map_o}
 use Rattle.record.specs.Types as types
 use Rattle.record.specs.Types.{int, uint, float32, float64, Kind, bool, num, kind_of}
 use Rattle.record.specs.declared.Width.TheVariants.{One, Two, Four, Eight}
@@ -39,7 +39,7 @@ use Rattle.agreement.proofs.WholeLaws.{Whole, ◌⊹◌, fixed, whole_camel}
 record Sets (k : Kind) (o d : ℕ) (explicit : Bool) (p : Parts) : Type 0 where
   typ : Str
   one_line : Whole typ
-  parts : setter_only (ascii "value") (line_alone (set_line k o (map_o (set_mask_text k) (set_mask k d explicit)))) typ ≡ p
+  parts : setter_only (ascii "value") (line_alone (set_line k o (option_map (set_mask_text k) (set_mask k d explicit)))) typ ≡ p
 
 module _ (sheet : Sheet) (o e q b : ℕ) (ws : List ℕ) (explicit : Bool) where
   -- a Bool or a number whose default is of its type
@@ -60,7 +60,7 @@ module _ (sheet : Sheet) (o e q b : ℕ) (ws : List ℕ) (explicit : Bool) where
       (λ p e. refused-ok e)
     where
       at : (k : Kind) (t : String) → whole (ascii t) ≡ true → {m : Option Str}
-          → m ≡ map_o (set_mask_text k) (set_mask k b explicit)
+          → m ≡ option_map (set_mask_text k) (set_mask k b explicit)
           → (p : Parts) → ok (setter_only (ascii "value") (line_alone (set_line k o m)) (ascii t)) ≡ ok p → Sets k o b explicit p
       at k t w e p f =
           record {
@@ -70,22 +70,22 @@ module _ (sheet : Sheet) (o e q b : ℕ) (ws : List ℕ) (explicit : Bool) where
                 ap (λ (m : Option Str). setter_only (ascii "value") (line_alone (set_line k o m)) (ascii t)) (sym e) ∙ ok-is f;
           }
 
-      number : (k : Kind) → unless (eqb b 0) (set_mask_text k b) ≡ map_o (set_mask_text k) (cond (eqb b 0) None (Some b))
+      number : (k : Kind) → unless (eqb b 0) (set_mask_text k b) ≡ option_map (set_mask_text k) (cond (eqb b 0) None (Some b))
       number k = masked (set_mask_text k) b (set_mask_text k b) (eqb b 0) (λ e. refl)
 
       float : (k : Kind) (sign : ℕ) → unless (float_zero sign b) (set_mask_text k b)
-          ≡ map_o (set_mask_text k) (cond (either (eqb b 0) (eqb b sign)) None (Some b))
+          ≡ option_map (set_mask_text k) (cond (either (eqb b 0) (eqb b sign)) None (Some b))
       float k sign = masked (set_mask_text k) b (set_mask_text k b) (float_zero sign b) (λ e. refl)
 
 -- an enum's mask: its default's bits where the flag is set
 enum_mask_lem : (s : Slot) → s.explicit < 2 → 15 ≡ s.default.kind
-    → enum_mask s ≡ ok (map_o (set_mask_text types.enum) (set_mask types.enum s.default.bits (is_explicit s)))
+    → enum_mask s ≡ ok (option_map (set_mask_text types.enum) (set_mask types.enum s.default.bits (is_explicit s)))
 unfolding set_mask_text
 enum_mask_lem s flag h = rw (eq-eqb s.default.kind 15 (sym h)) (go s.explicit flag)
   where
     go : (e : ℕ) → e < 2
         → cond (eqb e 0) (ok None) (ok (Some (decimal s.default.bits)))
-        ≡ ok (map_o (set_mask_text types.enum) (cond (eqb e 1) (Some s.default.bits) None))
+        ≡ ok (option_map (set_mask_text types.enum) (cond (eqb e 1) (Some s.default.bits) None))
     go zero h = refl
     go (suc zero) h = refl
     go (suc (suc e)) h = let z : ⊥ = omega arith in absurd z
@@ -133,7 +133,7 @@ void-parts sheet s (parameter id j) p h e = let z : ⊥ = omega arith in absurd 
 pub record GivenSetter (s : Slot) (k : Kind) (tag : Option Tag) (w : Str) : Type 0 where
   pub opening : Str
   pub one_line : Whole opening
-  pub text : w ≡ setter_text opening tag k s.offset (map_o (set_mask_text k) (set_mask k s.default.bits (is_explicit s)))
+  pub text : w ≡ setter_text opening tag k s.offset (option_map (set_mask_text k) (set_mask k s.default.bits (is_explicit s)))
 
 -- and for a Void slot
 pub record GivenVoid (tag : Option Tag) (w : Str) : Type 0 where
@@ -185,7 +185,7 @@ module _ (sheet : Sheet) (to : ℕ) (name : Str) (d : ℕ) (s : Slot) (w : Str) 
       sets sheet clean s.offset s.explicit s.option s.default.kind s.default.bits s.words k p flag
       s.ty h same is in
       let snake = camel_to_snake_case name in
-      let line : Str = set_line k s.offset (map_o (set_mask_text k) (set_mask k s.default.bits (is_explicit s))) in
+      let line : Str = set_line k s.offset (option_map (set_mask_text k) (set_mask k s.default.bits (is_explicit s))) in
       record {
         opening = opening_of snake (ascii "value") x.typ;
         one_line = whole-opening (whole_camel name named) (fixed "value" refl) x.one_line;

@@ -1,6 +1,6 @@
 -- What is claimed of the texts of a slot's accessors, each as a run of the entry left it: a getter alone, a setter alone, set and
 -- then get, the Void setter, hasers. `expected` (crate meaning) is v but for document 01's two exceptions. Assumes nothing.
-use Rattle.std.specs.Prelude.{◌≡◌, ℕ, ◌^◌, ◌<◌, Bool, true, false, not, ◌⊎◌, ◌==◌}
+use Rattle.std.specs.Prelude.{◌≡◌, ℕ, ◌^◌, ◌<◌, Bool, true, false, not, ◌⊎◌, ◌==◌, Ok}
 use Rattle.std.specs.Prelude.{None, Some}
 use Rattle.text.specs.Bytes.{Str, both, unit}
 use Rattle.text.specs.declared.Text.{Text}
@@ -16,7 +16,6 @@ use Rattle.requests.specs.Told.{Answered}
 use Rattle.requests.specs.declared.Request.{Request}
 use Rattle.requests.specs.declared.Accessor.{Accessor}
 use Rattle.requests.specs.declared.Accessor.TheVariants.{Getter, Setter, Haser}
-use Rattle.requests.specs.declared.Answer.TheVariants.{Done}
 use Rattle.agreement.specs.Slots.{Generated, bytes_between, Ran, SlotAt, slot_kind, tag_at, place_at, OwnDefault, setter_mask}
 use Rattle.agreement.specs.Slots.{expected_at}
 
@@ -26,7 +25,7 @@ use Rattle.agreement.specs.Slots.{expected_at}
 abbrev pub AnsweredHolds : Type 0
 AnsweredHolds =
     (s : Str) (id : ℕ) (asked : Request) (l : Str) (t : Text) (l' : Str) (t' : Text)
-    → Answered l t (outcome_of (admitted s) id asked) l' (Done t')
+    → Answered l t (outcome_of (admitted s) id asked) l' (Ok t')
     → outcome_of (admitted s) id asked ≡ gives (bytes_between t.at t'.at l')
 
 -- what a run of the entry left is what is generated, and what is generated some run leaves

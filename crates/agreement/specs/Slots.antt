@@ -1,5 +1,5 @@
 -- A slot of a sheet's bytes, found by the id of its node and its place, and the texts of its requests. Assumes nothing.
-use Rattle.std.specs.Prelude.{◌≡◌, ℕ, ◌-◌, Bool, take, drop, ◌==◌}
+use Rattle.std.specs.Prelude.{◌≡◌, ℕ, ◌-◌, Bool, take, drop, ◌==◌, Ok}
 use Rattle.std.specs.Prelude.{Option, None, Some}
 use Rattle.text.specs.Bytes.{Str, cond}
 use Rattle.text.specs.declared.Text.{Text}
@@ -15,7 +15,6 @@ use Rattle.meaning.specs.Claims.{expected}
 use Rattle.requests.specs.Requests.{field_at, of_field, gives, outcome_of}
 use Rattle.requests.specs.Told.{Answered}
 use Rattle.requests.specs.declared.Accessor.{Accessor}
-use Rattle.requests.specs.declared.Answer.TheVariants.{Done}
 
 -- generated: the request for an accessor gets a text, given room
 abbrev pub Generated : Str → ℕ → ℕ → Accessor → Str → Type 0
@@ -32,7 +31,7 @@ pub record Ran (s : Str) (id place : ℕ) (accessor : Accessor) (w : Str) : Type
   pub state : Text
   pub left : Str
   pub after : Text
-  pub answered : Answered buffer state (outcome_of (admitted s) id (of_field place accessor)) left (Done after)
+  pub answered : Answered buffer state (outcome_of (admitted s) id (of_field place accessor)) left (Ok after)
   pub bytes : w ≡ bytes_between state.at after.at left
 
 -- a tag: none where the discriminant is 65535, else the 16 bits at the node's tag offset

@@ -1,6 +1,7 @@
 -- Document 01's starred cases, computed: one table and one theorem over its rows. A row is a text that a definition gives and the
 -- bytes that it must be. Texts of requests are what the entry gives for the bytes of a sheet; a value read is written in decimal.
 -- Assumes nothing.
+use Rattle.std.specs.Option.{option_and_then}
 use Rattle.std.specs.Prelude.{◌≡◌, ℕ, true, false, List, [], ◌∷◌, ◌++◌, map}
 use Prim.Native.String.{String}
 use Rattle.std.specs.Prelude.{refl}
@@ -40,7 +41,7 @@ use Rattle.codegen.specs.Zeroing.{zero_line, contains, zero_fields, zero_fields_
 use Rattle.nodes.specs.Index.{by_id, nth}
 use Rattle.record.specs.Record.{found, stored, get_bits, put_bits}
 use Rattle.meaning.specs.Examples.{some16}
-use Rattle.meaning.specs.Reading.{bind_o, type_name, truth, get_mask_of, set_mask_of, data_arg}
+use Rattle.meaning.specs.Reading.{type_name, truth, get_mask_of, set_mask_of, data_arg}
 use Rattle.meaning.specs.Meaning.{writes, gets, gets_in, run_op, run_line, run_lines, run_setter, run_getter}
 use Rattle.requests.specs.Requests.{leaf_of, field_at, type_text, accessor_text, of_field, Outcome, gives, refuses, outcome_of}
 use Rattle.requests.specs.declared.Accessor.{Accessor}
@@ -103,7 +104,7 @@ number (Some v) = decimal v
 
 -- what is read of a value that was written
 abbrev reads : ℕ → ℕ → Str
-reads place v = number (bind_o (run_setter (asked place Setter) v some16) (run_getter (asked place getter)))
+reads place v = number (option_and_then (run_getter (asked place getter)) (run_setter (asked place Setter) v some16))
 
 -- ---- the table
 

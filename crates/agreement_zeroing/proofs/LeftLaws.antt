@@ -1,5 +1,6 @@
 -- The record that a group's zeroing leaves: what crate meaning claims of its zeros, for each slot inside the group. Assumes
 -- nothing.
+use Rattle.std.specs.Option.{option_map}
 use Rattle.std.specs.Prelude.{◌≡◌, ℕ, ◌^◌, ◌<◌, Bool, true, false, ◌⊎◌, [], length, get_or}
 use mathlib.Core.Path.{ap, ◌∙◌}
 use mathlib.Core.Logic.{inl, inr}
@@ -16,7 +17,7 @@ use Rattle.codegen.specs.Zeroing as codegen
 use Rattle.codegen.specs.Zeroing.{Zeroing, zero_fields_of_group, zeroing_request}
 use Rattle.record.specs.Lines.{get_line, getter_lines, zero_call, zero_texts}
 use Rattle.record.specs.Masks.{get_mask, get_mask_text}
-use Rattle.record.specs.Record.{Record, map_o, null}
+use Rattle.record.specs.Record.{Record, null}
 use Rattle.record.specs.Types.{Kind, slot_bits, kind_of}
 use Rattle.meaning.specs.Claims as meaning
 use Rattle.meaning.specs.Claims.{In}
@@ -92,7 +93,7 @@ module _ {s : Str} {g : ℕ} {w : Str} {r : Record} (c : Run s g w r) where
         → (explicit : Bool) (typ : Str) → whole typ ≡ true → (is_reader : Bool)
         → run_getter
         (getter_lines typ
-        (get_line is_reader k a.slot.offset (map_o (get_mask_text k) (get_mask k a.slot.default.bits explicit))))
+        (get_line is_reader k a.slot.offset (option_map (get_mask_text k) (get_mask k a.slot.default.bits explicit))))
         left
         ≡ Some a.slot.default.bits
     unfolding left

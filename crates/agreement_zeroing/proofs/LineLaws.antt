@@ -1,5 +1,6 @@
 -- The line of a slot's zeroing by the number of its type's kind: a slot's with bits, a pointer's, or none for Void. Each is a
 -- zero's line. By cases on the kind. Assumes nothing.
+use Rattle.std.specs.Option.{option_map}
 use Rattle.std.specs.Prelude.{◌≡◌, ℕ, suc, ◌-◌, ◌≤◌, Bool, true, false, eqb, leb, List, [], ◌∷◌}
 use mathlib.Core.Path.{refl, sym, ◌∙◌}
 use mathlib.Core.Logic.{inl, inr}
@@ -16,7 +17,6 @@ use Rattle.codegen_types.specs.Primitive.{primitive_text}
 use Rattle.codegen.specs.Zeroing as codegen
 use Rattle.codegen.specs.Zeroing.{contains}
 use Rattle.record.specs.Lines.{Zero, of_slot, of_pointer, zero_call, zeroing_line}
-use Rattle.record.specs.Record.{map_o}
 use Rattle.record.specs.Types.{Kind, kind_of}
 use Rattle.meaning.specs.Claims.{In}
 
@@ -60,14 +60,14 @@ line_clear : (n o : ℕ) → 12 ≤ n → (n ≡ 15 → ⊥) → line_at n o ≡
 line_clear n o h ne =
     rw (ne_eqb n 0 (λ e. omega arith), ne_eqb n 1 (λ e. omega arith), lt-leb n 11 (omega arith), ne_eqb n 15 ne)
 
-line-high : (n o : ℕ) → 16 ≤ n → line_at n o ≡ map_o zeroing_line (zero_at n o (kind_of n))
+line-high : (n o : ℕ) → 16 ≤ n → line_at n o ≡ option_map zeroing_line (zero_at n o (kind_of n))
 line-high n o h = line_clear n o (omega arith) (λ e. omega arith) ∙ sym (rw (no_kind n h, ne_eqb n 0 (λ e. omega arith)))
 
-line-zero : (n o : ℕ) → line_at n o ≡ map_o zeroing_line (zero_at n o (kind_of n))
+line-zero : (n o : ℕ) → line_at n o ≡ option_map zeroing_line (zero_at n o (kind_of n))
 unfolding kind_of
-line-zero n o = each (λ n. line_at n o ≡ map_o zeroing_line (zero_at n o (kind_of n))) all n (omega arith)
+line-zero n o = each (λ n. line_at n o ≡ option_map zeroing_line (zero_at n o (kind_of n))) all n (omega arith)
   where
-    all : Each (λ n. line_at n o ≡ map_o zeroing_line (zero_at n o (kind_of n))) 0
+    all : Each (λ n. line_at n o ≡ option_map zeroing_line (zero_at n o (kind_of n))) 0
     all =
         refl ⊹ refl ⊹ refl ⊹ refl ⊹ refl ⊹ refl ⊹ refl ⊹ refl ⊹ refl ⊹ refl ⊹ refl ⊹ refl ⊹ refl ⊹ refl ⊹ refl ⊹ refl
         ⊹ rest (λ n h. line-high n o h)
@@ -93,7 +93,7 @@ pub zero_of : (s : Slot) (l : Str) → codegen.zero_line s ≡ Some l → (z : Z
 unfolding codegen.zero_line
 zero_of s l e = go (zero_at (kind s.ty) s.offset (kind_of (kind s.ty))) (sym (line-zero (kind s.ty) s.offset) ∙ e)
   where
-    go : (z : Option Zero) → map_o zeroing_line z ≡ Some l → (z : Zero) × (zeroing_line z ≡ l)
+    go : (z : Option Zero) → option_map zeroing_line z ≡ Some l → (z : Zero) × (zeroing_line z ≡ l)
     go None e = let z : ◌≡◌ {A = ℕ} 0 1 = cc in absurd (omega arith)
     go (Some z) e = (z, cc)
 

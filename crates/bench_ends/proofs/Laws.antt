@@ -8,7 +8,7 @@ use lib.ListN.{length, get_or}
 use borrow.Author.Tests.{eqb-false}
 use Rattle.text.specs.Bytes.{Str}
 use Rattle.row.specs.Newline.{newline_from}
-use Rattle.row.proofs.NewlineLaws.{found-later}
+use Rattle.row.proofs.NewlineLaws.{found_later}
 use Rattle.bench_ends.specs.Searches.{Passes}
 
 -- eight bytes of which the first seven are not byte 10
@@ -21,7 +21,7 @@ pub passes :
 passes s i h a b c d e f g = go (eqb (get_or s (i + 7) 0) 10) refl
   where
     on : (m n : ℕ) → n ≡ m + 1 → m < length s → (get_or s m 0 ≡ 10 → ⊥) → newline_from s n ≡ newline_from s m
-    on m n e h x = rw e (found-later s m h x)
+    on m n e h x = rw e (found_later s m h x)
 
     go : (t : Bool) → eqb (get_or s (i + 7) 0) 10 ≡ t → Passes s i (not t)
     go true k = tt

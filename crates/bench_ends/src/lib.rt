@@ -3,41 +3,27 @@
 #![tactic(auto)]
 
 ghost use Rattle.std.specs.Prelude.{◌≡◌, ◌+◌, ◌≤◌, length};
-ghost use Rattle.row.specs.Newline.{newline_said, newline_from};
+ghost use Rattle.row.specs.Newline.{newline_from};
 ghost use Rattle.bench_ends.specs.Searches.{Passes, answered};
 
-use row::Newline;
-
 // Whether none of the eight bytes from `i` on is byte 10.
+#[tactic(auto, using(crate::proofs::Laws::passes))]
 fn goes_on(s: &[u8], i: usize) -> bool
     requires { i + 8 ≤ length s.now }
     ensures { Passes s.now i result }
 {
-    if s[i] == b'\n' {
-        return false;
-    }
-    if s[i + 1] == b'\n' {
-        return false;
-    }
-    if s[i + 2] == b'\n' {
-        return false;
-    }
-    if s[i + 3] == b'\n' {
-        return false;
-    }
-    if s[i + 4] == b'\n' {
-        return false;
-    }
-    if s[i + 5] == b'\n' {
-        return false;
-    }
-    if s[i + 6] == b'\n' {
-        return false;
-    }
-    s[i + 7] != b'\n'
+    s[i] != b'\n'
+        && s[i + 1] != b'\n'
+        && s[i + 2] != b'\n'
+        && s[i + 3] != b'\n'
+        && s[i + 4] != b'\n'
+        && s[i + 5] != b'\n'
+        && s[i + 6] != b'\n'
+        && s[i + 7] != b'\n'
 }
 
-// Past eights of bytes in which there is no byte 10.
+// Past eights of bytes in which there is no byte 10. It counts its place by hand, as the search that it is measured for did.
+#[tactic(auto, using(crate::proofs::Laws::passed))]
 fn past_eights(s: &[u8], from: usize) -> usize
     ensures { newline_from s.now result ≡ newline_from s.now from }
 {
@@ -55,39 +41,28 @@ fn past_eights(s: &[u8], from: usize) -> usize
 }
 
 // The first byte 10 at or after `from`, as it was sought: by eights, and the last few singly.
-fn find_by_bytes(s: &[u8], from: usize) -> Newline
-    ensures { newline_said result ≡ newline_from s.now from }
+#[tactic(auto, using(row::proofs::NewlineLaws::steps))]
+fn find_by_bytes(s: &[u8], from: usize) -> Option<usize>
+    ensures { result ≡ newline_from s.now from }
 {
-    let mut i = past_eights(s, from);
-    while i < s.len() {
+    for i in past_eights(s, from)..s.len() {
         if s[i] == b'\n' {
-            return Newline::At(i);
+            return Some(i);
         }
-        i += 1;
     }
-    Newline::Nothing
-}
-
-// What is found as one number.
-fn answer(found: Newline) -> usize
-    ensures { result ≡ answered (newline_said found) }
-{
-    match found {
-        Newline::At(i) => i,
-        Newline::Nothing => usize::MAX,
-    }
+    None
 }
 
 #[unsafe(no_mangle)]
 pub extern "C" fn bench_newline_by_words(s: &[u8], from: usize) -> usize
     ensures { result ≡ answered (newline_from s.now from) }
 {
-    answer(row::find_newline(s, from))
+    row::find_newline(s, from).unwrap_or(usize::MAX)
 }
 
 #[unsafe(no_mangle)]
 pub extern "C" fn bench_newline_by_bytes(s: &[u8], from: usize) -> usize
     ensures { result ≡ answered (newline_from s.now from) }
 {
-    answer(find_by_bytes(s, from))
+    find_by_bytes(s, from).unwrap_or(usize::MAX)
 }

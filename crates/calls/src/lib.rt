@@ -6,15 +6,13 @@ ghost use Rattle.std.specs.Prelude.{◌≡◌};
 ghost use Rattle.text.specs.Text.{Wrote};
 ghost use Rattle.calls.specs.Calls.{get_bool_field, get_data_field, get_enum_field, set_bool_field, set_data_field, set_tag};
 ghost use Rattle.calls.specs.Calls.{zero_bool, zero_data, zero_tag, clear_pointer, not_null, tag_test};
-ghost use Rattle.calls.specs.Mask.{mask_text, is_masked, last_argument};
-ghost use Rattle.calls.specs.Mask.{get_bool_head, get_data_head, set_bool_head, set_data_head, tag_test_head};
+ghost use Rattle.calls.specs.Mask.{mask_text, last_argument};
 
 use text::Text;
 
-// What a call masks with: nothing, true, a signed number by its bits and the bit of its sign, or a number with its ending.
+// What a call masks with: true, a signed number by its bits and the bit of its sign, or a number with its ending.
 #[derive(Clone, Copy)]
 pub enum Mask {
-    None,
     True,
     Signed { half: u64, bits: u64 },
     Plain(u64),
@@ -22,95 +20,56 @@ pub enum Mask {
     U64(u64),
 }
 
-impl Mask {
-    fn is_masked(self) -> bool
-        ensures { result ≡ is_masked (mask_text self) }
-    {
-        match self {
-            Mask::None => false,
-            Mask::True => true,
-            Mask::Signed { half: _, bits: _ } => true,
-            Mask::Plain(_) => true,
-            Mask::U32(_) => true,
-            Mask::U64(_) => true,
-        }
-    }
-
-    // The mask as the last argument of its call, or nothing.
-    fn last_argument(self, t: Text, buf: &mut [u8]) -> Text
-        ensures { Wrote buf.old t (last_argument (mask_text self)) buf.new result }
-    {
-        match self {
-            Mask::None => t,
-            Mask::True => t.bytes(buf, b", true"),
-            Mask::Signed { half, bits } => {
-                let t = t.bytes(buf, b", ");
-                t.signed(buf, half, bits)
-            }
-            Mask::Plain(n) => {
-                let t = t.bytes(buf, b", ");
-                t.number(buf, n)
-            }
-            Mask::U32(n) => {
-                let t = t.bytes(buf, b", ");
-                let t = t.number(buf, n);
-                t.bytes(buf, b"u32")
-            }
-            Mask::U64(n) => {
-                let t = t.bytes(buf, b", ");
-                let t = t.number(buf, n);
-                t.bytes(buf, b"u64")
-            }
-        }
-    }
-}
-
-fn get_bool_head(masked: bool, is_reader: bool, t: Text, buf: &mut [u8]) -> Text
-    ensures { Wrote buf.old t (get_bool_head is_reader masked) buf.new result }
+// The mask as the last argument of its call, or nothing.
+fn last_argument(mask: Option<Mask>, t: Text, buf: &mut [u8]) -> Text
+    ensures { Wrote buf.old t (last_argument (mask_text mask)) buf.new result }
 {
-    if is_reader {
-        if masked {
-            return t.bytes(buf, b"self.reader.get_bool_field_mask(");
+    let Some(mask) = mask else {
+        return t;
+    };
+    let t = t.bytes(buf, b", ");
+    match mask {
+        Mask::True => t.bytes(buf, b"true"),
+        Mask::Signed { half, bits } => t.signed(buf, half, bits),
+        Mask::Plain(n) => t.number(buf, n),
+        Mask::U32(n) => {
+            let t = t.number(buf, n);
+            t.bytes(buf, b"u32")
         }
-        return t.bytes(buf, b"self.reader.get_bool_field(");
+        Mask::U64(n) => {
+            let t = t.number(buf, n);
+            t.bytes(buf, b"u64")
+        }
     }
-    if masked {
-        return t.bytes(buf, b"self.builder.get_bool_field_mask(");
-    }
-    t.bytes(buf, b"self.builder.get_bool_field(")
 }
 
 // The get of a Bool, with its mask.
-pub fn get_bool_field(offset: u64, mask: Mask, is_reader: bool, t: Text, buf: &mut [u8]) -> Text
+pub fn get_bool_field(
+    offset: u64,
+    mask: Option<Mask>,
+    is_reader: bool,
+    t: Text,
+    buf: &mut [u8],
+) -> Text
     ensures { Wrote buf.old t (get_bool_field is_reader offset (mask_text mask)) buf.new result }
 {
-    let masked = mask.is_masked();
-    let t = get_bool_head(masked, is_reader, t, buf);
+    let head: &[u8] = match (is_reader, mask.is_some()) {
+        (true, true) => b"self.reader.get_bool_field_mask(",
+        (true, false) => b"self.reader.get_bool_field(",
+        (false, true) => b"self.builder.get_bool_field_mask(",
+        (false, false) => b"self.builder.get_bool_field(",
+    };
+    let t = t.bytes(buf, head);
     let t = t.number(buf, offset);
-    let t = mask.last_argument(t, buf);
+    let t = last_argument(mask, t, buf);
     t.bytes(buf, b")")
-}
-
-fn get_data_head(masked: bool, is_reader: bool, t: Text, buf: &mut [u8]) -> Text
-    ensures { Wrote buf.old t (get_data_head is_reader masked) buf.new result }
-{
-    if is_reader {
-        if masked {
-            return t.bytes(buf, b"self.reader.get_data_field_mask::<");
-        }
-        return t.bytes(buf, b"self.reader.get_data_field::<");
-    }
-    if masked {
-        return t.bytes(buf, b"self.builder.get_data_field_mask::<");
-    }
-    t.bytes(buf, b"self.builder.get_data_field::<")
 }
 
 // The get of a number of a type, with its mask.
 pub fn get_data_field(
     typ: &[u8],
     offset: u64,
-    mask: Mask,
+    mask: Option<Mask>,
     is_reader: bool,
     t: Text,
     buf: &mut [u8],
@@ -118,17 +77,28 @@ pub fn get_data_field(
     ensures { Wrote buf.old t
         (get_data_field is_reader typ.now offset (mask_text mask)) buf.new result }
 {
-    let masked = mask.is_masked();
-    let t = get_data_head(masked, is_reader, t, buf);
+    let head: &[u8] = match (is_reader, mask.is_some()) {
+        (true, true) => b"self.reader.get_data_field_mask::<",
+        (true, false) => b"self.reader.get_data_field::<",
+        (false, true) => b"self.builder.get_data_field_mask::<",
+        (false, false) => b"self.builder.get_data_field::<",
+    };
+    let t = t.bytes(buf, head);
     let t = t.bytes(buf, typ);
     let t = t.bytes(buf, b">(");
     let t = t.number(buf, offset);
-    let t = mask.last_argument(t, buf);
+    let t = last_argument(mask, t, buf);
     t.bytes(buf, b")")
 }
 
 // The get of an enum: its number, turned into the enum.
-pub fn get_enum_field(offset: u64, mask: Mask, is_reader: bool, t: Text, buf: &mut [u8]) -> Text
+pub fn get_enum_field(
+    offset: u64,
+    mask: Option<Mask>,
+    is_reader: bool,
+    t: Text,
+    buf: &mut [u8],
+) -> Text
     ensures { Wrote buf.old t (get_enum_field is_reader offset (mask_text mask)) buf.new result }
 {
     let t = t.bytes(buf, b"::core::convert::TryFrom::try_from(");
@@ -136,35 +106,27 @@ pub fn get_enum_field(offset: u64, mask: Mask, is_reader: bool, t: Text, buf: &m
     t.bytes(buf, b")")
 }
 
-fn set_bool_head(masked: bool, t: Text, buf: &mut [u8]) -> Text
-    ensures { Wrote buf.old t (set_bool_head masked) buf.new result }
-{
-    if masked {
-        return t.bytes(buf, b"self.builder.set_bool_field_mask(");
-    }
-    t.bytes(buf, b"self.builder.set_bool_field(")
-}
-
 // A setter's line that writes a Bool, with its mask.
-pub fn set_bool_field(offset: u64, value: &[u8], mask: Mask, t: Text, buf: &mut [u8]) -> Text
+pub fn set_bool_field(
+    offset: u64,
+    value: &[u8],
+    mask: Option<Mask>,
+    t: Text,
+    buf: &mut [u8],
+) -> Text
     ensures { Wrote buf.old t (set_bool_field offset value.now (mask_text mask)) buf.new result }
 {
-    let masked = mask.is_masked();
-    let t = set_bool_head(masked, t, buf);
+    let head: &[u8] = if mask.is_some() {
+        b"self.builder.set_bool_field_mask("
+    } else {
+        b"self.builder.set_bool_field("
+    };
+    let t = t.bytes(buf, head);
     let t = t.number(buf, offset);
     let t = t.bytes(buf, b", ");
     let t = t.bytes(buf, value);
-    let t = mask.last_argument(t, buf);
+    let t = last_argument(mask, t, buf);
     t.bytes(buf, b");")
-}
-
-fn set_data_head(masked: bool, t: Text, buf: &mut [u8]) -> Text
-    ensures { Wrote buf.old t (set_data_head masked) buf.new result }
-{
-    if masked {
-        return t.bytes(buf, b"self.builder.set_data_field_mask::<");
-    }
-    t.bytes(buf, b"self.builder.set_data_field::<")
 }
 
 // A setter's line that writes a number of a type, or an enum's number, with its mask.
@@ -172,21 +134,25 @@ pub fn set_data_field(
     typ: &[u8],
     offset: u64,
     value: &[u8],
-    mask: Mask,
+    mask: Option<Mask>,
     t: Text,
     buf: &mut [u8],
 ) -> Text
     ensures { Wrote buf.old t
         (set_data_field typ.now offset value.now (mask_text mask)) buf.new result }
 {
-    let masked = mask.is_masked();
-    let t = set_data_head(masked, t, buf);
+    let head: &[u8] = if mask.is_some() {
+        b"self.builder.set_data_field_mask::<"
+    } else {
+        b"self.builder.set_data_field::<"
+    };
+    let t = t.bytes(buf, head);
     let t = t.bytes(buf, typ);
     let t = t.bytes(buf, b">(");
     let t = t.number(buf, offset);
     let t = t.bytes(buf, b", ");
     let t = t.bytes(buf, value);
-    let t = mask.last_argument(t, buf);
+    let t = last_argument(mask, t, buf);
     t.bytes(buf, b");")
 }
 
@@ -225,9 +191,7 @@ pub fn zero_data(typ: &[u8], offset: u64, t: Text, buf: &mut [u8]) -> Text
 pub fn zero_tag(offset: u64, t: Text, buf: &mut [u8]) -> Text
     ensures { Wrote buf.old t (zero_tag offset) buf.new result }
 {
-    let t = t.bytes(buf, b"self.builder.set_data_field::<u16>(");
-    let t = t.number(buf, offset);
-    t.bytes(buf, b", 0);")
+    set_tag(offset, 0, t, buf)
 }
 
 pub fn clear_pointer(offset: u64, t: Text, buf: &mut [u8]) -> Text
@@ -238,7 +202,7 @@ pub fn clear_pointer(offset: u64, t: Text, buf: &mut [u8]) -> Text
     t.bytes(buf, b").clear();")
 }
 
-// A haser's test of its pointer.
+// A haser's test of its pointer. The two texts differ before and behind the number, and each arm writes its own.
 pub fn not_null(offset: u64, is_reader: bool, t: Text, buf: &mut [u8]) -> Text
     ensures { Wrote buf.old t (not_null is_reader offset) buf.new result }
 {
@@ -252,20 +216,16 @@ pub fn not_null(offset: u64, is_reader: bool, t: Text, buf: &mut [u8]) -> Text
     t.bytes(buf, b")")
 }
 
-fn tag_test_head(is_reader: bool, t: Text, buf: &mut [u8]) -> Text
-    ensures { Wrote buf.old t (tag_test_head is_reader) buf.new result }
-{
-    if is_reader {
-        return t.bytes(buf, b"if self.reader.get_data_field::<u16>(");
-    }
-    t.bytes(buf, b"if self.builder.get_data_field::<u16>(")
-}
-
 // A haser's line that answers false where the union has another member.
 pub fn tag_test(offset: u64, discriminant: u64, is_reader: bool, t: Text, buf: &mut [u8]) -> Text
     ensures { Wrote buf.old t (tag_test is_reader offset discriminant) buf.new result }
 {
-    let t = tag_test_head(is_reader, t, buf);
+    let head: &[u8] = if is_reader {
+        b"if self.reader.get_data_field::<u16>("
+    } else {
+        b"if self.builder.get_data_field::<u16>("
+    };
+    let t = t.bytes(buf, head);
     let t = t.number(buf, offset);
     let t = t.bytes(buf, b") != ");
     let t = t.number(buf, discriminant);

@@ -9,28 +9,26 @@ use Rattle.text.specs.Bytes.{Str, ascii, unit, cond, both}
 use Rattle.text.specs.Lines.{FormattedTexts, Branch, Line, none, ◌&◌, spaces, to_lines, flat_map, stringify, ended}
 use Rattle.text.proofs.LinesLaws.{ended_append, stringify-lines}
 use Rattle.names.specs.Names.{camel_to_snake_case}
-use Rattle.tree.specs.Tree.{Slot, kind}
 use Rattle.codegen_types.specs.Out.{Out, ok, refused}
 use Rattle.codegen_types.specs.TypeString.{is_pointer_kind}
 use Rattle.calls.specs.Calls.{not_null, tag_test}
-use Rattle.codegen.specs.Mask.{mask_or}
 use Rattle.codegen.specs.Default.{value, integer, unless, prim_default, getter_mask}
 use Rattle.codegen.specs.Function.{function}
-use Rattle.codegen.specs.Haser.{haser_request, haser_of, generate_haser, tag_tests}
+use Rattle.codegen.specs.Haser.{haser_of, generate_haser, tag_tests}
 use Rattle.codegen.specs.TagLine.{tag_test_line}
 
 -- ---- masks
 
 module _ (k b : ℕ) where
   -- from kind 1 to 9 a setter's mask is a getter's
-  pub same_mask : 1 ≤ k → k < 10 → getter_mask (value k b) ≡ mask_or (prim_default (value k b))
+  pub same_mask : 1 ≤ k → k < 10 → ok (getter_mask (value k b)) ≡ prim_default (value k b)
   unfolding prim_default getter_mask
   same_mask lo hi = go (eqb k 1) (leb 2 k) (leb k 9) refl refl refl _
     where
       go : (one low high : Bool) → eqb k 1 ≡ one → leb 2 k ≡ low → leb k 9 ≡ high → (rest : Out (Option Str))
-          → unless (eqb b 0) (cond one (ascii "true") (integer (value k b)))
-          ≡ mask_or (cond one (ok (unless (eqb b 0) (ascii "true")))
-          (cond (both low high) (ok (unless (eqb b 0) (integer (value k b)))) rest))
+          → ok (unless (eqb b 0) (cond one (ascii "true") (integer (value k b))))
+          ≡ cond one (ok (unless (eqb b 0) (ascii "true")))
+          (cond (both low high) (ok (unless (eqb b 0) (integer (value k b)))) rest)
       go true low high e f g rest = refl
       go false true true e f g rest = refl
       go false true false e f g rest = let high = leb-false k 9 g in let z : ⊥ = omega arith in absurd z
@@ -85,12 +83,6 @@ function-text head interior more =
     stringify-lines (Branch (function head interior more)) (λ e. let z : ◌≡◌ {A = ℕ} 0 1 = cc in omega arith)
 
 -- ---- a haser
-
--- the haser of a slot of the tree, by its kind and its offset
-pub haser-is : (tag : ℕ) (name : Str) (d : ℕ) (s : Slot) (k offset : ℕ) (is_reader : Bool) → kind s.ty ≡ k → s.offset ≡ offset
-    → haser_of tag name d k offset is_reader ≡ haser_request tag name d s is_reader
-unfolding haser_request
-haser-is tag name d s k offset is_reader e f = rw (← e, ← f) refl
 
 pub haser-none : (tag : ℕ) (name : Str) (d k offset : ℕ) (is_reader : Bool) → is_pointer_kind k ≡ false
     → haser_of tag name d k offset is_reader ≡ stringify (Branch none)

@@ -7,7 +7,7 @@ ghost use Rattle.text.specs.Text.{Wrote};
 ghost use Rattle.calls.specs.Calls.{get_data_field, set_bool_field, set_data_field, zero_data};
 ghost use Rattle.calls.specs.Mask.{mask_text};
 ghost use Rattle.codegen.specs.Default.{value, float_zero, prim_default, getter_mask};
-ghost use Rattle.codegen.specs.Mask.{mask_or};
+ghost use Rattle.codegen.specs.Mask.{mask_or, masked};
 ghost use Rattle.codegen.specs.Haser.{haser_of};
 ghost use Rattle.codegen.specs.TagLine.{tag_test_line};
 ghost use Rattle.codegen_types.specs.Primitive.{primitive_text};
@@ -15,17 +15,17 @@ ghost use Rattle.codegen_types.specs.TypeString.{is_pointer_kind};
 
 use calls::Mask;
 use field::Slot;
-use terms::kinds;
+use terms::{Refusal, kinds};
 use text::Text;
 
 // The mask of a getter: the default's bits, looked at as a number, which is signed for Int8 to Int64.
-pub fn getter_mask(kind: u64, bits: u64) -> Mask
+pub fn getter_mask(kind: u64, bits: u64) -> Option<Mask>
     ensures { mask_text result ≡ getter_mask (value kind bits) }
 {
     if bits == 0 {
-        return Mask::None;
+        return None;
     }
-    match kind {
+    Some(match kind {
         kinds::BOOL => Mask::True,
         kinds::INT8 => Mask::Signed { half: 0x80, bits },
         kinds::INT16 => Mask::Signed { half: 0x8000, bits },
@@ -38,39 +38,39 @@ pub fn getter_mask(kind: u64, bits: u64) -> Mask
             bits,
         },
         _ => Mask::Plain(bits),
-    }
+    })
 }
 
 // Whether a float is 0.0 or -0.0: its bits are 0, or its sign's bit alone.
 fn is_float_zero(sign: u64, bits: u64) -> bool
     ensures { result ≡ float_zero sign bits }
 {
-    if bits == 0 {
-        return true;
-    }
-    bits == sign
+    bits == 0 || bits == sign
 }
 
-// The mask of a setter of a Bool or a number; none where the default is refused.
-fn prim_default(kind: u64, bits: u64) -> Mask
-    ensures { mask_text result ≡ mask_or (prim_default (value kind bits)) }
+// The mask of a setter of a Bool or a number; the refusal of a default that is no primitive.
+pub fn prim_default(kind: u64, bits: u64) -> Result<Option<Mask>, Refusal>
+    ensures { masked result ≡ prim_default (value kind bits) }
 {
     match kind {
         kinds::FLOAT32 => {
-            if is_float_zero(0x8000_0000, bits) {
-                return Mask::None;
-            }
-            Mask::U32(bits)
-        },
+            let zero = is_float_zero(0x8000_0000, bits);
+            Ok(if zero { None } else { Some(Mask::U32(bits)) })
+        }
         kinds::FLOAT64 => {
-            if is_float_zero(0x8000_0000_0000_0000, bits) {
-                return Mask::None;
-            }
-            Mask::U64(bits)
-        },
-        kinds::BOOL..=kinds::UINT64 => getter_mask(kind, bits),
-        _ => Mask::None,
+            let zero = is_float_zero(0x8000_0000_0000_0000, bits);
+            Ok(if zero { None } else { Some(Mask::U64(bits)) })
+        }
+        kinds::BOOL..=kinds::UINT64 => Ok(getter_mask(kind, bits)),
+        _ => Err(Refusal::SetterDefault),
     }
+}
+
+// The same mask, and none where the default is refused.
+fn setter_mask(default: u64, bits: u64) -> Option<Mask>
+    ensures { mask_text result ≡ mask_or (prim_default (value default bits)) }
+{
+    prim_default(default, bits).unwrap_or(None)
 }
 
 // The get of a number, masked by its default.
@@ -85,11 +85,9 @@ pub fn get_number(
     ensures { Wrote buf.old t
         (get_data_field is_reader (primitive_text kind) offset (getter_mask (value kind bits))) buf.new result }
 {
-    let name = codegen_types::primitive(kind);
-    let bytes = name.bytes;
-    let len = name.len;
+    let typ = codegen_types::primitive(kind);
     let mask = getter_mask(kind, bits);
-    calls::get_data_field(&bytes[..len], offset, mask, is_reader, t, buf)
+    calls::get_data_field(typ, offset, mask, is_reader, t, buf)
 }
 
 // The set of a Bool, masked by the default of any primitive kind.
@@ -97,7 +95,7 @@ pub fn set_bool(offset: u64, default: u64, bits: u64, t: Text, buf: &mut [u8]) -
     ensures { Wrote buf.old t
         (set_bool_field offset (ascii "value") (mask_or (prim_default (value default bits)))) buf.new result }
 {
-    let mask = prim_default(default, bits);
+    let mask = setter_mask(default, bits);
     calls::set_bool_field(offset, b"value", mask, t, buf)
 }
 
@@ -107,34 +105,27 @@ pub fn set_number(kind: u64, offset: u64, default: u64, bits: u64, t: Text, buf:
         (set_data_field (primitive_text kind) offset (ascii "value") (mask_or (prim_default (value default bits))))
         buf.new result }
 {
-    let name = codegen_types::primitive(kind);
-    let bytes = name.bytes;
-    let len = name.len;
-    let mask = prim_default(default, bits);
-    calls::set_data_field(&bytes[..len], offset, b"value", mask, t, buf)
+    let typ = codegen_types::primitive(kind);
+    let mask = setter_mask(default, bits);
+    calls::set_data_field(typ, offset, b"value", mask, t, buf)
 }
 
 // The line that zeroes a number.
 pub fn zero_number(kind: u64, offset: u64, t: Text, buf: &mut [u8]) -> Text
     ensures { Wrote buf.old t (zero_data (primitive_text kind) offset) buf.new result }
 {
-    let name = codegen_types::primitive(kind);
-    let bytes = name.bytes;
-    let len = name.len;
-    calls::zero_data(&bytes[..len], offset, t, buf)
+    let typ = codegen_types::primitive(kind);
+    calls::zero_data(typ, offset, t, buf)
 }
 
 // Whether a type of this kind is a pointer.
 pub fn is_pointer(kind: u64) -> bool
     ensures { result ≡ is_pointer_kind kind }
 {
-    match kind {
-        kinds::VOID..=kinds::FLOAT64 | kinds::ENUM => false,
-        _ => true,
-    }
+    !matches!(kind, kinds::VOID..=kinds::FLOAT64 | kinds::ENUM)
 }
 
-// A haser's line that tests the tag, where the field has a discriminant.
+// A haser's line that tests the tag, where the field has a discriminant: a setter's writes another call.
 fn tag_test_line(tag: u64, discriminant: u64, is_reader: bool, t: Text, buf: &mut [u8]) -> Text
     ensures { Wrote buf.old t (tag_test_line is_reader tag discriminant) buf.new result }
 {

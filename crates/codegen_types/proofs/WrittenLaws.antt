@@ -1,16 +1,23 @@
--- Laws of texts that the Rust may refuse: bytes in front of them and behind, and one after another. A refused text's law is that
--- of its refusal alone. Assumes nothing.
+-- Laws of texts that the Rust may refuse: what an answer tells of an outcome, and what a writer that stops at a refusal leaves.
+-- Assumes nothing.
 use mathlib.Core.Path.{◌≡◌, refl, sym, ◌∙◌, ap, subst}
-use mathlib.Core.List.{List, ◌++◌}
-use Rattle.std.specs.Prelude.{Option, None, Some}
-use Prim.Native.Nat.{ℕ}
+use mathlib.Core.List.{List, [], ◌∷◌}
+use Rattle.std.specs.Prelude.{Option, None, Some, Result, Ok, Err}
+use Prim.Native.Nat.{ℕ, ◌-◌, ◌^◌, ◌≤◌, min}
+use native.Mathlib.Omega.{arith}
+use lib.ListN.{take, set}
+use Rattle.std.proofs.lemmas.List.{take-set-le, take-take}
 use Rattle.text.specs.Bytes.{Str}
-use Rattle.text.specs.Text.{Wrote}
+use Rattle.text.specs.Text.{next, adv, put, Wrote, WroteSome}
 use Rattle.text.specs.declared.Text.{Text}
-use Rattle.text.proofs.Laws.{◌⨾◌}
+use Rattle.text.proofs.Laws.{length-put}
+use Rattle.tree.proofs.OtherLines.{never}
+use Rattle.terms.specs.Refusals.{number}
+use Rattle.terms.specs.declared.refusals.Refusal.{Refusal}
 use Rattle.codegen_types.specs.Out.{Out, ok, refused, ◌then◌}
-use Rattle.codegen_types.specs.Written.{refusal_number, Writes, first_of}
-use Rattle.codegen_types.specs.declared.Written.{Written}
+use Rattle.codegen_types.specs.Written.{Writes, Kept}
+
+-- ---- outcomes
 
 -- a refusal is no text
 pub not-ok : {A : Type 0} {k : ℕ} {w : A} → refused k ≡ ok w → ⊥
@@ -28,57 +35,99 @@ ok-one {A} {v} {w} e = ap go e
     go (ok a) = a
     go (refused j) = v
 
--- a text that is not refused
-pub whole : {l : List ℕ} {t : Text} {w : Str} {l' : List ℕ} {r : Written} → Wrote l t w l' r.text
-    → refusal_number r.refusal ≡ None → Writes (ok w) l t l' r
-whole {l} {t} {w} {l'} {r} h n = record {
-  refusal = n;
-  text = λ v e. subst (λ (x : Str). Wrote l t x l' r.text) (ok-one e) h;
+ok-same : {A : Type 0} {v w : A} → ◌≡◌ {A = Result A Refusal} (Ok v) (Ok w) → v ≡ w
+ok-same {A} {v} {w} e = ap go e
+  where
+    go : Result A Refusal → A
+    go (Ok a) = a
+    go (Err j) = v
+
+-- ---- what a writer answers for an outcome
+
+-- a whole text
+pub whole : {l : List ℕ} {t : Text} {w : Str} {l' : List ℕ} {u : Text} → Wrote l t w l' u → Writes (ok w) l t l' (Ok u)
+whole {l} {t} {w} {l'} {u} h = record {
+  refusal = refl;
+  text = λ v x e f. subst (λ (y : Text). Wrote l t v l' y) (ok-same f)
+      (subst (λ (y : Str). Wrote l t y l' u) (ok-one e) h);
 }
 
--- the same, of a text that was written before
-pub written : {l : List ℕ} {t t₁ : Text} {w : Str} {l' : List ℕ} {r : Written} → Wrote l t w l' t₁ → r.text ≡ t₁
-    → refusal_number r.refusal ≡ None → Writes (ok w) l t l' r
-written {l} {t} {t₁} {w} {l'} h e n = whole (subst (λ (x : Text). Wrote l t w l' x) (sym e) h) n
-
 -- a refusal
-pub refused-text : {l : List ℕ} {t : Text} {k : ℕ} {l' : List ℕ} {r : Written} → refusal_number r.refusal ≡ Some k
-    → Writes (refused k) l t l' r
-refused-text n = record { refusal = n; text = λ w e. absurd (not-ok e) }
+pub refused-text : {l : List ℕ} {t : Text} {k : ℕ} {l' : List ℕ} {e : Refusal} → number e ≡ k
+    → Writes (refused k) l t l' (Err e)
+refused-text n = record { refusal = ap Some n; text = λ w u e f. absurd (not-ok e) }
 
--- the text of what is not refused
-pub text_of : {l : List ℕ} {t : Text} {w : Str} {l' : List ℕ} {r : Written} → Writes (ok w) l t l' r → Wrote l t w l' r.text
-text_of h = h.text _ refl
+-- ---- what an answer tells of the outcome
 
--- bytes in front of a text, and behind it
-pub around : {a b : Str} {l l₁ l₂ l₃ : List ℕ} {t t₁ t₃ : Text} {r q : Written} (o : Out Str) → Wrote l t a l₁ t₁
-    → Writes o l₁ t₁ l₂ r → Wrote l₂ r.text b l₃ t₃ → q.text ≡ t₃ → refusal_number q.refusal ≡ refusal_number r.refusal
-    → Writes (o then λ w. ok (a ++ w ++ b)) l t l₃ q
-around {a} {b} {l} {l₁} {l₂} {l₃} {t} {t₁} {t₃} {r} {q} (ok w) e h f i n =
-    whole (subst (λ (x : Text). Wrote l t (a ++ w ++ b) l₃ x) (sym i) (e ⨾ text_of h ⨾ f)) (n ∙ h.refusal)
-around (refused k) e h f i n = refused-text (n ∙ h.refusal)
+-- the outcome is a text, and it is written
+pub record Text-of (o : Out Str) (l : List ℕ) (t : Text) (l' : List ℕ) (u : Text) : Type 0 where
+  pub text : Str
+  pub is : o ≡ ok text
+  pub wrote : Wrote l t text l' u
 
-pub in_front : {a : Str} {l l₁ l₂ : List ℕ} {t t₁ : Text} {r : Written} (o : Out Str) → Wrote l t a l₁ t₁
-    → Writes o l₁ t₁ l₂ r → Writes (o then λ w. ok (a ++ w)) l t l₂ r
-in_front (ok w) e h = whole (e ⨾ text_of h) h.refusal
-in_front (refused k) e h = refused-text h.refusal
+pub text-of : {l : List ℕ} {t : Text} {l' : List ℕ} {u : Text} (o : Out Str) → Writes o l t l' (Ok u) → Text-of o l t l' u
+text-of (ok w) h = record { text = w; is = refl; wrote = h.text w _ refl refl }
+text-of (refused k) h = let e = h.refusal in never cc
 
-pub behind : {b : Str} {l l₁ l₂ : List ℕ} {t t₂ : Text} {r q : Written} (o : Out Str) → Writes o l t l₁ r
-    → Wrote l₁ r.text b l₂ t₂ → q.text ≡ t₂ → refusal_number q.refusal ≡ refusal_number r.refusal
-    → Writes (o then λ w. ok (w ++ b)) l t l₂ q
-behind {b} {l} {l₁} {l₂} {t} {t₂} {r} {q} (ok w) h f i n =
-    whole (subst (λ (x : Text). Wrote l t (w ++ b) l₂ x) (sym i) (text_of h ⨾ f)) (n ∙ h.refusal)
-behind (refused k) h f i n = refused-text (n ∙ h.refusal)
+-- the outcome is the refusal
+pub refusal-is : {l : List ℕ} {t : Text} {l' : List ℕ} {e : Refusal} (o : Out Str) → Writes o l t l' (Err e)
+    → o ≡ refused (number e)
+refusal-is (ok w) h = let e = h.refusal in never cc
+refusal-is (refused k) h = ap go (sym h.refusal)
+  where
+    go : Option ℕ → Out Str
+    go None = refused 0
+    go (Some j) = refused j
 
--- a text after another, either of which may be refused: the first refusal counts
-pub both : {l l₁ l₂ : List ℕ} {t : Text} {r₁ r₂ q : Written} (o₁ o₂ : Out Str) → Writes o₁ l t l₁ r₁
-    → Writes o₂ l₁ r₁.text l₂ r₂ → q.text ≡ r₂.text
-    → refusal_number q.refusal ≡ first_of (refusal_number r₁.refusal) (refusal_number r₂.refusal)
-    → Writes (o₁ then λ a. o₂ then λ b. ok (a ++ b)) l t l₂ q
-both {l} {l₁} {l₂} {t} {r₁} {r₂} {q} (ok a) (ok b) h g i n =
-    whole (subst (λ (x : Text). Wrote l t (a ++ b) l₂ x) (sym i) (text_of h ⨾ text_of g))
-    (n ∙ ap (λ (x : Option ℕ). first_of x (refusal_number r₂.refusal)) h.refusal ∙ g.refusal)
-both {r₂ = r₂} (ok a) (refused k) h g i n =
-    refused-text (n ∙ ap (λ (x : Option ℕ). first_of x (refusal_number r₂.refusal)) h.refusal ∙ g.refusal)
-both {r₂ = r₂} (refused k) o₂ h g i n =
-    refused-text (n ∙ ap (λ (x : Option ℕ). first_of x (refusal_number r₂.refusal)) h.refusal)
+-- a refusal is that of whatever goes on after it, wherever it is written
+pub stops : {l l₀ l₁ : List ℕ} {t t₀ : Text} {l' : List ℕ} {e : Refusal} (o : Out Str) (f : Str → Out Str)
+    → Writes o l t l' (Err e) → Writes (o then f) l₀ t₀ l₁ (Err e)
+stops o f h = rw (refusal-is o h) (refused-text refl)
+
+-- ---- the buffer
+
+within-next : (t : Text) → min t.at (2 ^ 64 - 1) ≤ min (next t).at (2 ^ 64 - 1)
+unfolding next
+within-next t = omega arith
+
+grows : (t : Text) (s : List ℕ) → min t.at (2 ^ 64 - 1) ≤ min (adv t s).at (2 ^ 64 - 1)
+unfolding adv
+grows t [] = omega arith
+grows t (x ∷ s) = let a = within-next t in let b = grows (next t) s in omega arith
+
+put-before : (l : List ℕ) (t : Text) (s : List ℕ) (n : ℕ) → n ≤ min t.at (2 ^ 64 - 1) → take n (put l t s) ≡ take n l
+unfolding put
+put-before l t [] n h = refl
+put-before l t (x ∷ s) n h =
+    let a = within-next t in
+    put-before (set l t.at x) (next t) s n (omega arith) ∙ take-set-le n l t.at x (omega arith)
+
+take-less : (n m : ℕ) (a b : List ℕ) → n ≤ m → take m a ≡ take m b → take n a ≡ take n b
+take-less n m a b h e = sym (take-take n m a h) ∙ ap (take n) e ∙ take-take n m b h
+
+-- a buffer that nothing was written into; one with a text; one where more was written at a count that did not fall, as behind
+-- a text
+pub kept-all : {l : List ℕ} {t : Text} → Kept l t l
+kept-all = record { size = refl; before = refl }
+
+pub kept-text : {l : List ℕ} {t : Text} {l' : List ℕ} {u : Text} → WroteSome l t l' u → Kept l t l'
+kept-text {l} {t} h = record {
+  size = rw h.wrote.bytes (length-put l t h.text);
+  before = rw h.wrote.bytes (put-before l t h.text (min t.at (2 ^ 64 - 1)) (omega arith));
+}
+
+-- the fill count, up to where it stops, does not fall
+pub further : {l : List ℕ} {t : Text} {l' : List ℕ} {u : Text} → WroteSome l t l' u
+    → min t.at (2 ^ 64 - 1) ≤ min u.at (2 ^ 64 - 1)
+further {t = t} h = rw h.wrote.state (grows t h.text)
+
+pub kept-further : {l : List ℕ} {t : Text} {l₁ : List ℕ} {u : Text} {l₂ : List ℕ} → Kept l t l₁
+    → min t.at (2 ^ 64 - 1) ≤ min u.at (2 ^ 64 - 1) → Kept l₁ u l₂ → Kept l t l₂
+kept-further {l} {t} {l₁} {u} {l₂} a b k = record {
+  size = k.size ∙ a.size;
+  before = take-less (min t.at (2 ^ 64 - 1)) (min u.at (2 ^ 64 - 1)) l₂ l₁ b k.before ∙ a.before;
+}
+
+pub kept-behind : {l : List ℕ} {t : Text} {l₁ : List ℕ} {u : Text} {l₂ : List ℕ} → WroteSome l t l₁ u → Kept l₁ u l₂
+    → Kept l t l₂
+kept-behind h k = kept-further (kept-text h) (further h) k

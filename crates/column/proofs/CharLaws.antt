@@ -12,7 +12,6 @@ use lib.Seq.{drop-cons, get_or-drop}
 use lib.Dec.{eqb, leb, ltb}
 use borrow.Author.Tests.{ne_eqb, eqb-true, le-leb, lt-leb, leb-true, ltb-true, ltb-false}
 use Rattle.text.specs.Bytes.{Str, cond, both, either}
-use Rattle.text.proofs.BytesLaws.{both_false}
 use Rattle.column.specs.Texts.{is_word, all, is_lead, is_accented, may_come, are_chars}
 
 -- no second byte of a letter is a first one, and neither is a byte below 128
@@ -75,9 +74,6 @@ letter-inside t i e = go (is_lead (get_or t i 0)) e
     go : (p : Bool) → both p (is_accented (get_or t (i + 1) 0)) ≡ true → i + 1 < length t
     go true e = accented_inside t (i + 1) e
     go false e = let z : ◌≡◌ {A = ℕ} 0 1 = cc in omega arith
-
-pub letter_out : (t : Str) (i : ℕ) → length t ≤ i + 1 → both (is_lead (get_or t i 0)) (is_accented (get_or t (i + 1) 0)) ≡ false
-letter_out t i h = rw (get_or-eq_default t 0 h) (both_false (is_lead (get_or t i 0)))
 
 module _ (ok : ℕ → Bool) where
   -- after the first byte of a letter

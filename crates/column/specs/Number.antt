@@ -4,13 +4,6 @@ use Rattle.std.specs.Prelude.{[], ◌∷◌, ◌++◌, ℕ, ◌+◌, ◌-◌, �
 use Rattle.std.specs.Prelude.{Option, None, Some}
 use Rattle.text.specs.Bytes.{Str, cond}
 use Rattle.text.specs.Decimal.{decimal}
-use Rattle.column.specs.declared.Number.{Number}
-use Rattle.column.specs.declared.Number.TheVariants.{Is, Not}
-
--- the number that an answer of the code gives, or none
-abbrev pub number_said : Number → Option ℕ
-number_said (Is v) = Some v
-number_said Not = None
 
 -- the bytes after the spaces in front
 unfoldable pub trimmed : Str → Str

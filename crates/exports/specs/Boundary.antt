@@ -1,6 +1,6 @@
 -- What the exported functions answer: the fill count after a text, or that nothing was taken; what a sheet is; what a request
 -- answers; what an index tells of a sheet's nodes, and a position of its fields. Assumes nothing.
-use Rattle.std.specs.Prelude.{◌≡◌, Bool, true, false, List, [], ◌∷◌, ℕ, ◌-◌, ◌%◌, ◌^◌, ◌≤◌, min, eqb, length, take, drop}
+use Rattle.std.specs.Prelude.{◌≡◌, Bool, true, false, List, [], ◌∷◌, ℕ, ◌-◌, ◌%◌, ◌^◌, ◌≤◌, min, eqb, ltb, length, take, drop}
 use Rattle.std.specs.Prelude.{Option, None, Some}
 use Rattle.text.specs.Bytes.{Str, cond, either}
 use Rattle.text.specs.Decimal.{signed}
@@ -16,16 +16,16 @@ use Rattle.tree.specs.Tree.{Arm, slot, group, Node, Sheet}
 use Rattle.tree.specs.Read.{Admitted, sheet, refused, admitted}
 use Rattle.tree.specs.Fields.{FieldsHere}
 use Rattle.nodes.specs.Index.{nth, Indexed, ForAll}
-use Rattle.nodes.specs.declared.Found.{Found}
-use Rattle.nodes.specs.declared.Found.TheVariants as found
+use Rattle.nodes.specs.declared.Entry.{Entry}
 use Rattle.sheet.specs.Admission.{IndexOf}
+use Rattle.codegen_types.specs.Out as refusal
 use Rattle.codegen_types.specs.Out.{Out, ok, ◌then◌}
 use Rattle.field.specs.Field.{ReadsFirst, Fewer, FindsField}
 use Rattle.field.specs.Numbers.{field_size, field_in, with_field}
 use Rattle.field.specs.declared.Field.{Field}
 use Rattle.field.specs.declared.Field.TheVariants as field
 use Rattle.requests.specs.Requests.{there, accessor_text, of_field, Outcome, outcome_of, entry_answer, entry_buffer}
-use Rattle.requests.specs.Told.{pass_of, in_node}
+use Rattle.requests.specs.Told.{in_node}
 use Rattle.requests.specs.declared.Request.{Request}
 use Rattle.requests.specs.declared.Request.TheVariants.{Unknown}
 use Rattle.requests.specs.declared.Accessor.{Accessor}
@@ -156,6 +156,12 @@ abbrev pub length_told : Option ℕ → ℕ
 length_told (Some n) = n
 length_told None = 0
 
+-- document 01's number for a pass over a text, 0 where the whole text is there, and the length of the text, if there is one,
+-- where there is room for so many bytes. A count stops at the largest usize
+abbrev pub pass_of : ℕ → Out Str → ℕ × Option ℕ
+pass_of room (ok w) = cond (ltb room (length w)) (22, Some (min (length w) (2 ^ 64 - 1))) (0, Some (length w))
+pass_of room (refusal.refused k) = (k, None)
+
 -- a text that comes to o, written in one pass from the start of l on, leaves l', and is told by a number and a length
 pub record PassTold (o : Out Str) (l l' : Str) (number size : ℕ) : Type 0 where
   pub number_is : number ≡ (pass_of (length l) o).0
@@ -192,10 +198,10 @@ NodeTold s index k number id at size first =
 
 -- over any index: what is told is of the entry with the number, its module being the text of the row where it says that the N
 -- line stands; 15 and zeros where there is none
-abbrev pub EntryTold : Str → Found → ℕ → ℕ → ℕ → ℕ → ℕ → Type 0
-EntryTold s (found.At e) number id at size first =
+abbrev pub EntryTold : Str → Option Entry → ℕ → ℕ → ℕ → ℕ → ℕ → Type 0
+EntryTold s (Some e) number id at size first =
     (number ≡ 0) × (id ≡ e.id) × SpanTold (span_between s e.at e.params) at size × (first ≡ e.fields)
-EntryTold s found.Nothing number id at size first = (number ≡ 15) × (id ≡ 0) × (at ≡ 0) × (size ≡ 0) × (first ≡ 0)
+EntryTold s None number id at size first = (number ≡ 15) × (id ≡ 0) × (at ≡ 0) × (size ≡ 0) × (first ≡ 0)
 
 -- a field's kind: that of a slot's type, or 19 for a group
 abbrev pub kind_told : Arm → ℕ
@@ -227,17 +233,17 @@ FirstPut s from l numbers =
 
 -- what is told of a field by value: its name is the text of the row where it says that its F or G line stands; 15 and zeros for
 -- nothing
-abbrev pub ValueTold : Str → Field → ℕ → ℕ → ℕ → ℕ → ℕ → Type 0
-ValueTold s (field.Slot r) number kind at size next =
+abbrev pub ValueTold : Str → Option Field → ℕ → ℕ → ℕ → ℕ → ℕ → Type 0
+ValueTold s (Some (field.Slot r)) number kind at size next =
     (number ≡ 0) × (kind ≡ r.kind) × SpanTold (span_between s r.at r.typ) at size × (next ≡ r.next)
-ValueTold s (field.Group g) number kind at size next =
+ValueTold s (Some (field.Group g)) number kind at size next =
     (number ≡ 0) × (kind ≡ 19) × SpanTold (span_between s g.at g.next) at size × (next ≡ g.next)
-ValueTold s field.Nothing number kind at size next = (number ≡ 15) × (kind ≡ 0) × (at ≡ 0) × (size ≡ 0) × (next ≡ 0)
+ValueTold s None number kind at size next = (number ≡ 15) × (kind ≡ 0) × (at ≡ 0) × (size ≡ 0) × (next ≡ 0)
 
 -- over any bytes: what is told and what is put into l is of one field by value, which leaves fewer rows, and is the first of the
 -- fields at the position where these are fields
 pub record ValueRead (s : Str) (from : ℕ) (l l' : List ℕ) (number kind at size next : ℕ) : Type 0 where
-  pub value : Field
+  pub value : Option Field
   pub first : (fs : List tree.Field) → FieldsHere (rows (drop from s)) fs → ReadsFirst s value fs
   pub fewer : Fewer s from value
   pub told : ValueTold s value number kind at size next

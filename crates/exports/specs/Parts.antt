@@ -1,16 +1,7 @@
 -- What the private parts of the code say, in the terms of the definitions. Assumes nothing.
 use Rattle.std.specs.Prelude.{◌≡◌, ℕ}
-use Rattle.std.specs.Prelude.{Option, None, Some}
 use Rattle.text.specs.Answer as text
-use Rattle.requests.specs.declared.Accessor.{Accessor}
 use Rattle.exports.specs.Boundary.{number_in, line_in, column_in, fill_in}
-use Rattle.exports.specs.declared.AccessorNumber.{AccessorNumber}
-use Rattle.exports.specs.declared.AccessorNumber.TheVariants as number
-
--- the text that a number has, if it has one
-abbrev pub accessor_said : AccessorNumber → Option Accessor
-accessor_said (number.Is accessor) = Some accessor
-accessor_said number.Nothing = None
 
 -- over a fill count, an answer leaves fill', and is told by a number, a line and a column
 pub record Said (a : text.Answer) (fill fill' number line column : ℕ) : Type 0 where

@@ -8,16 +8,14 @@ ghost use Rattle.exports.specs.Boundary.{Told, Asked, ask, accessor_numbered, re
 ghost use Rattle.exports.specs.Boundary.{SameAnswersHold, OverIndex, AskedWithin, TextTold, NodeTold, EntryTold};
 ghost use Rattle.exports.specs.Boundary.{FirstTold, FirstPut, ValueRead};
 
-use crate::{AccessorNumber, accessor_of, request_of, say};
+use crate::{accessor_of, request_of, say};
 use field::Field;
-use nodes::Found;
-use requests::Pass;
+use nodes::Source;
 use row::Span;
-use sheet::Answer;
-use terms::refusals;
+use terms::Refusal;
 use text::Text;
 
-// What stands for the kind of a group.
+// What stands for the kind of a group, where C reads a kind.
 const GROUP: u64 = 19;
 
 // How many numbers the index of a sheet of so many bytes needs.
@@ -35,19 +33,16 @@ pub fn kitlubas_index(s: &[u8], index: &mut [u64], line: &mut usize, column: &mu
         → IndexOf s.now (admitted s.now) index.new }
 {
     match sheet::admit(s, index) {
-        Answer::Sheet => {
+        Ok(()) => {
             *line = 0;
             *column = 0;
             0
         }
-        Answer::Refused {
-            number,
-            line: at_line,
-            column: at_column,
-        } => {
-            *line = at_line;
-            *column = at_column;
-            number
+        Err(refused) => {
+            // `say` ends so too: no function for both is plainer than these lines.
+            *line = refused.line;
+            *column = refused.column;
+            refused.refusal.number()
         }
     }
 }
@@ -71,8 +66,9 @@ pub fn kitlubas_answer_in(
         column.new) }
     ensures within { AskedWithin buf.old fill.old buf.new fill.new result }
 {
+    let source = Source::new(s, index);
     let asked = request_of(request, place, leaf);
-    let answer = requests::answer_in(s, index, id, asked, Text::at(*fill), buf);
+    let answer = requests::answer_in(&source, id, asked, Text::at(*fill), buf);
     say(answer, fill, line, column)
 }
 
@@ -94,24 +90,21 @@ pub fn kitlubas_text(
         (accessor_numbered request leaf) buf.old buf.new result size.new }
     ensures within { result ≡ 0 → size.new ≤ length buf.old }
 {
-    let AccessorNumber::Is(accessor) = accessor_of(request, leaf) else {
-        *size = 0;
-        return refusals::NOT_THERE;
+    *size = 0;
+    let Some(accessor) = accessor_of(request, leaf) else {
+        return Refusal::NotThere.number();
     };
-    let pass = requests::text(s, index, node, field::get(field), accessor, buf);
-    match pass {
-        Pass::Whole(n) => {
+    let source = Source::new(s, index);
+    match requests::text(&source, node, field::get(field), accessor, buf) {
+        Ok(n) => {
             *size = n;
-            0
+            if n <= buf.len() {
+                0
+            } else {
+                Refusal::NoRoom.number()
+            }
         }
-        Pass::Longer(n) => {
-            *size = n;
-            refusals::NO_ROOM
-        }
-        Pass::Refused(number) => {
-            *size = 0;
-            number
-        }
+        Err(refusal) => refusal.number(),
     }
 }
 
@@ -136,8 +129,9 @@ pub fn kitlubas_node(
     *at = 0;
     *size = 0;
     *first = 0;
-    let Found::At(node) = nodes::nth(index, number) else {
-        return refusals::NOT_THERE;
+    let source = Source::new(s, index);
+    let Some(node) = source.nth(number) else {
+        return Refusal::NotThere.number();
     };
     let Span { start, end } = row::text_span(s, node.at, node.params);
     *id = node.id;
@@ -168,6 +162,13 @@ pub fn kitlubas_field(
 {
     let read = field::read(s, from);
     field::put(read, field);
+    let Some(read) = read else {
+        *kind = 0;
+        *at = 0;
+        *size = 0;
+        *next = 0;
+        return Refusal::NotThere.number();
+    };
     match read {
         Field::Slot(slot) => {
             let Span { start, end } = row::text_span(s, slot.at, slot.typ);
@@ -175,7 +176,6 @@ pub fn kitlubas_field(
             *at = start;
             *size = end - start;
             *next = slot.next;
-            0
         }
         Field::Group(group) => {
             let Span { start, end } = row::text_span(s, group.at, group.next);
@@ -183,16 +183,9 @@ pub fn kitlubas_field(
             *at = start;
             *size = end - start;
             *next = group.next;
-            0
-        }
-        Field::Nothing => {
-            *kind = 0;
-            *at = 0;
-            *size = 0;
-            *next = 0;
-            refusals::NOT_THERE
         }
     }
+    0
 }
 
 // Makes it a promise of this crate that a request over the index of an admitted sheet is answered as from its bytes.

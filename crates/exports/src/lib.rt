@@ -14,7 +14,7 @@ ghost use Rattle.text.specs.Decimal.{decimal};
 ghost use Rattle.text.specs.Lines.{Line, BlankLine, Branch, none, to_lines, stringify, ended};
 ghost use Rattle.requests.specs.Told.{in_numbers};
 ghost use Rattle.exports.specs.Boundary.{Fills, FillsName, Signed, Told, Asked, ask, accessor_numbered, request_of};
-ghost use Rattle.exports.specs.Parts.{accessor_said, Said};
+ghost use Rattle.exports.specs.Parts.{Said};
 ghost use Rattle.std.specs.Prelude.{◌≡◌, ◌-◌, ◌^◌, min};
 
 pub use index::{
@@ -22,7 +22,8 @@ pub use index::{
     kitlubas_text,
 };
 pub use pad::kitlubas_pad;
-use requests::{Accessor, Answer, Request};
+use requests::{Accessor, Request};
+use sheet::Refused;
 use text::Text;
 
 // The largest fill count that is answered: one below the answer for what is not taken.
@@ -32,11 +33,7 @@ const LARGEST: usize = 0xffff_ffff_ffff_fffe;
 fn count(t: Text) -> usize
     ensures { result ≡ min t.at (2 ^ 64 - 2) }
 {
-    let n = t.fill();
-    if LARGEST < n {
-        return LARGEST;
-    }
-    n
+    t.fill().min(LARGEST)
 }
 
 // The number in decimal.
@@ -84,7 +81,8 @@ pub fn kitlubas_no_lines(at: usize, buf: &mut [u8]) -> usize
 }
 
 // The names made of a name: `camel_to_snake_case`, the name of its default's constant, `module_name`. A name is taken that has
-// at most 64 bytes, of ASCII and letters from U+00C0 to U+00FF in UTF-8.
+// at most 64 bytes, of ASCII and letters from U+00C0 to U+00FF in UTF-8. Each stands whole: a writer as an argument would lend
+// the buffer to a closure, with a contract as long as these bodies.
 pub fn kitlubas_snake(at: usize, buf: &mut [u8], name: &[u8]) -> usize
     ensures { FillsName buf.old at camel_to_snake_case name.now buf.new result }
 {
@@ -124,63 +122,53 @@ pub fn kitlubas_admit(s: &[u8], line: &mut usize, column: &mut usize) -> u64
 }
 
 // Says an answer: 0 with `fill` moved past the text, or the number of its refusal; `line` and `column` become the refusal's.
-fn say(answer: Answer, fill: &mut usize, line: &mut usize, column: &mut usize) -> u64
+fn say(answer: Result<Text, Refused>, fill: &mut usize, line: &mut usize, column: &mut usize) -> u64
     ensures { Said (in_numbers answer) fill.old fill.new result line.new column.new }
 {
     match answer {
-        Answer::Done(t) => {
+        Ok(t) => {
             *fill = t.fill();
             *line = 0;
             *column = 0;
             0
         }
-        Answer::Refused {
-            number,
-            line: at_line,
-            column: at_column,
-        } => {
-            *line = at_line;
-            *column = at_column;
-            number
+        Err(refused) => {
+            *line = refused.line;
+            *column = refused.column;
+            refused.refusal.number()
         }
     }
 }
 
-// What the number of a field's text says.
-#[derive(Clone, Copy)]
-enum AccessorNumber {
-    Is(Accessor),
-    Nothing,
-}
-
 // The text of a field with a number: 0 is its type's text for a leaf, 1 and 2 are the getters of reader and builder, 3 and 4 the
 // same as functions, 5 is the setter, 6 and 7 are the hasers of reader and builder, 8 is the zeroing.
-fn accessor_of(number: u64, leaf: u64) -> AccessorNumber
-    ensures { accessor_said result ≡ accessor_numbered number leaf }
+#[tactic(auto, unfolding(crate::specs::Boundary::accessor_numbered, nodes::specs::Index::nth))]
+fn accessor_of(number: u64, leaf: u64) -> Option<Accessor>
+    ensures { result ≡ accessor_numbered number leaf }
 {
     match number {
-        0 => AccessorNumber::Is(Accessor::TypeText { leaf }),
-        1 => AccessorNumber::Is(Accessor::Getter {
+        0 => Some(Accessor::TypeText { leaf }),
+        1 => Some(Accessor::Getter {
             is_reader: true,
             is_fn: false,
         }),
-        2 => AccessorNumber::Is(Accessor::Getter {
+        2 => Some(Accessor::Getter {
             is_reader: false,
             is_fn: false,
         }),
-        3 => AccessorNumber::Is(Accessor::Getter {
+        3 => Some(Accessor::Getter {
             is_reader: true,
             is_fn: true,
         }),
-        4 => AccessorNumber::Is(Accessor::Getter {
+        4 => Some(Accessor::Getter {
             is_reader: false,
             is_fn: true,
         }),
-        5 => AccessorNumber::Is(Accessor::Setter),
-        6 => AccessorNumber::Is(Accessor::Haser { is_reader: true }),
-        7 => AccessorNumber::Is(Accessor::Haser { is_reader: false }),
-        8 => AccessorNumber::Is(Accessor::Zeroing),
-        _ => AccessorNumber::Nothing,
+        5 => Some(Accessor::Setter),
+        6 => Some(Accessor::Haser { is_reader: true }),
+        7 => Some(Accessor::Haser { is_reader: false }),
+        8 => Some(Accessor::Zeroing),
+        _ => None,
     }
 }
 
@@ -189,8 +177,8 @@ fn request_of(number: u64, place: u64, leaf: u64) -> Request
     ensures { result ≡ request_of number place leaf }
 {
     match accessor_of(number, leaf) {
-        AccessorNumber::Is(accessor) => Request::Field { place, accessor },
-        AccessorNumber::Nothing => Request::Unknown,
+        Some(accessor) => Request::Field { place, accessor },
+        None => Request::Unknown,
     }
 }
 

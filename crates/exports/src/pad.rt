@@ -1,7 +1,7 @@
 // Sheets that are written by hand.
 ghost use Rattle.exports.specs.Pad.{PadTold};
 
-use terms::refusals;
+use terms::Refusal;
 use text::Text;
 
 // The sheet that a text says, put into the buffer at `fill`: 0 with `fill` moved past it, or 21 or 22 with nothing changed. It
@@ -11,12 +11,12 @@ pub fn kitlubas_pad(s: &[u8], fill: &mut usize, buf: &mut [u8]) -> u64
 {
     let start = Text::at(*fill);
     if buf.len() < start.fill() {
-        return refusals::FILL_PAST_END;
+        return Refusal::FillPastEnd.number();
     }
     let mut empty = [0u8; 0];
     let measured = padding::pad(s, start, &mut empty);
     if buf.len() < measured.fill() {
-        return refusals::NO_ROOM;
+        return Refusal::NoRoom.number();
     }
     let end = padding::pad(s, start, buf);
     *fill = end.fill();

@@ -5,21 +5,27 @@ use mathlib.Core.Bool.{Bool}
 use mathlib.Core.List.{List, [], ◌∷◌}
 use Prim.Native.Nat.{ℕ, ◌<◌, ◌≤◌}
 use native.Mathlib.Omega.{arith}
-use package.types.Run.{OneOf}
+use Rattle.std.specs.Prelude.{Some, None, Result, Ok, Err}
 use denote.Enum.Declared.{tag_of}
 use lib.ListN.{drop, length}
 use Rattle.text.specs.Bytes.{Str}
 use Rattle.row.specs.Rows.{rows, rest_of}
-use Rattle.row.specs.Line.{Fault, Content, line_said, line_at, fault_of}
+use Rattle.row.specs.Line as content
+use Rattle.row.specs.Line.{Fault, Content, good_said, line_said, line_at, fault_of}
+use Rattle.row.specs.declared.BadLine.{BadLine}
 use Rattle.row.specs.declared.Line.{Line}
 use Rattle.row.specs.declared.Line.TheVariants as line
 use Rattle.row.specs.contracts.Line.{the_type}
 use Rattle.row.proofs.ReadLaws.{Good}
 use Rattle.tree.specs.Tree as tree
 use Rattle.tree.specs.Tree.{Ty, Value}
+use Rattle.std.specs.Result.{result_ok}
+use Rattle.tree.specs.Walked.{counted}
+use Rattle.tree.specs.declared.Counted.{Counted}
+use Rattle.tree.specs.declared.RefusedRow.{RefusedRow}
 use Rattle.tree.specs.Reader.{Rows, Reading, Reader, got, no, ◌then◌, map_r}
 use Rattle.tree.specs.Read.{read_type, has_words, value_of, read_words_up_to, read_words, read_slot}
-use Rattle.tree.proofs.OtherLines.{never, not-value}
+use Rattle.tree.proofs.OtherLines.{never, not-value, not_value-tag}
 use Rattle.tree.proofs.WalkLaws.{fault_or, told_wrong}
 use Rattle.field.specs.Field.{Fewer}
 use Rattle.field.specs.Parts.{Gets, TypeIs, most_words, SlotRead}
@@ -65,30 +71,42 @@ row-fewer [] rest l here after h = let z : ⊥ = rw here at h in absurd z
 row-fewer (r ∷ rs) rest l here after h = rw after (omega arith)
 
 -- the type t that stands at a position, and what the code says of the row after it
-module _ (s : Str) (typ : ℕ) (t : TypeSpan) (type-is : Gets (read_type 16 (rows (drop typ s))) (TypeIs s t)) (l : Line)
-    (here : line_said l ≡ line_at (rows (drop t.past s))) where
+module _ (s : Str) (typ : ℕ) (t : TypeSpan) (type-is : Gets (read_type 16 (rows (drop typ s))) (TypeIs s t)) where
   -- no V row
-  pub slot-no-value :
-      (o e p : ℕ) (P : tree.Slot → Rows → Type 0)
-      → OneOf (0 ∷ 1 ∷ 2 ∷ 3 ∷ 4 ∷ 5 ∷ 6 ∷ 7 ∷ 9 ∷ 10 ∷ []) (tag_of the_type l) → Gets (read_slot o e p (rows (drop typ s))) P
-  unfolding value_of
-  slot-no-value o e p P other =
-      slot-gets o e p (rows (drop typ s)) P (λ ty q v w ws z et ev ew. absurd (none ty q v w et ev))
-    where
-      none : (ty : Ty) (q : Rows) (v : Value) (w : Rows) → read_type 16 (rows (drop typ s)) ≡ got ty q → value_of q ≡ got v w → ⊥
-      none ty q v w et ev =
-          let at : rows (drop t.past s) ≡ q = (gets-got _ _ ty q type-is et).past in
-          let n : value_of q ≡ no (fault_or (fault_of 86 (line_said l))) q =
-          rw (← at, ← here, not-value {A = Reader _} l _ _ other, ← here) (told_wrong (fault_of 86 (line_said l)) _) in
-          never cc
+  no-value : (o e p : ℕ) (P : tree.Slot → Rows → Type 0)
+      → ((v : Value) (w : Rows) → value_of (rows (drop t.past s)) ≡ got v w → ⊥) → Gets (read_slot o e p (rows (drop typ s))) P
+  no-value o e p P none =
+      slot-gets o e p (rows (drop typ s)) P (λ ty q v w ws z et ev ew.
+      absurd (none v w (rw (gets-got _ _ ty q type-is et).past ev)))
+
+  pub slot-no-value : (o e p : ℕ) (P : tree.Slot → Rows → Type 0) (l : Line) → line_said (Ok l) ≡ line_at (rows (drop t.past s))
+      → (tag_of the_type l ≡ 8 → ⊥) → Gets (read_slot o e p (rows (drop typ s))) P
+  unfolding line_said value_of
+  slot-no-value o e p P l here other =
+      let tag = not_value-tag l (λ k b z. other (ap (tag_of the_type) z)) in
+      no-value o e p P (λ v w ev.
+      let n : value_of (rows (drop t.past s)) ≡ no (fault_or (fault_of 86 (good_said l))) (rows (drop t.past s)) =
+      rw (← here, not-value {A = Reader _} l _ _ tag, ← here) (told_wrong (fault_of 86 (good_said l)) _) in
+      never cc)
+
+  pub slot-bad-value : (o e p : ℕ) (P : tree.Slot → Rows → Type 0) (b : BadLine)
+      → line_said (Err b) ≡ line_at (rows (drop t.past s)) → Gets (read_slot o e p (rows (drop typ s))) P
+  unfolding line_said value_of
+  slot-bad-value o e p P b here =
+      no-value o e p P (λ v w ev.
+      let n : value_of (rows (drop t.past s)) ≡ no (fault_or (fault_of 86 (line_said (Err b)))) (rows (drop t.past s)) =
+      rw (← here, ← here) (told_wrong (fault_of 86 (line_said (Err b))) _) in
+      never cc)
 
   -- words that are refused
   pub slot-no-words :
-      (o e p k b : ℕ) (after : Rows) (P : tree.Slot → Rows → Type 0) (has : Bool) (f : Fault) (q : Rows) → l ≡ line.Value k b
-      → after ≡ rest_of (rows (drop t.past s)) → has ≡ has_words e k
-      → no f q ≡ map_r length (read_words_up_to (most_words has)) after → Gets (read_slot o e p (rows (drop typ s))) P
+      (o e p k b : ℕ) (after : Rows) (P : tree.Slot → Rows → Type 0) (has : Bool) (w : Result Counted RefusedRow)
+      → line_said (Ok (line.Value k b)) ≡ line_at (rows (drop t.past s)) → after ≡ rest_of (rows (drop t.past s))
+      → has ≡ has_words e k → counted s w ≡ map_r length (read_words_up_to (most_words has)) after → result_ok w ≡ None
+      → Gets (read_slot o e p (rows (drop typ s))) P
   unfolding line_said value_of
-  slot-no-words o e p k b after P has f q is rest has-is refused =
+  slot-no-words o e p k b after P has (Ok c) here rest has-is refused bad = never cc
+  slot-no-words o e p k b after P has (Err r) here rest has-is refused bad =
       slot-gets o e p (rows (drop typ s)) P none
     where
       none : (ty : Ty) (q : Rows) (v : Value) (w : Rows) (ws : List ℕ) (z : Rows) → read_type 16 (rows (drop typ s)) ≡ got ty q
@@ -96,45 +114,51 @@ module _ (s : Str) (typ : ℕ) (t : TypeSpan) (type-is : Gets (read_type 16 (row
           → P (record { offset = o; explicit = e; option = p; ty = ty; default = v; words = ws }) z
       none ty q v w ws z et ev ew =
           let at : rows (drop t.past s) ≡ q = (gets-got _ _ ty q type-is et).past in
-          let g : value_of q ≡ got (record { kind = k; bits = b }) (rest_of q) = rw (← at, ← here, is) refl in
+          let g : value_of q ≡ got (record { kind = k; bits = b }) (rest_of q) = rw (← at, ← here) refl in
           let v-is : v ≡ record { kind = k; bits = b } = cc in
           let w-is : w ≡ rest_of q = cc in
           let w-after : w ≡ after = w-is ∙ sym (rw at at rest) in
           let words : read_words has after ≡ got ws z =
           rw (has-is, ← ap (λ (y : Value). y.kind) v-is, ← w-after) ew in
-          absurd (words-refused has after ws z f _ words refused)
+          absurd (words-refused has after ws z _ _ words refused)
 
--- a slot by value, whose type t, V row l and words these are
+-- words that were counted
+pub words-ok : (w : Result Counted RefusedRow) (c : Counted) → result_ok w ≡ Some c → w ≡ Ok c
+words-ok (Ok d) c h = cc
+words-ok (Err r) c h = never cc
+
+-- a slot by value, whose type t, V row and words these are
 module _ (s : Str) (r : Slot) (t : TypeSpan) (type-is : Gets (read_type 16 (rows (drop r.typ s))) (TypeIs s t))
-    (kind : r.kind ≡ t.kind) (id : r.id ≡ t.id) (l : Line) (here : line_said l ≡ line_at (rows (drop t.past s)))
-    (after : rows (drop r.words s) ≡ rest_of (rows (drop t.past s))) (is : l ≡ line.Value r.default r.bits)
+    (kind : r.kind ≡ t.kind) (id : r.id ≡ t.id)
+    (here : line_said (Ok (line.Value r.default r.bits)) ≡ line_at (rows (drop t.past s)))
+    (after : rows (drop r.words s) ≡ rest_of (rows (drop t.past s)))
     (has : Bool) (has-is : has ≡ has_words r.explicit r.default)
-    (counted : got r.count (rows (drop r.next s))
+    (words-are : got r.count (rows (drop r.next s))
     ≡ map_r length (read_words_up_to (most_words has)) (rows (drop r.words s))) where
   value-is : (q : Rows) (v : Value) (w : Rows) → rows (drop t.past s) ≡ q → value_of q ≡ got v w
       → (v ≡ record { kind = r.default; bits = r.bits }) × (w ≡ rows (drop r.words s))
   unfolding line_said value_of
   value-is q v w e ev =
-      let g : value_of q ≡ got (record { kind = r.default; bits = r.bits }) (rest_of q) = rw (← e, ← here, is) refl in
+      let g : value_of q ≡ got (record { kind = r.default; bits = r.bits }) (rest_of q) = rw (← e, ← here) refl in
       let w-is : w ≡ rest_of q = cc in
       (cc, w-is ∙ sym (rw e at after))
 
   slot-here : rows (drop r.typ s) ≡ rest_of (rows (drop r.at s))
       → Gets (read_slot r.offset r.explicit r.option (rows (drop r.typ s)))
-      (SlotRead s (field.Slot r) r.at r.discriminant)
+      (SlotRead s (Some (field.Slot r)) r.at r.discriminant)
   slot-here next = slot-gets r.offset r.explicit r.option (rows (drop r.typ s)) _ found
     where
       found : (ty : Ty) (q : Rows) (v : Value) (w : Rows) (ws : List ℕ) (z : Rows)
           → read_type 16 (rows (drop r.typ s)) ≡ got ty q → value_of q ≡ got v w
           → read_words (has_words r.explicit v.kind) w ≡ got ws z
-          → SlotRead s (field.Slot r) r.at r.discriminant
+          → SlotRead s (Some (field.Slot r)) r.at r.discriminant
           (record { offset = r.offset; explicit = r.explicit; option = r.option; ty = ty; default = v; words = ws }) z
       found ty q v w ws z et ev ew =
           let typ = gets-got _ _ ty q type-is et in
           let default = value-is q v w typ.past ev in
           let words : read_words has (rows (drop r.words s)) ≡ got ws z =
           rw (has-is, ← ap (λ (y : Value). y.kind) default.0, ← default.1) ew in
-          let all = words-counted has (rows (drop r.words s)) ws z r.count (rows (drop r.next s)) words counted in (
+          let all = words-counted has (rows (drop r.words s)) ws z r.count (rows (drop r.next s)) words words-are in (
             record {
               name = refl;
               after = next;
@@ -155,16 +179,16 @@ module _ (s : Str) (r : Slot) (t : TypeSpan) (type-is : Gets (read_type 16 (rows
             all.1,
           )
 
-  slot-fewer : length (rows (drop t.past s)) ≤ length (rows (drop r.typ s)) → Fewer s r.typ (field.Slot r)
+  slot-fewer : length (rows (drop t.past s)) ≤ length (rows (drop r.typ s)) → Fewer s r.typ (Some (field.Slot r))
   unfolding line_said
   slot-fewer h =
-      let v = row-fewer _ _ (line_said l) here after (rw is tt) in
-      let w = counted-fewer (most_words has) (rows (drop r.words s)) r.count (rows (drop r.next s)) counted in
+      let v = row-fewer _ _ (content.Value r.default r.bits) here after tt in
+      let w = counted-fewer (most_words has) (rows (drop r.words s)) r.count (rows (drop r.next s)) words-are in
       omega arith
 
   pub slot-told : length (rows (drop t.past s)) ≤ length (rows (drop r.typ s))
       → (rows (drop r.typ s) ≡ rest_of (rows (drop r.at s))
       → Gets (read_slot r.offset r.explicit r.option (rows (drop r.typ s)))
-      (SlotRead s (field.Slot r) r.at r.discriminant))
-      × Fewer s r.typ (field.Slot r)
+      (SlotRead s (Some (field.Slot r)) r.at r.discriminant))
+      × Fewer s r.typ (Some (field.Slot r))
   slot-told h = (slot-here, slot-fewer h)

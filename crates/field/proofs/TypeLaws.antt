@@ -1,19 +1,21 @@
 -- Laws of a slot's type: what its row says of the type that is read there, and where the rows after it begin. By cases on what
 -- is read. Assumes nothing.
-use mathlib.Core.Path.{◌≡◌, refl, sym, ◌∙◌}
+use mathlib.Core.Path.{◌≡◌, refl, sym, ap, ◌∙◌}
 use mathlib.Core.Bool.{Bool, true, false}
-use mathlib.Core.List.{[], ◌∷◌}
-use Prim.Native.Nat.{ℕ, zero, suc, ◌<◌, ◌≤◌}
+use Prim.Native.Nat.{ℕ, zero, suc, ◌<◌, ◌≤◌, min}
+use native.Mathlib.Decide.{dec_lt}
+use Rattle.std.specs.Prelude.{[], ◌∷◌, Ok, Err}
 use native.Mathlib.Nat.{add-zero}
 use native.Mathlib.Omega.{arith}
 use borrow.Author.Tests.{eq-eqb, ne_eqb, eqb-true, eqb-false, ltb-true, lt-ltb, le-ltb}
-use package.types.Run.{OneOf}
 use denote.Enum.Declared.{tag_of}
 use lib.Dec.{eqb, ltb}
 use lib.ListN.{drop, length}
 use Rattle.text.specs.Bytes.{Str, cond}
 use Rattle.row.specs.Rows.{rows, rest_of}
+use Rattle.row.specs.Line as content
 use Rattle.row.specs.Line.{fault, misplaced, line_said, line_at, as_type, fault_of}
+use Rattle.row.specs.declared.BadLine.{BadLine}
 use Rattle.row.specs.declared.Line.{Line}
 use Rattle.row.specs.declared.Line.TheVariants as line
 use Rattle.row.specs.contracts.Line.{the_type}
@@ -22,13 +24,13 @@ use Rattle.tree.specs.Tree.{Ty, plain, list, enum, struct, interface, any_pointe
 use Rattle.tree.specs.Reader.{Rows, Reading, Reader, got, no, map_r, times, On}
 use Rattle.tree.specs.Read as read
 use Rattle.tree.specs.Read.{read_type, type_from, branded}
-use Rattle.tree.proofs.OtherLines.{not-type}
+use Rattle.tree.proofs.OtherLines.{not-type, not_type-tag}
 use Rattle.tree.proofs.WalkLaws.{by_told}
 use Rattle.row.specs.Part.{owed}
 use Rattle.row.proofs.Laws.{rows-fewer}
 use Rattle.types.specs.Find.{After, kind_at, past_rows, AllParts, Past}
 use Rattle.types.proofs.Laws.{on-type, on-map, on-all, past-type, past_next, past-none, parts_next, type-parts}
-use Rattle.types.proofs.TypeLaws.{type-kind}
+use Rattle.types.proofs.TypeLaws.{type-kind, kind-here}
 use Rattle.field.specs.Slot.{HasId}
 use Rattle.field.specs.Parts.{Gets, TypeIs}
 use Rattle.field.specs.declared.TypeSpan.{TypeSpan}
@@ -86,46 +88,52 @@ pub nested_fewer : (s : Str) (rs : Rows) (next past : ℕ) → rows (drop next s
     → length (rows (drop past s)) ≤ length rs
 nested_fewer s rs next past e l = omega (arith, rest-fewer rs (rows (drop next s)) e, rows-fewer s next past l)
 
--- what the code says of the row that stands first, and the rows after it
-module _ (s : Str) (r : TypeSpan) (rs rest : Rows) (l : Line) (here : line_said l ≡ line_at rs) (after : rest ≡ rest_of rs) where
-  pub type_other : OneOf (0 ∷ 1 ∷ 2 ∷ 3 ∷ 4 ∷ 6 ∷ 7 ∷ 8 ∷ 9 ∷ 10 ∷ []) (tag_of the_type l) → Gets (read_type 16 rs) (TypeIs s r)
-  unfolding read_type
-  type_other other =
-      rw (← here, not-type {A = Reader _} l _ _ other)
-      (by_told (λ g. Gets g (TypeIs s r)) (fault_of 84 (line_at rs)) (no misplaced) rs (λ k. tt) tt)
+-- what the code says of the row that stands first, where it is no T row
+module _ (rs : Rows) (P : Ty → Rows → Type 0) where
+  pub type_other : (l : Line) → line_said (Ok l) ≡ line_at rs → (tag_of the_type l ≡ 5 → ⊥) → Gets (read_type 16 rs) P
+  unfolding read_type line_said
+  type_other l here other =
+      rw (← here, not-type {A = Reader _} l _ _ (not_type-tag l (λ k a b c z. other (ap (tag_of the_type) z))))
+      (by_told (λ g. Gets g P) (fault_of 84 (line_at rs)) (no misplaced) rs (λ k. tt) tt)
 
-  module _ (k a b c : ℕ) (is : l ≡ line.Typ k a b c) (id : r.id ≡ a) where
-    past_is : Past rest (owed (line_said l)) (rows (drop r.past s)) → Past rs 1 (rows (drop r.past s))
-    past_is h = λ p.
-        h (rw (add-zero, ← here, ← after) at (parts_next rs 0 p).1) ∙ sym (rw (add-zero, ← here, ← after) at (past_next rs 0))
+  pub type-bad : (b : BadLine) → line_said (Err b) ≡ line_at rs → Gets (read_type 16 rs) P
+  unfolding read_type line_said
+  type-bad b here =
+      rw (← here) (by_told (λ g. Gets g P) (fault_of 84 (line_at rs)) (no misplaced) rs (λ k. tt) tt)
 
-    id-is : r.id ≡ id_at rs
-    unfolding line_said
-    id-is = id ∙ rw (← here, is) refl
+-- where it is one, and the rows after it
+module _ (s : Str) (r : TypeSpan) (rs rest : Rows) (k a b c : ℕ) (here : line_said (Ok (line.Typ k a b c)) ≡ line_at rs)
+    (after : rest ≡ rest_of rs) (kind : r.kind ≡ min k 18) (id : r.id ≡ a) where
+  past_is : Past rest (owed (content.Typ k a b c)) (rows (drop r.past s)) → Past rs 1 (rows (drop r.past s))
+  unfolding line_said
+  past_is h = λ p.
+      h (rw (add-zero, ← here, ← after) at (parts_next rs 0 p).1) ∙ sym (rw (add-zero, ← here, ← after) at (past_next rs 0))
 
-    below : k < 18 → r.kind ≡ k → r.kind ≡ kind_at rs
-    unfolding line_said
-    below h e = e ∙ rw (← here, is, lt-ltb k 18 h) refl
+  id-is : r.id ≡ id_at rs
+  unfolding line_said
+  id-is = id ∙ rw (← here) refl
 
-    pub type-plain : r.kind ≡ k → k < 14 → rows (drop r.past s) ≡ rest → Gets (read_type 16 rs) (TypeIs s r)
-    unfolding line_said owed
-    type-plain e h p =
-        type-gets s r rs (below (omega arith) e) id-is (past_is (λ _. p ∙ rw (is, lt-ltb k 14 h) (sym (past-none rest))))
+  kind-is : r.kind ≡ kind_at rs
+  kind-is = kind ∙ kind-here rs k a b c here
 
-    pub type-list : r.kind ≡ k → k ≡ 14 → Past rest 1 (rows (drop r.past s)) → Gets (read_type 16 rs) (TypeIs s r)
-    unfolding line_said owed
-    type-list e h p =
-        type-gets s r rs (below (omega arith) e) id-is (past_is (rw (is, le-ltb k 14 (omega arith), eq-eqb k 14 h) p))
+  pub type-alone : (k ≡ 14 → ⊥) → (15 ≤ k → k ≤ 17 → ⊥) → rows (drop r.past s) ≡ rest
+      → Gets (read_type 16 rs) (TypeIs s r)
+  unfolding owed
+  type-alone m n p = type-gets s r rs kind-is id-is (past_is (go (dec_lt k 14)))
+    where
+      go : Dec (k < 14) → Past rest (owed (content.Typ k a b c)) (rows (drop r.past s))
+      go (Prim.yes h) = λ _. p ∙ rw (lt-ltb k 14 h) (sym (past-none rest))
+      go (Prim.no h) =
+          let l : 14 ≤ k = omega arith in
+          let u : 18 ≤ k = omega arith in
+          λ _. p ∙ rw (le-ltb k 14 l, ne_eqb k 14 m, le-ltb k 18 u) (sym (past-none rest))
 
-    pub type_brand : r.kind ≡ k → 14 ≤ k → (k ≡ 14 → ⊥) → k < 18 → Past rest b (rows (drop r.past s))
-        → Gets (read_type 16 rs) (TypeIs s r)
-    unfolding line_said owed
-    type_brand e h n u p =
-        type-gets s r rs (below u e) id-is (past_is (rw (is, le-ltb k 14 h, ne_eqb k 14 n, lt-ltb k 18 u) p))
+  pub type-list : k ≡ 14 → Past rest 1 (rows (drop r.past s)) → Gets (read_type 16 rs) (TypeIs s r)
+  unfolding owed
+  type-list h p = type-gets s r rs kind-is id-is (past_is (rw (le-ltb k 14 (omega arith), eq-eqb k 14 h) p))
 
-    pub type-pointer : r.kind ≡ 18 → 18 ≤ k → rows (drop r.past s) ≡ rest → Gets (read_type 16 rs) (TypeIs s r)
-    unfolding line_said owed
-    type-pointer e h p =
-        type-gets s r rs (e ∙ rw (← here, is, le-ltb k 18 h) refl) id-is
-        (past_is (λ _. p
-        ∙ rw (is, le-ltb k 14 (omega arith), ne_eqb k 14 (λ z. omega arith), le-ltb k 18 h) (sym (past-none rest))))
+  pub type_brand : 15 ≤ k → k < 18 → Past rest b (rows (drop r.past s)) → Gets (read_type 16 rs) (TypeIs s r)
+  unfolding owed
+  type_brand h u p =
+      let n : k ≡ 14 → ⊥ = λ z. omega arith in
+      type-gets s r rs kind-is id-is (past_is (rw (le-ltb k 14 (omega arith), ne_eqb k 14 n, lt-ltb k 18 u) p))

@@ -34,26 +34,27 @@ GroupIn s g name d (group id) = GroupHere s g name d id
 abbrev pub FieldIs : Str → Field → tree.Field → Type 0
 FieldIs s (field.Slot r) f = SlotIn s r f.name f.discriminant f.arm
 FieldIs s (field.Group g) f = GroupIn s g f.name f.discriminant f.arm
-FieldIs s field.Nothing f = ⊥
 
 -- where the field after it begins
 abbrev pub next_of : Field → ℕ
 next_of (field.Slot r) = r.next
 next_of (field.Group g) = g.next
-next_of field.Nothing = 0
 
 -- the first of the fields that stand at some rows, and where those after it stand; nothing where there is none
-abbrev pub ReadsFirst : Str → Field → List tree.Field → Type 0
-ReadsFirst s r [] = r ≡ field.Nothing
-ReadsFirst s r (f ∷ fs) = FieldIs s r f × FieldsHere (rows (drop (next_of r) s)) fs
+abbrev pub ReadsFirst : Str → Option Field → List tree.Field → Type 0
+ReadsFirst s None [] = Unit {0}
+ReadsFirst s None (f ∷ fs) = ⊥
+ReadsFirst s (Some r) [] = ⊥
+ReadsFirst s (Some r) (f ∷ fs) = FieldIs s r f × FieldsHere (rows (drop (next_of r) s)) fs
 
 -- a field that was read leaves fewer rows
-abbrev pub Fewer : Str → ℕ → Field → Type 0
-Fewer s at (field.Slot r) = length (rows (drop r.next s)) < length (rows (drop at s))
-Fewer s at (field.Group g) = length (rows (drop g.next s)) < length (rows (drop at s))
-Fewer s at field.Nothing = Unit {0}
+abbrev pub Fewer : Str → ℕ → Option Field → Type 0
+Fewer s at (Some r) = length (rows (drop (next_of r) s)) < length (rows (drop at s))
+Fewer s at None = Unit {0}
 
 -- the field that was looked for, or nothing
-abbrev pub FindsField : Str → Field → Option tree.Field → Type 0
-FindsField s r (Some f) = FieldIs s r f
-FindsField s r None = r ≡ field.Nothing
+abbrev pub FindsField : Str → Option Field → Option tree.Field → Type 0
+FindsField s (Some r) (Some f) = FieldIs s r f
+FindsField s (Some r) None = ⊥
+FindsField s None (Some f) = ⊥
+FindsField s None None = Unit {0}

@@ -1,6 +1,6 @@
 -- What the parts of a slot that are read one after the other say of the sheet: its type, its words, and all that follows its F
 -- row. Assumes nothing.
-use Rattle.std.specs.Prelude.{◌≡◌, Bool, true, false, ℕ, drop}
+use Rattle.std.specs.Prelude.{◌≡◌, Bool, true, false, ℕ, drop, Option, Some, None}
 use Rattle.text.specs.Bytes.{Str}
 use Rattle.row.specs.Rows.{rows}
 use Rattle.row.specs.Line.{text_at}
@@ -29,7 +29,9 @@ abbrev pub most_words : Bool → ℕ
 most_words true = 255
 most_words false = 0
 
--- r is the field whose F row stands at a position and whose slot this is, and the field after it stands at these rows
-abbrev pub SlotRead : Str → Field → ℕ → ℕ → tree.Slot → Rows → Type 0
-SlotRead s r at discriminant sl rest =
+-- r is the field whose F row stands at a position and whose slot this is, and the field after it stands at these rows; where
+-- there is no field, no slot is read
+abbrev pub SlotRead : Str → Option Field → ℕ → ℕ → tree.Slot → Rows → Type 0
+SlotRead s (Some r) at discriminant sl rest =
     FieldIs s r (read.field (text_at (rows (drop at s))) discriminant (slot sl)) × (rows (drop (next_of r) s) ≡ rest)
+SlotRead s None at discriminant sl rest = ⊥

@@ -9,25 +9,33 @@ ghost use Rattle.row.specs.Span.{text_between};
 ghost use Rattle.tree.specs.Tree as tree;
 ghost use Rattle.tree.specs.Reader.{map_r};
 ghost use Rattle.tree.specs.Read.{read_type, read_words_up_to, read_slot};
-ghost use Rattle.tree.specs.Walked.{walked_with};
+ghost use Rattle.tree.specs.Walked.{counted};
 ghost use Rattle.tree.specs.Fields.{FieldsHere};
 ghost use Rattle.nodes.specs.Index.{nth};
 ghost use Rattle.field.specs.Slot.{SlotField, SlotHere};
-ghost use Rattle.field.specs.Field.{GroupHere, ReadsFirst, Fewer, FindsField};
+ghost use Rattle.field.specs.Field.{next_of, GroupHere, ReadsFirst, Fewer, FindsField};
 ghost use Rattle.field.specs.Parts.{Gets, TypeIs, most_words, SlotRead};
-ghost use Rattle.field.specs.Numbers.{slot_numbers, group_numbers, begun, with_field, slot_in, group_in, field_in};
+ghost use Rattle.field.specs.Numbers.{slot_numbers, group_numbers, with_field, slot_in, group_in, field_in};
 
 use row::Line;
 use terms::kinds;
-use tree::{Counted, Walk};
+use tree::{Counted, RefusedRow};
 
 // How many numbers are room enough for any field: what it is, and the thirteen of a slot.
 pub const FIELD_SIZE: usize = 14;
 
-// What the first number says of a field that is there; 0 stands for nothing.
+// What the first number says: that nothing is there, a slot, or a group. C holds it.
+const NOTHING: u64 = 0;
+
 const SLOT: u64 = 1;
 
 const GROUP: u64 = 2;
+
+// How many numbers a group has.
+const GROUP_SIZE: usize = 5;
+
+// The most words of a slot.
+const WORDS: u64 = 255;
 
 // A slot. The numbers of its F row:
 #[derive(Clone, Copy)]
@@ -59,12 +67,11 @@ pub struct Group {
     pub next: usize,
 }
 
-// What stands where a field may stand.
+// A field: a slot, or a group.
 #[derive(Clone, Copy)]
 pub enum Field {
     Slot(Slot),
     Group(Group),
-    Nothing,
 }
 
 impl Slot {
@@ -74,6 +81,65 @@ impl Slot {
         ensures is { result.now ≡ text_between s.now self.at self.typ }
     {
         row::text_before(s, self.at, self.typ)
+    }
+
+    // Its numbers, as a caller holds them. A slot and a group have other numbers, so each gives and takes its own.
+    fn numbers(self) -> [u64; FIELD_SIZE]
+        ensures { result ≡ slot_numbers self }
+    {
+        [
+            SLOT,
+            self.offset,
+            self.discriminant,
+            self.explicit,
+            self.option,
+            self.kind,
+            self.id,
+            self.default,
+            self.bits,
+            self.at as u64,
+            self.typ as u64,
+            self.words as u64,
+            self.count,
+            self.next as u64,
+        ]
+    }
+
+    // The slot with these numbers.
+    fn from_numbers(numbers: &[u64; FIELD_SIZE]) -> Slot
+        ensures { result ≡ slot_in numbers.now }
+    {
+        let [
+            _,
+            offset,
+            discriminant,
+            explicit,
+            option,
+            kind,
+            id,
+            default,
+            bits,
+            at,
+            typ,
+            words,
+            count,
+            next,
+        ] = *numbers;
+        Slot {
+            offset,
+            discriminant,
+            explicit,
+            option,
+            kind,
+            id,
+            default,
+            bits,
+            at: at as usize,
+            typ: typ as usize,
+            words: words as usize,
+            count,
+            next: next as usize,
+        }
     }
 }
 
@@ -85,6 +151,44 @@ impl Group {
     {
         row::text_before(s, self.at, self.next)
     }
+
+    // Its numbers, as a caller holds them.
+    fn numbers(self) -> [u64; GROUP_SIZE]
+        ensures { result ≡ group_numbers self }
+    {
+        [
+            GROUP,
+            self.id,
+            self.discriminant,
+            self.at as u64,
+            self.next as u64,
+        ]
+    }
+
+    // The group with these numbers.
+    fn from_numbers(numbers: &[u64; FIELD_SIZE]) -> Group
+        ensures { result ≡ group_in numbers.now }
+    {
+        let [_, id, discriminant, at, next, ..] = *numbers;
+        Group {
+            id,
+            discriminant,
+            at: at as usize,
+            next: next as usize,
+        }
+    }
+}
+
+impl Field {
+    // Where the next field begins.
+    pub fn next(self) -> usize
+        ensures { result ≡ next_of self }
+    {
+        match self {
+            Field::Slot(slot) => slot.next,
+            Field::Group(group) => group.next,
+        }
+    }
 }
 
 // What the row of a type says, kind and a, and where the rows after the type begin.
@@ -95,51 +199,37 @@ struct TypeSpan {
     past: usize,
 }
 
-// The type at a position: its row is read, and what is nested is passed over.
+// The type at a position: its row is read, and what is nested is passed over. A row that is no T row counts as a Void with
+// nothing after it.
 fn type_span(s: &[u8], at: usize) -> TypeSpan
     ensures is { Gets (read_type 16 (rows (drop at s.now))) (TypeIs s.now result) }
     ensures fewer { length (rows (drop result.past s.now)) ≤ length (rows (drop at s.now)) }
 {
-    let g = row::next(s, at);
-    let line = g.line;
-    let Line::Typ { kind, a, b, c: _ } = line else {
+    let got = row::next(s, at);
+    let Ok(Line::Typ { kind, a, b, .. }) = got.line else {
         return TypeSpan {
             kind: kinds::VOID,
             id: 0,
-            past: g.next,
+            past: got.next,
         };
     };
-    match kind {
-        kinds::VOID..=kinds::DATA => TypeSpan {
-            kind,
-            id: a,
-            past: g.next,
-        },
-        kinds::LIST => {
-            let past = types::past(s, g.next, 1);
-            TypeSpan { kind, id: a, past }
-        },
-        kinds::ENUM..=kinds::INTERFACE => {
-            let past = types::past(s, g.next, b);
-            TypeSpan { kind, id: a, past }
-        },
-        _ => TypeSpan {
-            kind: kinds::ANY_POINTER,
-            id: a,
-            past: g.next,
-        },
+    let past = match kind {
+        kinds::LIST => types::past(s, got.next, 1),
+        kinds::ENUM..=kinds::INTERFACE => types::past(s, got.next, b),
+        _ => got.next,
+    };
+    TypeSpan {
+        kind: kind.min(kinds::ANY_POINTER),
+        id: a,
+        past,
     }
 }
 
 // The W rows at a position, up to 255, where there may be any.
-fn words_from(s: &[u8], from: usize, any: bool) -> Counted
-    ensures { walked_with s.now result.walk result.count
-        ≡ map_r length (read_words_up_to (most_words any)) (rows (drop from s.now)) }
+fn words_from(s: &[u8], from: usize, any: bool) -> Result<Counted, RefusedRow>
+    ensures { counted s.now result ≡ map_r length (read_words_up_to (most_words any)) (rows (drop from s.now)) }
 {
-    if any {
-        return tree::words_up_to(s, from, 255);
-    }
-    tree::words_up_to(s, from, 0)
+    tree::words_up_to(s, from, if any { WORDS } else { 0 })
 }
 
 // The slot whose F row stands at a position and says these numbers; its type follows.
@@ -151,190 +241,102 @@ fn slot_from(
     discriminant: u64,
     explicit: u64,
     option: u64,
-) -> Field
+) -> Option<Field>
     ensures is { rows (drop typ s.now) ≡ rest_of (rows (drop at s.now))
         → Gets (read_slot offset explicit option (rows (drop typ s.now)))
         (SlotRead s.now result at discriminant) }
     ensures fewer { Fewer s.now typ result }
 {
-    let t = type_span(s, typ);
-    let g = row::next(s, t.past);
-    let value = g.line;
-    let words = g.next;
-    let Line::Value {
-        kind: default,
-        bits,
-    } = value
+    let span = type_span(s, typ);
+    let value = row::next(s, span.past);
+    let Ok(
+        Line::Value {
+            kind: default,
+            bits,
+        },
+    ) = value.line
     else {
-        return Field::Nothing;
+        return None;
     };
-    let any = tree::has_words(explicit, default);
-    let w = words_from(s, words, any);
-    let walk = w.walk;
-    let Walk::Next { at: next } = walk else {
-        return Field::Nothing;
-    };
-    Field::Slot(Slot {
+    let words = words_from(s, value.next, tree::has_words(explicit, default)).ok()?;
+    Some(Field::Slot(Slot {
         offset,
         discriminant,
         explicit,
         option,
-        kind: t.kind,
-        id: t.id,
+        kind: span.kind,
+        id: span.id,
         default,
         bits,
         at,
         typ,
-        words,
-        count: w.count,
-        next,
-    })
+        words: value.next,
+        count: words.count,
+        next: words.next,
+    }))
 }
 
 // The field at a position.
-pub fn read(s: &[u8], at: usize) -> Field
+pub fn read(s: &[u8], at: usize) -> Option<Field>
     ensures first { (fs : List tree.Field) → FieldsHere (rows (drop at s.now)) fs
         → ReadsFirst s.now result fs }
     ensures fewer { Fewer s.now at result }
 {
-    let g = row::next(s, at);
-    let line = g.line;
-    let next = g.next;
-    match line {
-        Line::Field {
-            offset,
-            discriminant,
-            explicit,
-            option,
-        } => slot_from(s, at, next, offset, discriminant, explicit, option),
-        Line::Group { id, discriminant } => Field::Group(Group {
+    let got = row::next(s, at);
+    match got.line {
+        Ok(
+            Line::Field {
+                offset,
+                discriminant,
+                explicit,
+                option,
+            },
+        ) => slot_from(s, at, got.next, offset, discriminant, explicit, option),
+        Ok(Line::Group { id, discriminant }) => Some(Field::Group(Group {
             id,
             discriminant,
             at,
-            next,
-        }),
-        _ => Field::Nothing,
+            next: got.next,
+        })),
+        _ => None,
     }
 }
 
 // The field with a number, from 0, of those that stand at a position.
-pub fn at_place(s: &[u8], from: usize, place: u64) -> Field
+pub fn at_place(s: &[u8], from: usize, place: u64) -> Option<Field>
     ensures found { (fs : List tree.Field) → FieldsHere (rows (drop from s.now)) fs
         → FindsField s.now result (nth place fs) }
     ensures fewer { Fewer s.now from result }
 {
     let mut at = from;
-    let mut n = place;
-    while 0 < n {
-        match read(s, at) {
-            Field::Slot(slot) => {
-                at = slot.next;
-                n -= 1;
-                continue;
-            }
-            Field::Group(group) => {
-                at = group.next;
-                n -= 1;
-                continue;
-            }
-            Field::Nothing => return Field::Nothing,
-        }
+    for _ in 0..place {
+        at = read(s, at)?.next();
     }
     read(s, at)
 }
 
-// Puts a slot's numbers.
-fn put_slot(slot: Slot, numbers: &mut [u64])
-    requires { 14 ≤ length numbers.old }
-    ensures { numbers.new ≡ begun (slot_numbers slot) numbers.old }
-{
-    numbers[0] = SLOT;
-    numbers[1] = slot.offset;
-    numbers[2] = slot.discriminant;
-    numbers[3] = slot.explicit;
-    numbers[4] = slot.option;
-    numbers[5] = slot.kind;
-    numbers[6] = slot.id;
-    numbers[7] = slot.default;
-    numbers[8] = slot.bits;
-    numbers[9] = slot.at as u64;
-    numbers[10] = slot.typ as u64;
-    numbers[11] = slot.words as u64;
-    numbers[12] = slot.count;
-    numbers[13] = slot.next as u64;
-}
-
-// Puts a group's numbers; those after them stay.
-fn put_group(group: Group, numbers: &mut [u64])
-    requires { 14 ≤ length numbers.old }
-    ensures { numbers.new ≡ begun (group_numbers group) numbers.old }
-{
-    numbers[0] = GROUP;
-    numbers[1] = group.id;
-    numbers[2] = group.discriminant;
-    numbers[3] = group.at as u64;
-    numbers[4] = group.next as u64;
-}
-
-// Puts a field's numbers, if there is room for any field.
-pub fn put(field: Field, numbers: &mut [u64])
+// Puts a field's numbers, if there is room for any field; those after them stay.
+pub fn put(field: Option<Field>, numbers: &mut [u64])
     ensures { numbers.new ≡ with_field numbers.old field }
 {
     if numbers.len() < FIELD_SIZE {
         return;
     }
     match field {
-        Field::Slot(slot) => put_slot(slot, numbers),
-        Field::Group(group) => put_group(group, numbers),
-        Field::Nothing => numbers[0] = 0,
-    }
-}
-
-// The slot with these numbers.
-fn slot_in(numbers: &[u64]) -> Slot
-    requires { 14 ≤ length numbers.now }
-    ensures { result ≡ slot_in numbers.now }
-{
-    Slot {
-        offset: numbers[1],
-        discriminant: numbers[2],
-        explicit: numbers[3],
-        option: numbers[4],
-        kind: numbers[5],
-        id: numbers[6],
-        default: numbers[7],
-        bits: numbers[8],
-        at: numbers[9] as usize,
-        typ: numbers[10] as usize,
-        words: numbers[11] as usize,
-        count: numbers[12],
-        next: numbers[13] as usize,
-    }
-}
-
-// The group with these numbers.
-fn group_in(numbers: &[u64]) -> Group
-    requires { 14 ≤ length numbers.now }
-    ensures { result ≡ group_in numbers.now }
-{
-    Group {
-        id: numbers[1],
-        discriminant: numbers[2],
-        at: numbers[3] as usize,
-        next: numbers[4] as usize,
+        Some(Field::Slot(slot)) => numbers[..FIELD_SIZE].copy_from_slice(&slot.numbers()),
+        Some(Field::Group(group)) => numbers[..GROUP_SIZE].copy_from_slice(&group.numbers()),
+        None => numbers[0] = NOTHING,
     }
 }
 
 // The field with these numbers: nothing where they are too few, or the first says neither a slot nor a group.
-pub fn get(numbers: &[u64]) -> Field
+pub fn get(numbers: &[u64]) -> Option<Field>
     ensures { result ≡ field_in numbers.now }
 {
-    if numbers.len() < FIELD_SIZE {
-        return Field::Nothing;
-    }
+    let numbers = numbers.first_chunk::<FIELD_SIZE>()?;
     match numbers[0] {
-        SLOT => Field::Slot(slot_in(numbers)),
-        GROUP => Field::Group(group_in(numbers)),
-        _ => Field::Nothing,
+        SLOT => Some(Field::Slot(Slot::from_numbers(numbers))),
+        GROUP => Some(Field::Group(Group::from_numbers(numbers))),
+        _ => None,
     }
 }

@@ -1,10 +1,10 @@
 -- What a getter refuses. Its result type refuses nothing that its type did not, since an interface's refusal does not depend on
 -- the leaf; then its option. Assumes nothing.
-use Rattle.std.specs.Prelude.{◌≡◌, ℕ, Bool, true, false, eqb, leb, ◌++◌}
+use Rattle.std.specs.Prelude.{◌≡◌, ℕ, Bool, true, false, eqb, ◌++◌}
 use mathlib.Core.Path.{refl, sym, ◌∙◌}
 use Rattle.std.specs.Prelude.{None, Some}
 use native.Mathlib.Omega.{arith}
-use borrow.Author.Tests.{eq-eqb, ne_eqb}
+use borrow.Author.Tests.{ne_eqb}
 use Rattle.text.specs.Bytes.{Str, ascii, cond, both}
 use Rattle.tree.specs.Tree as tree
 use Rattle.tree.specs.Tree.{Ty, plain, list, enum, struct, interface, any_pointer, parameter, kind, Scopes, Node, Sheet}
@@ -14,18 +14,17 @@ use Rattle.codegen_types.proofs.Laws.{refusal_then}
 use Rattle.codegen_types.proofs.WrittenLaws.{not-ok, ok-one}
 use Rattle.codegen_types.specs.declared.Leaf.{Leaf}
 use Rattle.codegen_types.specs.declared.Leaf.TheVariants.{Client}
-use Rattle.field.specs.Slot.{HasId, SlotIs}
-use Rattle.field.specs.declared.Slot.{Slot}
+use Rattle.field.specs.Slot.{HasId}
 use Rattle.codegen.specs.Getter.{is_option_field, is_fallible, result_type}
 
 -- ---- outcomes
 
 -- what is given, where nothing is refused
-pub record Ok {A : Type 0} (o : Out A) : Type 0 where
+pub record Given {A : Type 0} (o : Out A) : Type 0 where
   pub given : A
   pub is : o ≡ ok given
 
-pub ok-is : {A : Type 0} (o : Out A) → refusal_of o ≡ None → Ok o
+pub ok-is : {A : Type 0} (o : Out A) → refusal_of o ≡ None → Given o
 ok-is (ok a) e = record { given = a; is = refl }
 ok-is (refused k) e = let z : ◌≡◌ {A = ℕ} 0 1 = cc in let w : ⊥ = omega arith in absurd w
 
@@ -73,22 +72,6 @@ result_ok sheet any_pointer a leaf typ h e = refl
 result_ok sheet (parameter i k) a leaf typ h e = refl
 
 -- ---- the option
-
--- the code's four ways
-module _ (s : tree.Slot) (r : Slot) (is : SlotIs r s) where
-  pub option-absent : r.option ≡ 0 → None ≡ refusal_of (is_option_field s)
-  option-absent e = rw (is.option, eq-eqb r.option 0 e) refl
-
-  module _ (e : r.option ≡ 0 → ⊥) where
-    pub option-client : r.kind ≡ 17 → Some 9 ≡ refusal_of (is_option_field s)
-    option-client k = rw (is.option, ne_eqb r.option 0 e, is.kind ∙ k) refl
-
-    module _ (k : r.kind ≡ 17 → ⊥) (b : Bool) (told : b ≡ both (leb 12 r.kind) (cond (eqb r.kind 15) false true)) where
-      pub option-pointer : b ≡ true → None ≡ refusal_of (is_option_field s)
-      option-pointer t = rw (is.option, ne_eqb r.option 0 e, is.kind, sym told ∙ t, ne_eqb r.kind 17 k) refl
-
-      pub option-other : b ≡ false → Some 9 ≡ refusal_of (is_option_field s)
-      option-other t = rw (is.option, ne_eqb r.option 0 e, is.kind, sym told ∙ t) refl
 
 -- is_option_field's answer is the slot's own
 pub option_is : (s : tree.Slot) (b : Bool) → is_option_field s ≡ ok b → b ≡ cond (eqb s.option 0) false true

@@ -1,15 +1,14 @@
 -- The result type of a getter, by the kind of its slot: one equation of outcomes for each arm of the code, then the arm's text
 -- behind the arrow. Assumes nothing.
 use Rattle.std.specs.Prelude.{◌≡◌, ℕ, zero, suc, ◌<◌, ◌≤◌, Bool, true, false, not, eqb, List, [], ◌∷◌, ◌++◌, get_or, drop}
-use mathlib.Core.Path.{refl, sym, ap, ◌∙◌, subst}
+use mathlib.Core.Path.{refl, sym, ap, ◌∙◌}
 use mathlib.Core.List.{append_assoc}
-use Rattle.std.specs.Prelude.{None}
+use Rattle.std.specs.Prelude.{Result, Ok}
 use native.Mathlib.Omega.{arith}
 use borrow.Author.Tests.{ne_eqb, le-leb, lt-leb}
 use Rattle.text.specs.Bytes.{Str, ascii, cond, both, same}
 use Rattle.text.specs.Text.{Wrote}
 use Rattle.text.specs.declared.Text.{Text}
-use Rattle.text.proofs.Laws.{◌⨾◌}
 use Rattle.tree.specs.Tree as tree
 use Rattle.tree.specs.Tree.{Ty, plain, list, enum, struct, interface, any_pointer, parameter, kind, Scopes, Sheet}
 use Rattle.row.specs.Rows.{rows}
@@ -19,12 +18,13 @@ use Rattle.codegen_types.specs.Out.{Out, ok, refused, ◌then◌, refusal_of}
 use Rattle.codegen_types.specs.Leaf.{display}
 use Rattle.codegen_types.specs.TypeString.{type_string, get_qualified_module, primitives, is_pointer}
 use Rattle.codegen_types.specs.Primitive.{primitive_text}
-use Rattle.codegen_types.specs.Written.{refusal_number, Writes}
+use Rattle.codegen_types.specs.Written.{Writes}
+use Rattle.terms.specs.declared.refusals.Refusal.{Refusal}
 use Rattle.codegen_types.specs.declared.Leaf.{Leaf}
 use Rattle.codegen_types.specs.declared.Leaf.TheVariants.{Client}
-use Rattle.codegen_types.specs.declared.Written.{Written}
 use Rattle.codegen_types.proofs.Laws.{refusal_then}
-use Rattle.codegen_types.proofs.WrittenLaws.{whole, refused-text, text_of, around}
+use Rattle.codegen_types.proofs.WrittenLaws.{whole}
+use Rattle.codegen.proofs.AroundLaws.{made, made_of, front}
 use Rattle.types.proofs.Laws.{on_one, on-has}
 use Rattle.field.specs.Slot.{HasId, SlotIs, SlotField, SlotHere}
 use Rattle.field.specs.declared.Slot.{Slot}
@@ -33,11 +33,6 @@ use Rattle.getter.specs.Result.{arrow, enum_result, fallible_result, yes, result
 use Rattle.getter.proofs.RefusalLaws.{client_same, refused-is}
 
 -- ---- texts that may be refused
-
--- a text that is given as it is
-pub then_ok : (o : Out Str) → (o then λ w. ok w) ≡ o
-then_ok (ok w) = refl
-then_ok (refused k) = refl
 
 -- outcomes of which the same is made
 then_same : (o : Out Str) (f g : Str → Out Str) → ((w : Str) → f w ≡ g w) → (o then f) ≡ (o then g)
@@ -54,44 +49,24 @@ after-alike : (o p : Out Str) → refusal_of o ≡ refusal_of p → (o then λ w
 after-alike (ok w) p e = refl
 after-alike (refused k) p e = sym (refused-is p k (sym e))
 
--- bytes in front of what is made of a text, and behind it
-front : {a : Str} {l l₁ l₂ : List ℕ} {t t₁ : Text} {r : Written} (f : Str → Str) (o : Out Str) → Wrote l t a l₁ t₁
-    → Writes (o then λ w. ok (f w)) l₁ t₁ l₂ r → Writes (o then λ w. ok (a ++ f w)) l t l₂ r
-front f (ok w) x y = whole (x ⨾ text_of y) y.refusal
-front f (refused k) x y = refused-text y.refusal
+-- what is made of the text of whatever type is read, and of what was made of it
+module _ (g : Reading Ty) (sheet : Sheet) (leaf : Leaf) (f : Str → Str) {l₁ l₂ : List ℕ} {t₁ u : Text} {l l' : List ℕ}
+    {t t' : Text} where
+  pub on_made : On g (λ ty. Writes (type_string ty sheet leaf) l₁ t₁ l₂ (Ok u))
+      → ((w : Str) → Wrote l₁ t₁ w l₂ u → Wrote l t (f w) l' t')
+      → On g (λ ty. Writes (type_string ty sheet leaf then λ w. ok (f w)) l t l' (Ok t'))
+  on_made x h =
+      on_one (λ ty. Writes (type_string ty sheet leaf) l₁ t₁ l₂ (Ok u))
+      (λ ty. Writes (type_string ty sheet leaf then λ w. ok (f w)) l t l' (Ok t')) g
+      (λ ty y. made f (type_string ty sheet leaf) y h) x
 
-between : {a b : Str} {l l₁ l₂ l₃ : List ℕ} {t t₁ t₃ : Text} {r q : Written} (f : Str → Str) (o : Out Str) → Wrote l t a l₁ t₁
-    → Writes (o then λ w. ok (f w)) l₁ t₁ l₂ r → Wrote l₂ r.text b l₃ t₃ → q.text ≡ t₃
-    → refusal_number q.refusal ≡ refusal_number r.refusal → Writes (o then λ w. ok (a ++ f w ++ b)) l t l₃ q
-between f (ok w) x y z e n = around (ok (f w)) x y z e n
-between f (refused k) x y z e n = around (refused k) x y z e n
-
--- the text of whatever type is read, in an option or between two texts
-module _ (g : Reading Ty) (sheet : Sheet) (leaf : Leaf) {l l₁ l₂ l₃ : List ℕ} {t t₁ t₃ : Text} (r q : Written) where
-  pub on-option : Wrote l t (ascii "Option<") l₁ t₁ → On g (λ ty. Writes (type_string ty sheet leaf) l₁ t₁ l₂ r)
-      → Wrote l₂ r.text (ascii ">") l₃ t₃ → q.text ≡ t₃ → refusal_number q.refusal ≡ refusal_number r.refusal
-      → On g (λ ty. Writes (type_string ty sheet leaf then λ w. ok (optional true w)) l t l₃ q)
-  on-option a x b e n =
-      on_one (λ ty. Writes (type_string ty sheet leaf) l₁ t₁ l₂ r)
-      (λ ty. Writes (type_string ty sheet leaf then λ w. ok (optional true w)) l t l₃ q) g
-      (λ ty y. around (type_string ty sheet leaf) a y b e n) x
-
-  pub on_fallible : (root : Str) (option : Bool) → Wrote l t (root ++ ascii "::Result<") l₁ t₁
-      → On g (λ ty. Writes (type_string ty sheet leaf then λ w. ok (optional option w)) l₁ t₁ l₂ r)
-      → Wrote l₂ r.text (ascii ">") l₃ t₃ → q.text ≡ t₃ → refusal_number q.refusal ≡ refusal_number r.refusal
-      → On g (λ ty. Writes (type_string ty sheet leaf then λ w. ok (fallible_result root (optional option w))) l t l₃ q)
-  on_fallible root option a x b e n =
-      on_one (λ ty. Writes (type_string ty sheet leaf then λ w. ok (optional option w)) l₁ t₁ l₂ r)
-      (λ ty. Writes (type_string ty sheet leaf then λ w. ok (fallible_result root (optional option w))) l t l₃ q) g
-      (λ ty y. between (optional option) (type_string ty sheet leaf) a y b e n) x
-
--- a module in the result type of an enum
-pub enum_told : {l l₁ l₂ l₃ l₄ l₅ : List ℕ} {t t₁ t₃ t₄ : Text} {r : Written} {root : Str} (q : Written) (o : Out Str)
-    → Wrote l t (ascii "::core::result::Result<") l₁ t₁ → Writes o l₁ t₁ l₂ r → Wrote l₂ r.text (ascii ",") l₃ t₃
-    → Wrote l₃ t₃ root l₄ t₄ → Wrote l₄ t₄ (ascii "::NotInSchema>") l₅ q.text
-    → refusal_number q.refusal ≡ refusal_number r.refusal → Writes (o then λ typ. ok (enum_result root typ)) l t l₅ q
-enum_told q (ok w) a x b c d n = whole (a ⨾ text_of x ⨾ b ⨾ c ⨾ d) (n ∙ x.refusal)
-enum_told q (refused k) a x b c d n = refused-text (n ∙ x.refusal)
+  pub on_made_of : (p : Str → Str) → On g (λ ty. Writes (type_string ty sheet leaf then λ w. ok (p w)) l₁ t₁ l₂ (Ok u))
+      → ((w : Str) → Wrote l₁ t₁ w l₂ u → Wrote l t (f w) l' t')
+      → On g (λ ty. Writes (type_string ty sheet leaf then λ w. ok (f (p w))) l t l' (Ok t'))
+  on_made_of p x h =
+      on_one (λ ty. Writes (type_string ty sheet leaf then λ w. ok (p w)) l₁ t₁ l₂ (Ok u))
+      (λ ty. Writes (type_string ty sheet leaf then λ w. ok (f (p w))) l t l' (Ok t')) g
+      (λ ty y. made_of f p (type_string ty sheet leaf) y h) x
 
 -- ---- functions
 
@@ -356,17 +331,15 @@ module _ (sheet : Sheet) (is_reader is_fn : Bool) (bytes : Str) (r : Slot) (f : 
   abbrev out : Out Str
   out = result_out sheet f.slot is_reader is_fn
 
-  abbrev read : Reading Ty
-  read = read_type 16 (rows (drop r.typ bytes))
+  -- what holds of whatever type is read holds of the slot's
+  typed : (P : Ty → Type 0) → On (read_type 16 (rows (drop r.typ bytes))) P → P f.slot.ty
+  typed P x = on-has P (read_type 16 (rows (drop r.typ bytes))) f.slot.ty x h.typ
 
-  pub prim_here : {l l' : List ℕ} {t t₁ : Text} {q : Written} → r.kind ≤ 11
-      → Wrote l t (as_function is_fn (primitive_text r.kind)) l' t₁
-      → (q.text ≡ t₁) × (refusal_number q.refusal ≡ None) → Writes out l t l' q
-  prim_here {l} {l'} {t} le w n =
-      rw (prim-out sheet f.slot is_reader is_fn r h.slot le)
-      (whole (subst (λ (x : Text). Wrote l t (as_function is_fn (primitive_text r.kind)) l' x) (sym n.0) w) n.1)
+  pub prim_here : {l l' : List ℕ} {t t₁ : Text} → r.kind ≤ 11 → Wrote l t (as_function is_fn (primitive_text r.kind)) l' t₁
+      → Writes out l t l' (Ok t₁)
+  prim_here le w = rw (prim-out sheet f.slot is_reader is_fn r h.slot le) (whole w)
 
-  module _ {l l₁ l' : List ℕ} {t t₁ : Text} {q : Written} (arrowed : Wrote l t (arrow is_fn) l₁ t₁) where
+  module _ {l l₁ : List ℕ} {t t₁ : Text} (arrowed : Wrote l t (arrow is_fn) l₁ t₁) (l' : List ℕ) (q : Result Text Refusal) where
     pub enum-here : r.kind ≡ 15
         → Writes (get_qualified_module sheet r.id then λ typ. ok (enum_result sheet.root typ)) l₁ t₁ l' q
         → Writes out l t l' q
@@ -374,33 +347,29 @@ module _ (sheet : Sheet) (is_reader is_fn : Bool) (bytes : Str) (r : Slot) (f : 
         rw (enum-out sheet f.slot is_reader is_fn r h.slot k)
         (front (enum_result sheet.root) (get_qualified_module sheet r.id) arrowed x)
 
-    pub client-here : r.kind ≡ 17
-        → On read (λ ty. Writes (type_string ty sheet Client then λ typ. ok (fallible_result sheet.root typ)) l₁ t₁ l' q)
-        → Writes out l t l' q
+    -- the text that is made of the slot's type
+    abbrev Typed : Leaf → (Str → Str) → Type 0
+    Typed leaf f =
+        On (read_type 16 (rows (drop r.typ bytes))) (λ ty. Writes (type_string ty sheet leaf then λ typ. ok (f typ)) l₁ t₁ l' q)
+
+    arrow_typed : (leaf : Leaf) (g : Str → Str) → Typed leaf g
+        → Writes (type_string f.slot.ty sheet leaf then λ typ. ok (arrow is_fn ++ g typ)) l t l' q
+    arrow_typed leaf g x =
+        front g (type_string f.slot.ty sheet leaf) arrowed
+        (typed (λ ty. Writes (type_string ty sheet leaf then λ typ. ok (g typ)) l₁ t₁ l' q) x)
+
+    pub client-here : r.kind ≡ 17 → Typed Client (fallible_result sheet.root) → Writes out l t l' q
     client-here k x =
-        rw (client-out sheet f.slot is_reader is_fn r h.slot k)
-        (front (fallible_result sheet.root) (type_string f.slot.ty sheet Client) arrowed
-        (on-has (λ ty. Writes (type_string ty sheet Client then λ typ. ok (fallible_result sheet.root typ)) l₁ t₁ l' q)
-        read f.slot.ty x h.typ))
+        rw (client-out sheet f.slot is_reader is_fn r h.slot k) (arrow_typed Client (fallible_result sheet.root) x)
 
     module _ (leaf : Leaf) (leaf-is : leaf ≡ module_leaf is_reader) where
-      pub any_here : r.kind ≡ 18 → r.id ≡ 0
-          → On read (λ ty. Writes (type_string ty sheet leaf then λ typ. ok (optional (not (eqb r.option 0)) typ)) l₁ t₁ l' q)
-          → Writes out l t l' q
+      pub any_here : r.kind ≡ 18 → r.id ≡ 0 → Typed leaf (optional (not (eqb r.option 0))) → Writes out l t l' q
       any_here k i x =
           rw (any_out sheet f.slot is_reader is_fn r h.slot k i, ← leaf-is)
-          (front (optional (not (eqb r.option 0))) (type_string f.slot.ty sheet leaf) arrowed
-          (on-has (λ ty. Writes (type_string ty sheet leaf then λ typ. ok (optional (not (eqb r.option 0)) typ)) l₁ t₁ l' q)
-          read f.slot.ty x h.typ))
+          (arrow_typed leaf (optional (not (eqb r.option 0))) x)
 
       pub fails-here : 11 < r.kind → (r.kind ≡ 15 → ⊥) → (r.kind ≡ 17 → ⊥) → (r.kind ≡ 18 → r.id ≡ 0 → ⊥)
-          → On read (λ ty. Writes (type_string ty sheet leaf then λ typ. ok
-          (fallible_result sheet.root (optional (not (eqb r.option 0)) typ))) l₁ t₁ l' q)
-          → Writes out l t l' q
+          → Typed leaf (λ w. fallible_result sheet.root (optional (not (eqb r.option 0)) w)) → Writes out l t l' q
       fails-here lo n15 n17 any x =
           rw (fails-out sheet f.slot is_reader is_fn r h.slot lo n15 n17 any, ← leaf-is)
-          (front (λ w. fallible_result sheet.root (optional (not (eqb r.option 0)) w))
-          (type_string f.slot.ty sheet leaf) arrowed
-          (on-has (λ ty. Writes (type_string ty sheet leaf then λ typ. ok
-          (fallible_result sheet.root (optional (not (eqb r.option 0)) typ))) l₁ t₁ l' q)
-          read f.slot.ty x h.typ))
+          (arrow_typed leaf (λ w. fallible_result sheet.root (optional (not (eqb r.option 0)) w)) x)

@@ -1,8 +1,9 @@
--- A getter's text: the result type, a newline, the code and the declaration. Its refusal: the type's, then the option's, then
--- the default's, in the Rust's order. By the outcome of each step. Assumes nothing.
-use Rattle.std.specs.Prelude.{◌≡◌, ℕ, ◌≤◌, Bool, true, false, eqb, leb, List, [], drop}
+-- A getter's outcome by those of its steps: the type's refusal, then the option's, then the default's, in the Rust's order; and
+-- where there is none, the result type, a newline, the code and the declaration. Assumes nothing.
+use Rattle.std.specs.Prelude.{◌≡◌, ℕ, ◌≤◌, Bool, true, false, eqb, leb, List, [], ◌++◌, drop}
 use mathlib.Core.Path.{refl, sym, ap, ◌∙◌}
-use Rattle.std.specs.Prelude.{Option, None, Some}
+use Rattle.std.specs.Prelude.{None, Some, Ok}
+use Rattle.codegen_types.specs.Written.{Writes}
 use borrow.Author.Tests.{eqb-true, leb-true}
 use Rattle.text.specs.Bytes.{Str, unit, cond}
 use Rattle.text.specs.Lines.{stringify}
@@ -18,10 +19,9 @@ use Rattle.tree.specs.Reader.{Rows}
 use Rattle.codegen_types.specs.Out.{Out, ok, refused, refusal_of}
 use Rattle.codegen_types.specs.TypeString.{type_string}
 use Rattle.codegen_types.specs.Primitive.{primitive_text}
-use Rattle.codegen_types.specs.Written.{refusal_number, Writes, first_of}
 use Rattle.codegen_types.specs.declared.Leaf.{Leaf}
-use Rattle.codegen_types.specs.declared.Written.{Written}
-use Rattle.codegen_types.proofs.WrittenLaws.{whole, refused-text, text_of}
+use Rattle.codegen_types.proofs.WrittenLaws.{whole, text-of, not-ok, ok-one}
+use Rattle.tree.proofs.OtherLines.{never}
 use Rattle.field.specs.Slot.{SlotIs, SlotField, SlotHere}
 use Rattle.field.specs.declared.Slot.{Slot}
 use Rattle.codegen.specs.WordArray.{word_array_declaration}
@@ -32,7 +32,7 @@ use Rattle.getter_code.proofs.Laws.{code_of}
 use Rattle.pointer_constants.specs.Words.{words_at, declaration_text}
 use Rattle.pointer_constants.proofs.Laws.{declaration_of}
 use Rattle.getter.specs.Result.{yes, result_out, declared_by}
-use Rattle.getter.proofs.RefusalLaws.{ok-is, result_ok, option_is}
+use Rattle.getter.proofs.RefusalLaws.{Given, ok-is, refused-is, result_ok, option_is}
 use Rattle.getter.proofs.ResultLaws.{at_plain, prim_text}
 
 -- ---- the declaration
@@ -83,101 +83,113 @@ code_text root name s is_reader is_fn r =
     stringify (getter_code s is_reader (cond (eqb s.option 0) false true)
     (fragment_of root name s is_reader is_fn (primitive_text r.kind)))
 
--- a slot r of the tree's s: what its result type x, the newline, the code and the declaration leave, and the refusals of its
--- option and its default
-module _ (sheet : Sheet) (name : Str) (s : tree.Slot) (is_reader is_fn : Bool) (r : Slot) (is : SlotIs r s)
-    {l l₁ l₂ l₃ l₄ : List ℕ} {t t₂ t₃ : Text} {p : Written} (q : Written)
-    (x : Writes (result_out sheet s is_reader is_fn) l t l₁ p)
-    (newline : Wrote l₁ p.text (unit 10) l₂ t₂)
-    (code : s.default.kind ≡ kind s.ty → Wrote l₂ t₂ (code_text sheet.root name s is_reader is_fn r) l₃ t₃)
-    (decl : s.default.kind ≡ kind s.ty → Wrote l₃ t₃ (declared (default_declaration sheet.root name s)) l₄ q.text)
-    (of-option of-default : Option ℕ) (option-told : of-option ≡ refusal_of (is_option_field s))
-    (default-told : (typ : Str) → of-default ≡ refusal_of (getter_fragment sheet.root name s is_reader is_fn typ))
-    (first : refusal_number q.refusal ≡ first_of (refusal_number p.refusal) (first_of of-option of-default)) where
+-- the outcome of a slot r of the tree's s, by those of its result type, its option and its default
+module _ (sheet : Sheet) (name : Str) (s : tree.Slot) (is_reader is_fn : Bool) (r : Slot) (is : SlotIs r s) where
   abbrev leaf : Leaf
   leaf = module_leaf is_reader
 
-  abbrev Told : Type 0
-  Told = Writes (getter_request sheet name s is_reader is_fn) l t l₄ q
+  abbrev request : Out Str
+  request = getter_request sheet name s is_reader is_fn
 
-  -- the type is refused
-  by_type : (k : ℕ) → type_string s.ty sheet leaf ≡ refused k → Told
+  -- a type that is not refused, its result type with it, and what that says
+  record Typed (result : Str) : Type 0 where
+    inner : Str
+    typ : Str
+    inner-is : type_string s.ty sheet leaf ≡ ok inner
+    typ-is : result_type sheet s.ty (optional (yes (is_option_field s)) inner) ≡ ok typ
+    result-is : result ≡ as_function is_fn typ
+
+  -- the result type is refused or not as the type is
+  result-given : (inner : Str) → type_string s.ty sheet leaf ≡ ok inner
+      → Given (result_type sheet s.ty (optional (yes (is_option_field s)) inner))
+  result-given inner e =
+      ok-is (result_type sheet s.ty (optional (yes (is_option_field s)) inner))
+      (result_ok sheet s.ty r.id leaf (optional (yes (is_option_field s)) inner) is.id (ap refusal_of e))
+
+  pub type-refused : (k : ℕ) → result_out sheet s is_reader is_fn ≡ refused k → request ≡ refused k
   unfolding getter_request getter_text
-  by_type k e =
-      let y : Writes (refused k) l t l₁ p = rw e at x in
-      rw e (refused-text (first ∙ ap (λ (z : Option ℕ). first_of z (first_of of-option of-default)) y.refusal))
-
-  -- the type has a text, and so has the result type
-  module _ (w result : Str) (typ : type_string s.ty sheet leaf ≡ ok w)
-      (res : result_type sheet s.ty (optional (yes (is_option_field s)) w) ≡ ok result) where
-    given : Writes (ok (as_function is_fn result)) l t l₁ p
-    given = rw (typ, res) at x
-
-    -- the option is refused
-    by-option : (k : ℕ) → is_option_field s ≡ refused k → Told
-    unfolding getter_request getter_text
-    by-option k e =
-        let n : of-option ≡ Some k = option-told ∙ ap refusal_of e in
-        rw (typ, e) (refused-text (first ∙ rw (given.refusal, n) refl))
-
-    -- or not
-    module _ (b : Bool) (e : is_option_field s ≡ ok b) where
-      own : refusal_number q.refusal ≡ of-default
-      own =
-          let n : of-option ≡ None = option-told ∙ ap refusal_of e in
-          first ∙ rw (given.refusal, n) refl
-
-      result-is : result_type sheet s.ty (optional b w) ≡ ok result
-      result-is = rw e at res
-
-      by_default : eqb (kind s.ty) s.default.kind ≡ false → Told
-      unfolding getter_request getter_text
-      by_default n =
-          let d : of-default ≡ Some 10 = default-told w ∙ rw n refl in
-          rw (typ, e, result-is, n) (refused-text (own ∙ d))
-
-      by-none : eqb (kind s.ty) s.default.kind ≡ true → Told
-      unfolding getter_request getter_text
-      by-none n =
-          let k : s.default.kind ≡ kind s.ty = sym (eqb-true (kind s.ty) s.default.kind n) in
-          let d : of-default ≡ None = default-told w ∙ rw n refl in
-          rw (typ, e, result-is, n, option_is s b e, ← fragment-typ sheet sheet.root name s is_reader is_fn r is leaf w typ)
-          (whole (text_of given ⨾ newline ⨾ code k ⨾ decl k) (own ∙ d))
-
-    told : (o : Out Bool) → is_option_field s ≡ o → (b : Bool) → eqb (kind s.ty) s.default.kind ≡ b → Told
-    told (refused k) e b n = by-option k e
-    told (ok option) e false n = by_default option e n
-    told (ok option) e true n = by-none option e n
-
-  getter-told : Told
-  getter-told = types (type_string s.ty sheet leaf) refl
+  type-refused k h = go (type_string s.ty sheet leaf) refl
     where
-      types : (o : Out Str) → type_string s.ty sheet leaf ≡ o → Told
-      types (refused k) e = by_type k e
-      types (ok w) e =
-          let result = ok-is (result_type sheet s.ty (optional (yes (is_option_field s)) w))
-          (result_ok sheet s.ty r.id leaf (optional (yes (is_option_field s)) w) is.id (ap refusal_of e)) in
-          told w result.given e result.is (is_option_field s) refl (eqb (kind s.ty) s.default.kind) refl
+      go : (o : Out Str) → type_string s.ty sheet leaf ≡ o → request ≡ refused k
+      go (refused j) e = rw e (rw e at h)
+      go (ok inner) e = let typ = result-given inner e in absurd (not-ok (sym (rw (e, typ.is) at h)))
 
--- the slot that was read, by its name's bytes
-pub getter-here : {l₁ l₂ l₃ l₄ : List ℕ} {t₂ t₃ : Text} {p : Written} {of-option of-default of_slot : Option ℕ} (q : Written)
-    (l : List ℕ) (t : Text) (bytes : Str) (r : Slot) (name : Str) (sheet : Sheet) (is_reader is_fn : Bool)
-    → ((f : SlotField) → SlotHere bytes r f → name ≡ f.name)
-    → ((f : SlotField) → SlotHere bytes r f → Writes (result_out sheet f.slot is_reader is_fn) l t l₁ p)
-    → Wrote l₁ p.text (unit 10) l₂ t₂
+  module _ (result : Str) (h : result_out sheet s is_reader is_fn ≡ ok result) where
+    given : Typed result
+    given = go (type_string s.ty sheet leaf) refl
+      where
+        go : (o : Out Str) → type_string s.ty sheet leaf ≡ o → Typed result
+        go (refused j) e = absurd (not-ok (rw e at h))
+        go (ok inner) e =
+            let typ = result-given inner e in
+            record {
+              inner = inner;
+              typ = typ.given;
+              inner-is = e;
+              typ-is = typ.is;
+              result-is = sym (ok-one (rw (e, typ.is) at h));
+            }
+
+    pub option-refused : (k : ℕ) → Some k ≡ refusal_of (is_option_field s) → request ≡ refused k
+    unfolding getter_request getter_text
+    option-refused k o = rw (given.inner-is, refused-is (is_option_field s) k (sym o)) refl
+
+    module _ (allowed : None ≡ refusal_of (is_option_field s)) where
+      option : Given (is_option_field s)
+      option = ok-is (is_option_field s) (sym allowed)
+
+      typ-is : result_type sheet s.ty (optional option.given given.inner) ≡ ok given.typ
+      typ-is = rw option.is at given.typ-is
+
+      pub default-refused : (k : ℕ)
+          → ((typ : Str) → Some k ≡ refusal_of (getter_fragment sheet.root name s is_reader is_fn typ)) → request ≡ refused k
+      unfolding getter_request getter_text
+      default-refused k d =
+          rw (
+            given.inner-is,
+            option.is,
+            typ-is,
+            refused-is (getter_fragment sheet.root name s is_reader is_fn given.inner) k (sym (d given.inner)),
+          ) refl
+
+      pub all-allowed : ((typ : Str) → None ≡ refusal_of (getter_fragment sheet.root name s is_reader is_fn typ))
+          → (s.default.kind ≡ kind s.ty)
+          × (request ≡ ok (result ++ unit 10 ++ code_text sheet.root name s is_reader is_fn r
+          ++ declared (default_declaration sheet.root name s)))
+      unfolding getter_request getter_text
+      all-allowed d = go (eqb (kind s.ty) s.default.kind) refl
+        where
+          go : (b : Bool) → eqb (kind s.ty) s.default.kind ≡ b → (s.default.kind ≡ kind s.ty)
+              × (request ≡ ok (result ++ unit 10 ++ code_text sheet.root name s is_reader is_fn r
+              ++ declared (default_declaration sheet.root name s)))
+          go true n = (
+            sym (eqb-true (kind s.ty) s.default.kind n),
+            rw (
+              given.inner-is,
+              option.is,
+              typ-is,
+              n,
+              option_is s option.given option.is,
+              ← fragment-typ sheet sheet.root name s is_reader is_fn r is leaf given.inner given.inner-is,
+            )
+                (ap (λ (x : Str). ok (x ++ unit 10 ++ code_text sheet.root name s is_reader is_fn r
+                ++ declared (default_declaration sheet.root name s))) (sym given.result-is)),
+          )
+          go false n = let e = rw n at (d given.inner) in never cc
+
+-- the slot that was read, by its name's bytes, where nothing is refused
+pub getter-here : {l l₁ l₂ l₃ l₄ : List ℕ} {t u t₂ t₃ t₄ : Text} (bytes : Str) (r : Slot) (f : SlotField) → SlotHere bytes r f
+    → (sheet : Sheet) (name : Str) (is_reader is_fn : Bool) → name ≡ f.name
+    → Writes (result_out sheet f.slot is_reader is_fn) l t l₁ (Ok u)
+    → Wrote l₁ u (unit 10) l₂ t₂
     → Wrote l₂ t₂ (stringify (code_by sheet.root name r is_reader is_fn)) l₃ t₃
-    → Wrote l₃ t₃ (declared_by sheet.root name bytes r) l₄ q.text
-    → ((sl : tree.Slot) → SlotIs r sl → of-option ≡ refusal_of (is_option_field sl))
-    → ((sl : tree.Slot) (root name typ : Str) (is_reader is_fn : Bool) → SlotIs r sl
-    → of-default ≡ refusal_of (getter_fragment root name sl is_reader is_fn typ))
-    → of_slot ≡ first_of of-option of-default → refusal_number q.refusal ≡ first_of (refusal_number p.refusal) of_slot
-    → (f : SlotField) → SlotHere bytes r f → Writes (getter_request sheet f.name f.slot is_reader is_fn) l t l₄ q
-getter-here {p = p} {of-option} {of-default} q l t bytes r name sheet is_reader is_fn named x newline code decl o d own
-    first f h =
-    rw (← named f h)
-    (getter-told sheet name f.slot is_reader is_fn r h.slot q (x f h) newline
-    (λ k. code_of r f.slot h.slot k sheet.root name is_reader is_fn code)
-    (λ k. declared-here sheet.root name bytes r f h (sym h.slot.kind ∙ sym k ∙ h.slot.default) decl)
-    of-option of-default (o f.slot h.slot)
-    (λ typ. d f.slot sheet.root name typ is_reader is_fn h.slot)
-    (first ∙ ap (first_of (refusal_number p.refusal)) own))
+    → Wrote l₃ t₃ (declared_by sheet.root name bytes r) l₄ t₄
+    → None ≡ refusal_of (is_option_field f.slot)
+    → ((typ : Str) → None ≡ refusal_of (getter_fragment sheet.root f.name f.slot is_reader is_fn typ))
+    → Writes (getter_request sheet f.name f.slot is_reader is_fn) l t l₄ (Ok t₄)
+getter-here bytes r f h sheet name is_reader is_fn named x newline code decl o d =
+    let p = text-of (result_out sheet f.slot is_reader is_fn) x in
+    let q = all-allowed sheet f.name f.slot is_reader is_fn r h.slot p.text p.is o d in
+    let coded = code_of r f.slot h.slot q.0 sheet.root f.name is_reader is_fn (rw named at code) in
+    let declared = declared-here sheet.root f.name bytes r f h (sym h.slot.kind ∙ sym q.0 ∙ h.slot.default) (rw named at decl) in
+    rw q.1 (whole (p.wrote ⨾ newline ⨾ coded ⨾ declared))

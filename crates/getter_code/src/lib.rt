@@ -13,6 +13,7 @@ use field::Slot;
 use terms::kinds;
 use text::Text;
 
+// The fragment of Void: a function has none.
 fn void(is_fn: bool, t: Text, buf: &mut [u8]) -> Text
     ensures { Wrote buf.old t (void is_fn) buf.new result }
 {
@@ -34,19 +35,16 @@ fn pointer_default(name: &[u8], explicit: u64, t: Text, buf: &mut [u8]) -> Text
     t.bytes(buf, b"::core::option::Option::None")
 }
 
-fn from_pointer_head(is_reader: bool, t: Text, buf: &mut [u8]) -> Text
-    ensures { Wrote buf.old t (from_pointer_head is_reader) buf.new result }
+// The value of a pointer field up to the offset, behind the root. Each text that has two forms has its function, as it has its
+// definition.
+fn from_pointer_head(is_reader: bool) -> &'static [u8]
+    ensures { result.now ≡ from_pointer_head is_reader }
 {
     if is_reader {
-        return t.bytes(
-            buf,
-            b"::traits::FromPointerReader::get_from_pointer(&self.reader.get_pointer_field(",
-        );
+        b"::traits::FromPointerReader::get_from_pointer(&self.reader.get_pointer_field("
+    } else {
+        b"::traits::FromPointerBuilder::get_from_pointer(self.builder.get_pointer_field("
     }
-    t.bytes(
-        buf,
-        b"::traits::FromPointerBuilder::get_from_pointer(self.builder.get_pointer_field(",
-    )
 }
 
 // The value of a pointer field, with its default.
@@ -63,27 +61,29 @@ fn from_pointer(
         (from_pointer root.now is_reader offset (pointer_default explicit name.now)) buf.new result }
 {
     let t = t.bytes(buf, root);
-    let t = from_pointer_head(is_reader, t, buf);
+    let t = t.bytes(buf, from_pointer_head(is_reader));
     let t = t.number(buf, offset);
     let t = t.bytes(buf, b"), ");
     let t = pointer_default(name, explicit, t, buf);
     t.bytes(buf, b")")
 }
 
-fn capability_head(is_reader: bool, t: Text, buf: &mut [u8]) -> Text
-    ensures { Wrote buf.old t (capability_head is_reader) buf.new result }
+// A capability up to the offset.
+fn capability_head(is_reader: bool) -> &'static [u8]
+    ensures { result.now ≡ capability_head is_reader }
 {
     if is_reader {
-        return t.bytes(buf, b"match self.reader.get_pointer_field(");
+        b"match self.reader.get_pointer_field("
+    } else {
+        b"match self.builder.get_pointer_field("
     }
-    t.bytes(buf, b"match self.builder.get_pointer_field(")
 }
 
 // The capability of an interface field.
 fn capability(root: &[u8], offset: u64, is_reader: bool, t: Text, buf: &mut [u8]) -> Text
     ensures { Wrote buf.old t (capability root.now is_reader offset) buf.new result }
 {
-    let t = capability_head(is_reader, t, buf);
+    let t = t.bytes(buf, capability_head(is_reader));
     let t = t.number(buf, offset);
     let t = t.bytes(
         buf,
@@ -96,19 +96,15 @@ fn capability(root: &[u8], offset: u64, is_reader: bool, t: Text, buf: &mut [u8]
     )
 }
 
-fn any_pointer_head(is_reader: bool, t: Text, buf: &mut [u8]) -> Text
-    ensures { Wrote buf.old t (any_pointer_head is_reader) buf.new result }
+// An untyped value up to the offset, behind the root.
+fn any_pointer_head(is_reader: bool) -> &'static [u8]
+    ensures { result.now ≡ any_pointer_head is_reader }
 {
     if is_reader {
-        return t.bytes(
-            buf,
-            b"::any_pointer::Reader::new(self.reader.get_pointer_field(",
-        );
+        b"::any_pointer::Reader::new(self.reader.get_pointer_field("
+    } else {
+        b"::any_pointer::Builder::new(self.builder.get_pointer_field("
     }
-    t.bytes(
-        buf,
-        b"::any_pointer::Builder::new(self.builder.get_pointer_field(",
-    )
 }
 
 // The value of an AnyPointer field: of a parameter's type, or untyped.
@@ -126,7 +122,7 @@ fn untyped(
         return from_pointer(root, b"", offset, 0, is_reader, t, buf);
     }
     let t = t.bytes(buf, root);
-    let t = any_pointer_head(is_reader, t, buf);
+    let t = t.bytes(buf, any_pointer_head(is_reader));
     let t = t.number(buf, offset);
     t.bytes(buf, b"))")
 }
@@ -174,46 +170,44 @@ fn fragment(
 fn is_fallible(slot: Slot) -> bool
     ensures { result ≡ is_fallible (type_by slot.kind slot.id) }
 {
-    let kind = slot.kind;
-    match kind {
+    match slot.kind {
         kinds::VOID..=kinds::FLOAT64 => false,
         kinds::ANY_POINTER => slot.id != 0,
         _ => true,
     }
 }
 
-fn null_head(is_reader: bool, t: Text, buf: &mut [u8]) -> Text
-    ensures { Wrote buf.old t (null_head is_reader) buf.new result }
+// The test for a pointer that is null, up to the offset.
+fn null_head(is_reader: bool) -> &'static [u8]
+    ensures { result.now ≡ null_head is_reader }
 {
     if is_reader {
-        return t.bytes(buf, b"if self.reader.is_pointer_field_null(");
+        b"if self.reader.is_pointer_field_null("
+    } else {
+        b"if self.builder.is_pointer_field_null("
     }
-    t.bytes(buf, b"if self.builder.is_pointer_field_null(")
 }
 
 // The line for a pointer that is null, and the start of the other.
-fn absent(fallible: bool, t: Text, buf: &mut [u8]) -> Text
-    ensures { Wrote buf.old t (absent fallible) buf.new result }
+fn absent(fallible: bool) -> &'static [u8]
+    ensures { result.now ≡ absent fallible }
 {
     if fallible {
-        return t.bytes(
-            buf,
-            b") {\n    core::result::Result::Ok(core::option::Option::None)\n} else {\n    ",
-        );
+        b") {\n    core::result::Result::Ok(core::option::Option::None)\n} else {\n    "
+    } else {
+        b") {\n    ::core::option::Option::None\n} else {\n    ::core::option::Option::Some("
     }
-    t.bytes(
-        buf,
-        b") {\n    ::core::option::Option::None\n} else {\n    ::core::option::Option::Some(",
-    )
 }
 
-fn some_end(fallible: bool, t: Text, buf: &mut [u8]) -> Text
-    ensures { Wrote buf.old t (some_end fallible) buf.new result }
+// What follows the fragment of an option.
+fn some_end(fallible: bool) -> &'static [u8]
+    ensures { result.now ≡ some_end fallible }
 {
     if fallible {
-        return t.bytes(buf, b".map(::core::option::Option::Some)\n}\n");
+        b".map(::core::option::Option::Some)\n}\n"
+    } else {
+        b")\n}\n"
     }
-    t.bytes(buf, b")\n}\n")
 }
 
 // The code of a slot, its default taken to be of its type: the fragment, or with an option the test and both answers.
@@ -234,9 +228,9 @@ pub fn code(
         return t.byte(buf, b'\n');
     }
     let fallible = is_fallible(slot);
-    let t = null_head(is_reader, t, buf);
+    let t = t.bytes(buf, null_head(is_reader));
     let t = t.number(buf, slot.offset);
-    let t = absent(fallible, t, buf);
+    let t = t.bytes(buf, absent(fallible));
     let t = fragment(root, name, slot, is_reader, is_fn, t, buf);
-    some_end(fallible, t, buf)
+    t.bytes(buf, some_end(fallible))
 }

@@ -1,5 +1,6 @@
 -- A rendered line, read again, is its operation: for every offset, type, mask and value form. The parts of a line go by their own
 -- laws, and closed text computes. Assumes nothing.
+use Rattle.std.specs.Option.{option_map}
 use Rattle.std.specs.Prelude.{◌≡◌, ℕ, zero, suc, ◌+◌, ◌-◌, ◌/◌, ◌%◌, ◌^◌, ◌<◌, ◌≤◌}
 use Rattle.std.specs.Prelude.{Bool, true, false, eqb, ltb, List, [], ◌∷◌, ◌++◌}
 use mathlib.Core.Path.{refl, ap, ◌∙◌}
@@ -15,7 +16,6 @@ use Rattle.calls.specs.Calls.{member, get_bool_field, get_data_field, get_enum_f
 use Rattle.calls.specs.Calls.{zero_tag, clear_pointer, not_null, tag_test}
 use Rattle.record.specs.Lines.{set_line, get_line, zero_call}
 use Rattle.record.specs.Masks.{half_of, get_mask_text, set_mask_text, mask_bits}
-use Rattle.record.specs.Record.{map_o}
 use Rattle.record.specs.Types.{Num, int, uint, float32, float64, type_name_of, Kind, bool, num, enum, place_of, tag_place}
 use Rattle.meaning.specs.Reading.{value, constant}
 use Rattle.meaning.specs.Claims.{MaskFits}
@@ -125,7 +125,7 @@ get-enum_mask false o m = simp append_assoc
 -- ---- lines that write
 
 pub writes-set : (k : Kind) (o : ℕ) (m : Option ℕ) → MaskFits k m
-    → writes (set_line k o (map_o (set_mask_text k) m)) ≡ Some (set_op (place_of k o) value (mask_bits m), [])
+    → writes (set_line k o (option_map (set_mask_text k) m)) ≡ Some (set_op (place_of k o) value (mask_bits m), [])
 unfolding writes
 writes-set bool o None h = rw set-bool (simp parts)
 writes-set bool o (Some m) h = rw set-bool_mask (simp (parts, truth_mask m h))
@@ -296,7 +296,7 @@ module _ (is_reader : Bool) (o : ℕ) where
       ∙ in_mask k m _ ∙ ends
 
 pub gets-line : (is_reader : Bool) (k : Kind) (o : ℕ) (m : Option ℕ) → MaskFits k m
-    → gets_in false (get_line is_reader k o (map_o (get_mask_text k) m)) ≡ Some ((place_of k o, mask_bits m) ∷ [])
+    → gets_in false (get_line is_reader k o (option_map (get_mask_text k) m)) ≡ Some ((place_of k o, mask_bits m) ∷ [])
 unfolding gets
 gets-line true bool o None h = rw get-bool (one-get _ [] refl (simp parts) (after-bool true o))
 gets-line true bool o (Some m) h = rw get-bool_mask (one-get _ [] refl (simp (parts, get-truth m h)) (after-bool-mask true o m))

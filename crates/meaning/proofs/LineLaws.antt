@@ -1,4 +1,5 @@
 -- Lines: which bytes they don't hold, where they end, the spaces in front, and what a list of them does. Assumes nothing.
+use Rattle.std.specs.Option.{option_map, option_and_then}
 use Rattle.std.specs.Prelude.{◌≡◌, ℕ, zero, suc, ◌+◌, ◌-◌, ◌/◌, ◌%◌, ◌^◌, ◌<◌, ◌≤◌}
 use Rattle.std.specs.Prelude.{Bool, true, false, eqb, ltb, List, [], ◌∷◌, ◌++◌}
 use mathlib.Core.Path.{refl, ap, ap₂, ◌∙◌, fun_ext}
@@ -15,9 +16,9 @@ use Rattle.calls.specs.Calls.{get_bool_field, get_data_field, set_bool_field, se
 use Rattle.calls.specs.Calls.{not_null, tag_test}
 use Rattle.record.specs.Lines.{Zero, of_slot, of_tag, of_pointer, get_line, set_line, zeroing_line}
 use Rattle.record.specs.Masks.{half_of, get_mask_text, set_mask_text, mask_bits}
-use Rattle.record.specs.Record.{Record, map_o}
+use Rattle.record.specs.Record.{Record}
 use Rattle.record.specs.Types.{Num, int, uint, float32, float64, type_name_of, Kind, bool, num, enum, place_of, tag_place}
-use Rattle.meaning.specs.Reading.{bind_o, value, constant}
+use Rattle.meaning.specs.Reading.{value, constant}
 use Rattle.meaning.specs.Claims.{MaskFits}
 use Rattle.meaning.specs.Meaning.{Op, set_op, clear_op, writes, whole, lines, push_byte, trim, inner, prepend, run_op, run_line}
 use Rattle.meaning.specs.Meaning.{run_lines}
@@ -93,10 +94,11 @@ pub record Says (l : Str) (o : Op) : Type 0 where
   pub one : whole l ≡ true
 
 pub says-set : (k : Kind) (o : ℕ) (m : Option ℕ) → MaskFits k m
-    → Says (set_line k o (map_o (set_mask_text k) m)) (set_op (place_of k o) value (mask_bits m))
+    → Says (set_line k o (option_map (set_mask_text k) m)) (set_op (place_of k o) value (mask_bits m))
 says-set k o m h = record { reads = writes-set k o m h; tight = tight k m; one = one k m }
   where
-    tight : (k : Kind) (m : Option ℕ) → trim (set_line k o (map_o (set_mask_text k) m)) ≡ set_line k o (map_o (set_mask_text k) m)
+    tight : (k : Kind) (m : Option ℕ) → trim (set_line k o (option_map (set_mask_text k) m))
+        ≡ set_line k o (option_map (set_mask_text k) m)
     tight bool None = unfold set_bool_field in refl
     tight bool (Some m) = unfold set_bool_field in refl
     tight (num t) None = unfold set_data_field in refl
@@ -104,7 +106,7 @@ says-set k o m h = record { reads = writes-set k o m h; tight = tight k m; one =
     tight enum None = unfold set_data_field in refl
     tight enum (Some m) = unfold set_data_field in refl
 
-    one : (k : Kind) (m : Option ℕ) → whole (set_line k o (map_o (set_mask_text k) m)) ≡ true
+    one : (k : Kind) (m : Option ℕ) → whole (set_line k o (option_map (set_mask_text k) m)) ≡ true
     one bool None = unfold set_bool_field in simp wholes
     one bool (Some m) = unfold set_bool_field in simp wholes
     one (num t) None = unfold set_data_field in simp wholes
@@ -134,7 +136,7 @@ says-zero (of_pointer i) = record { reads = writes-clear i; tight = refl; one = 
 -- ---- lines that are no writes
 
 pub whole-get : (is_reader : Bool) (k : Kind) (o : ℕ) (m : Option ℕ)
-    → whole (get_line is_reader k o (map_o (get_mask_text k) m)) ≡ true
+    → whole (get_line is_reader k o (option_map (get_mask_text k) m)) ≡ true
 unfolding get_bool_field get_data_field
 whole-get true bool o None = simp wholes
 whole-get true bool o (Some m) = simp wholes
@@ -214,7 +216,7 @@ wholes_indented n (add l h t) w = add (spaces n ++ l) (whole-indented n l ∙ h)
 -- operations one after another
 unfoldable pub run_ops : Option ℕ → List Op → Record → Option Record
 run_ops v [] r = Some r
-run_ops v (o ∷ os) r = bind_o (run_op v o r) (run_ops v os)
+run_ops v (o ∷ os) r = option_and_then (run_ops v os) (run_op v o r)
 
 pub data Saying : List Str → List Op → Type 0 where
   nil : Saying [] []
@@ -234,8 +236,8 @@ pub run_lines_lem : (v : Option ℕ) (n : ℕ) {ls : List Str} {os : List Op} �
 unfolding run_lines run_ops
 run_lines_lem v n nil r = refl
 run_lines_lem v n (add {l = l} {o = o} s w) r =
-    ap₂ bind_o (ap (λ (x : Str). run_line v x r) (trim-indented n l s.tight) ∙ run_says v l o r s.reads)
-    (fun_ext (λ x. run_lines_lem v n w x))
+    ap₂ option_and_then (fun_ext (λ x. run_lines_lem v n w x))
+    (ap (λ (x : Str). run_line v x r) (trim-indented n l s.tight) ∙ run_says v l o r s.reads)
 
 -- a function's text: without its first two lines and its last
 front-last : (a : Str) (l : List Str) (x : Str) → prepend a (l ++ (x ∷ [])) ≡ a ∷ l

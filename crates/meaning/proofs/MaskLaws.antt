@@ -1,19 +1,15 @@
 -- The two masks of a slot: the same, or the setter has none; so what a value reads as is what document 01 says. By cases on the
 -- rules. Assumes nothing.
-use Rattle.std.specs.Prelude.{◌≡◌, ℕ, zero, suc, ◌+◌, ◌^◌, ◌<◌, ◌≤◌, Bool, true, false, eqb, List}
+use Rattle.std.specs.Prelude.{◌≡◌, ℕ, ◌^◌, ◌<◌, Bool, true, false, eqb}
 use mathlib.Core.Path.{refl, sym, ap, ◌∙◌}
 use Rattle.std.specs.Prelude.{Option, None, Some}
-use native.Mathlib.Nat.{pow-suc}
-use native.Mathlib.Omega.{arith}
-use lib.Bits.{bit_xor, xor_lt, xor_zero_r}
+use lib.Bits.{bit_xor, xor_assoc, xor_self, xor_zero_r}
 use lib.Pow.{pow_pos}
 use borrow.Author.Tests.{eqb-true}
 use Rattle.text.specs.Bytes.{cond, either}
-use Rattle.record.specs.Bits.{to_bits, of_bits, xors}
 use Rattle.record.specs.Masks.{get_mask, set_mask, mask_bits}
 use Rattle.record.specs.Offsets.{bit_count}
 use Rattle.record.specs.Types.{int, uint, float32, float64, Kind, bool, num, enum, slot_bits, place_of}
-use Rattle.record.proofs.BitLaws.{of_to, xors_twice, xors_xor}
 use Rattle.meaning.specs.Claims.{MaskFits, expected, ExpectedHolds}
 
 -- a slot's place has the slot's bits
@@ -27,22 +23,9 @@ pub mask_below : (k : Kind) (m : Option ℕ) → MaskFits k m → mask_bits m < 
 mask_below k None h = pow_pos (slot_bits k)
 mask_below k (Some m) h = h
 
--- a number has fewer bits than it counts
-few_bits : (n k : ℕ) → n ≤ k → n < 2 ^ k
-few_bits zero k h = pow_pos k
-few_bits (suc n) zero h = let z : ⊥ = omega arith in absurd z
-few_bits (suc n) (suc k) h = rw pow-suc (omega (arith, few_bits n k (omega arith)))
-
 -- the same mask twice is no mask
 pub xor_twice : (v m : ℕ) → bit_xor (bit_xor v m) m ≡ v
-xor_twice v m =
-    let n : ℕ = v + m in
-    let hv : v < 2 ^ n = few_bits v n (omega arith) in
-    let hm : m < 2 ^ n = few_bits m n (omega arith) in
-    sym (of_to n (bit_xor (bit_xor v m) m) (xor_lt n (bit_xor v m) m (xor_lt n v m hv hm) hm))
-    ∙ ap of_bits
-    (sym (xors_xor n (bit_xor v m) m) ∙ ap (λ (l : List Bool). xors l (to_bits n m)) (sym (xors_xor n v m)) ∙ xors_twice n v m)
-    ∙ of_to n v hv
+xor_twice v m = xor_assoc v m m ∙ ap (bit_xor v) (xor_self m) ∙ xor_zero_r v
 
 -- the getter's mask is the default
 pub get_mask_bits : (k : Kind) (d : ℕ) (explicit : Bool) → mask_bits (get_mask k d explicit) ≡ d

@@ -1,20 +1,21 @@
 -- From a setter's text to the record that it leaves, and from a getter's text to its answer, on every record; from the two, set
 -- and get. The text's lines say operations, and the laws of records say what those do. Assumes nothing.
+use Rattle.std.proofs.lemmas.Option.{option_and_then_some}
+use Rattle.std.specs.Option.{option_map, option_and_then}
 use Rattle.std.specs.Prelude.{◌≡◌, ℕ, ◌^◌, ◌<◌, true, List, [], ◌∷◌, ◌++◌}
 use mathlib.Core.Path.{refl, sym, ap, ◌∙◌, subst, fun_ext}
 use mathlib.Core.Logic.{inl, inr}
 use Rattle.std.specs.Prelude.{Option, None, Some}
-use native.Mathlib.Omega.{arith}
 use Rattle.text.specs.Bytes.{Str, ascii}
 use Rattle.text.specs.Lines.{FormattedTexts, Indent, Branch, Line, none as no_more, ◌&◌, to_lines, flat_map, stringify, spaces}
 use Rattle.calls.specs.Calls.{set_tag}
 use Rattle.record.specs.Lines.{Tag, get_line, tag_then, function_text, getter_lines}
 use Rattle.record.specs.Masks.{get_mask_text, mask_bits}
 use Rattle.record.specs.Offsets.{Place, bit_count}
-use Rattle.record.specs.Record.{Record, map_o, put_value, Holds, Same}
+use Rattle.record.specs.Record.{Record, put_value, Holds, Same}
 use Rattle.record.specs.Types.{place_of, tag_place}
 use Rattle.record.proofs.RecordLaws.{after, put-inside, put-held, put-length, after_same, get_after, get_set, get_other}
-use Rattle.meaning.specs.Reading.{bind_o, value, constant}
+use Rattle.meaning.specs.Reading.{value, constant}
 use Rattle.meaning.specs.Claims.{TagFits, TagHolds, TagHas, TagClear, TagIs, void_leaves, setter_leaves, SetterLeft}
 use Rattle.meaning.specs.Claims.{TextGetHolds, TextSetHolds, SetterMeansHolds, SetterLeavesHolds, TextVoidHolds}
 use Rattle.meaning.specs.Claims.{TextVoidSetHolds, TextSetGetHolds}
@@ -60,7 +61,7 @@ setter-runs {ls} opening h s v r = rw (function-inner opening ls h (wholes_sayin
 pub get_holds : TextGetHolds
 unfolding run_getter getter_lines
 get_holds typ is_reader k o m r h f =
-    let l : Str = get_line is_reader k o (map_o (get_mask_text k) m) in
+    let l : Str = get_line is_reader k o (option_map (get_mask_text k) m) in
     let code : lines (stringify (Line l)) ≡ l ∷ [] =
     lines-stringify (Line l) l [] (unfold to_lines in refl) (Wholes.add l (whole-get is_reader k o m) Wholes.nil) in
     rw (lines-first typ (stringify (Line l)) h, code, gets-line is_reader k o m f)
@@ -109,12 +110,12 @@ tagged-runs {ls} opening h tag f s v r =
 -- ---- what a setter's text leaves, of any record
 
 run_tag : (v : Option ℕ) (tag : Option Tag) (os : List Op) (r : Record)
-    → run_ops v (tag_ops tag ++ os) r ≡ bind_o (void_leaves tag r) (run_ops v os)
+    → run_ops v (tag_ops tag ++ os) r ≡ option_and_then (run_ops v os) (void_leaves tag r)
 unfolding run_ops run_op
 run_tag v None os r = refl
 run_tag v (Some t) os r = refl
 
-run_end : (v : Option ℕ) (o : Option Record) → bind_o o (run_ops v []) ≡ o
+run_end : (v : Option ℕ) (o : Option Record) → option_and_then (run_ops v []) o ≡ o
 unfolding run_ops
 run_end v None = refl
 run_end v (Some r) = refl
@@ -129,7 +130,7 @@ set_holds opening tag k o ms v r h f fs =
     let p : Place = place_of k o in
     tagged-runs opening h tag f (Saying.add (says-set k o ms fs) Saying.nil) v r
     ∙ run_tag (Some v) tag (set_op p value (mask_bits ms) ∷ []) r
-    ∙ ap (λ (f : Record → Option Record). bind_o (void_leaves tag r) f) (fun_ext (λ x. run_set p (mask_bits ms) v x))
+    ∙ ap (λ (f : Record → Option Record). option_and_then f (void_leaves tag r)) (fun_ext (λ x. run_set p (mask_bits ms) v x))
 
 pub void-holds : TextVoidHolds
 void-holds opening tag v r h f =
@@ -148,22 +149,16 @@ still_held tag p r t h = rw (tag_same tag r t).length-same h
 setter-left : (tag : Option Tag) (p : Place) (v m : ℕ) (r : Record) → Holds p r → TagHolds tag r
     → setter_leaves tag p v m r ≡ Some (after p v m (tagged tag r))
 setter-left tag p v m r h t =
-    ap (λ (o : Option Record). bind_o o (put_value p v m)) (void-left tag r t)
+    ap (λ (o : Option Record). option_and_then (put_value p v m) o) (void-left tag r t)
     ∙ put-inside p v m (tagged tag r) (still_held tag p r t h)
-
--- a bind that gives something: so did what it is made of
-bind-some : (o : Option Record) (f : Record → Option Record) (s : Record) → bind_o o f ≡ Some s
-    → (x : Record) × (o ≡ Some x) × (f x ≡ Some s)
-bind-some None f s e = let z : ◌≡◌ {A = ℕ} 0 1 = cc in absurd (omega arith)
-bind-some (Some x) f s e = (x, refl, e)
 
 setter-held : (tag : Option Tag) (p : Place) (v m : ℕ) (r s : Record) → setter_leaves tag p v m r ≡ Some s
     → Holds p r × TagHolds tag r
 setter-held None p v m r s e = (put-held p v m r s e, tt)
 setter-held (Some t) p v m r s e =
     let q : Place = tag_place t.0 in
-    let x = bind-some (put_value q t.1 0 r) (put_value p v m) s e in
-    (rw (put-length q t.1 0 r x.0 x.1) at (put-held p v m x.0 s x.2), put-held q t.1 0 r x.0 x.1)
+    option_and_then_some (put_value p v m) (put_value q t.1 0 r) s e
+    (λ x there rest. (rw (put-length q t.1 0 r x there) at (put-held p v m x s rest), put-held q t.1 0 r x there))
 
 pub setter_means : SetterMeansHolds
 setter_means tag p v m r =

@@ -1,6 +1,7 @@
 -- What is claimed of accessor texts, from their bytes: a getter, a setter, one after the other, the Void setter, hasers, zeroing.
 -- The masks of setter and getter are parameters; `expected` says what document 01's rules for masks make of them. Assumes
 -- nothing.
+use Rattle.std.specs.Option.{option_map, option_and_then}
 use Rattle.std.specs.Prelude.{◌≡◌, ℕ, ◌^◌, ◌<◌, Bool, true, false, not, ◌⊎◌, List, [], ◌∷◌, length, ◌==◌, bit_xor, slice_index_or}
 use Rattle.std.specs.Prelude.{Option, None, Some}
 use Rattle.text.specs.Bytes.{Str, cond, both}
@@ -11,10 +12,9 @@ use Rattle.record.specs.Lines.{of_pointer}
 use Rattle.record.specs.Lines.{zero_call, zero_texts}
 use Rattle.record.specs.Masks.{get_mask, set_mask, get_mask_text, set_mask_text, mask_bits}
 use Rattle.record.specs.Offsets.{Place, bit_count}
-use Rattle.record.specs.Record.{Record, map_o, get, put_value, null, Covers, Clear, Holds, HoldsPointer, Same}
+use Rattle.record.specs.Record.{Record, get, put_value, null, Covers, Clear, Holds, HoldsPointer, Same}
 use Rattle.record.specs.Types.{int, uint, float32, float64, Kind, bool, num, enum, slot_bits, place_of, tag_place}
 use Rattle.record.specs.declared.PointerOffset.{PointerOffset}
-use Rattle.meaning.specs.Reading.{bind_o}
 use Rattle.meaning.specs.Meaning.{whole, run_setter, run_getter, run_haser, run_zeroing}
 
 -- ---- conditions
@@ -53,7 +53,7 @@ TagIs (Some t) r = get (tag_place t.0) 0 r ≡ t.1
 abbrev pub TextGetHolds : Type 0
 TextGetHolds =
     (typ : Str) (is_reader : Bool) (k : Kind) (o : ℕ) (mg : Option ℕ) (r : Record) → whole typ ≡ true → MaskFits k mg
-    → run_getter (getter_lines typ (get_line is_reader k o (map_o (get_mask_text k) mg))) r
+    → run_getter (getter_lines typ (get_line is_reader k o (option_map (get_mask_text k) mg))) r
     ≡ Some (get (place_of k o) (mask_bits mg) r)
 
 -- what the tag's line leaves, and after it the value's line
@@ -62,14 +62,14 @@ void_leaves None r = Some r
 void_leaves (Some t) r = put_value (tag_place t.0) t.1 0 r
 
 abbrev pub setter_leaves : Option Tag → Place → ℕ → ℕ → Record → Option Record
-setter_leaves tag p v m r = bind_o (void_leaves tag r) (put_value p v m)
+setter_leaves tag p v m r = option_and_then (put_value p v m) (void_leaves tag r)
 
 -- A setter's text writes its tag and then its value under its mask, on every record.
 abbrev pub TextSetHolds : Type 0
 TextSetHolds =
     (opening : Str) (tag : Option Tag) (k : Kind) (o : ℕ) (ms : Option ℕ) (v : ℕ) (r : Record) → whole opening ≡ true
     → TagFits tag → MaskFits k ms
-    → run_setter (setter_text opening tag k o (map_o (set_mask_text k) ms)) v r
+    → run_setter (setter_text opening tag k o (option_map (set_mask_text k) ms)) v r
     ≡ setter_leaves tag (place_of k o) v (mask_bits ms) r
 
 -- It has a meaning exactly where the section holds its slot and its tag whole.
@@ -103,9 +103,9 @@ TextVoidHolds =
 -- change.
 pub record TextSetGet (opening : Str) (tag : Option Tag) (k : Kind) (o : ℕ) (ms mg : Option ℕ) (v : ℕ) (r : Record) : Type 0 where
   pub left : Record
-  pub runs : run_setter (setter_text opening tag k o (map_o (set_mask_text k) ms)) v r ≡ Some left
+  pub runs : run_setter (setter_text opening tag k o (option_map (set_mask_text k) ms)) v r ≡ Some left
   pub answers : (typ : Str) → whole typ ≡ true → (is_reader : Bool)
-      → run_getter (getter_lines typ (get_line is_reader k o (map_o (get_mask_text k) mg))) left
+      → run_getter (getter_lines typ (get_line is_reader k o (option_map (get_mask_text k) mg))) left
       ≡ Some (bit_xor (bit_xor v (mask_bits ms)) (mask_bits mg))
   pub same : Same (λ b. Covers (place_of k o) b ⊎ TagHas tag b) r left
   pub tagged : TagClear tag (place_of k o) → TagIs tag left
@@ -189,7 +189,7 @@ pub record TextZeroed (zs : List Zero) (ft : FormattedText) (r : Record) : Type 
   pub runs : run_zeroing (stringify ft) r ≡ Some left
   pub defaults : (k : Kind) (o : ℕ) → In (zero_call k o) (zero_texts zs) → (mg : Option ℕ) → MaskFits k mg
       → (typ : Str) → whole typ ≡ true → (is_reader : Bool)
-      → run_getter (getter_lines typ (get_line is_reader k o (map_o (get_mask_text k) mg))) left ≡ Some (mask_bits mg)
+      → run_getter (getter_lines typ (get_line is_reader k o (option_map (get_mask_text k) mg))) left ≡ Some (mask_bits mg)
   pub absent : (i : ℕ) → In (clear_pointer i) (zero_texts zs) → null (record { 0 = i }) left ≡ true
   pub hasers : (i : ℕ) → In (clear_pointer i) (zero_texts zs) → (opening : Str) → whole opening ≡ true
       → (is_reader : Bool) (tag : Option Tag) → run_haser (haser_text opening is_reader tag i) left ≡ Some false

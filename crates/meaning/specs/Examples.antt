@@ -1,9 +1,9 @@
 -- Worked examples, computed: document 01's cases as one table of lines, values written and values read; texts that have no
 -- meaning; gets and tests past the section; hasers and a zeroing. Assumes nothing.
+use Rattle.std.specs.Option.{option_map, option_and_then}
 use Rattle.std.specs.Prelude.{◌≡◌, ℕ, Bool, true, false, List, [], ◌∷◌, replicate, ◌==◌}
 use Prim.Native.String.{String}
-use Rattle.std.specs.Prelude.{refl}
-use Rattle.std.specs.Prelude.{Option, None, Some}
+use Rattle.std.specs.Prelude.{refl, Option, None, Some, is_some}
 use Rattle.text.specs.Bytes.{Str, ascii, both, same}
 use Rattle.text.specs.Decimal.{decimal, signed}
 use Rattle.text.specs.Lines.{FormattedTexts, Branch, Line, none as no_more, ◌&◌, to_lines, flat_map, join, stringify}
@@ -12,10 +12,10 @@ use Rattle.calls.specs.Calls.{get_bool_field, get_data_field, set_bool_field, se
 use Rattle.record.specs.Lines.{get_line, set_line, function_text, setter_text, void_setter_text, getter_lines, haser_text}
 use Rattle.record.specs.Lines.{Zero, of_slot, of_tag, of_pointer, zeroing_line}
 use Rattle.record.specs.Masks.{get_mask, set_mask, get_mask_text, set_mask_text}
-use Rattle.record.specs.Record.{Record, is_some, map_o, found, stored, get_bits, put_bits, null_flag, clear_flag}
+use Rattle.record.specs.Record.{Record, found, stored, get_bits, put_bits, null_flag, clear_flag}
 use Rattle.record.specs.Types.{int, uint, float32, Kind, bool, num, enum, kind_of}
 use Rattle.record.specs.declared.Width.TheVariants.{One, Two, Eight}
-use Rattle.meaning.specs.Reading.{bind_o, type_name, truth, get_mask_of, set_mask_of, data_arg, bool_arg}
+use Rattle.meaning.specs.Reading.{type_name, truth, get_mask_of, set_mask_of, data_arg, bool_arg}
 use Rattle.meaning.specs.Meaning.{writes, gets, gets_in, tests, run_op, run_line, run_lines, run_setter, run_getter, run_zeroing}
 use Rattle.meaning.specs.Meaning.{tests_of, run_tests, run_haser}
 
@@ -83,10 +83,10 @@ is (Some v) x = v == x
 
 -- a slot's lines by the rules for masks
 abbrev pub setter_line : WorkedSlot → Str
-setter_line x = set_line x.kind x.offset (map_o (set_mask_text x.kind) (set_mask x.kind x.default x.explicit))
+setter_line x = set_line x.kind x.offset (option_map (set_mask_text x.kind) (set_mask x.kind x.default x.explicit))
 
 abbrev pub getter_line : WorkedSlot → Str
-getter_line x = get_line true x.kind x.offset (map_o (get_mask_text x.kind) (get_mask x.kind x.default x.explicit))
+getter_line x = get_line true x.kind x.offset (option_map (get_mask_text x.kind) (get_mask x.kind x.default x.explicit))
 
 -- a setter with this line, on the sixteen bytes with this value
 abbrev pub set_with : Str → ℕ → Option Record
@@ -97,7 +97,7 @@ abbrev pub slot_right : WorkedSlot → Bool
 slot_right x =
     both (same (setter_line x) (ascii x.setter))
     (both (same (getter_line x) (ascii x.getter))
-    (is (bind_o (set_with (setter_line x) x.writes) (run_getter (getter_lines (ascii "T") (getter_line x)))) x.reads))
+    (is (option_and_then (run_getter (getter_lines (ascii "T") (getter_line x))) (set_with (setter_line x) x.writes)) x.reads))
 
 abbrev pub all_hold : {A : Type 0} → (A → Bool) → List A → Bool
 all_hold f [] = true
@@ -244,7 +244,7 @@ zeros (z ∷ zs) = Line (zeroing_line z) & zeros zs
 
 -- an element of two bytes zeroed as a number, as an enum and as a tag; a Bool; the second pointer
 pub zeroed :
-    map_o (λ r. r.pointers)
+    option_map (λ r. r.pointers)
     (run_zeroing
     (stringify (Branch (zeros (of_tag 4 ∷ of_slot (num (uint Two)) 4 ∷ of_slot enum 4 ∷ of_slot bool 0 ∷ of_pointer 1 ∷ []))))
     some16)

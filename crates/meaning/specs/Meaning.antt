@@ -1,13 +1,14 @@
 -- What a text does to a record, from its bytes alone (document 01, "What a line does to a record"): a text that is none of these
 -- has no meaning. Assumes nothing.
+use Rattle.std.specs.Option.{option_map, option_and_then}
 use Rattle.std.specs.Prelude.{ℕ, Bool, true, false, not, List, [], ◌∷◌, ◌++◌, ◌==◌}
 use Rattle.std.specs.Prelude.{Option, None, Some}
 use Rattle.text.specs.Bytes.{Str, cond, both}
 use Rattle.record.specs.Offsets.{Place, bool_at, data_at}
-use Rattle.record.specs.Record.{Record, map_o, get, put_value, null, clear}
+use Rattle.record.specs.Record.{Record, get, put_value, null, clear}
 use Rattle.record.specs.Types.{Num, width_of, tag_place}
 use Rattle.record.specs.declared.PointerOffset.{PointerOffset}
-use Rattle.meaning.specs.Reading.{Reads, bind_o, ◌>>=◌, ◌>>◌, pure, ◌or◌, lit, end, word_byte, numeral, type_name, truth}
+use Rattle.meaning.specs.Reading.{Reads, ◌>>=◌, ◌>>◌, pure, ◌or◌, lit, end, word_byte, numeral, type_name, truth}
 use Rattle.meaning.specs.Reading.{get_mask_of, set_mask_of, Arg, value, constant, data_arg, bool_arg}
 
 -- ---- a line that writes
@@ -110,7 +111,7 @@ opens_get = lit "self." >> member_dot >> (lit "get_bool_field" or lit "get_data_
 abbrev pub adds : Option (Unit {0} × Str) → Option (Get × Str) → Option (List Get) → Option (List Get)
 adds None g more = more
 adds (Some opened) None more = None
-adds (Some opened) (Some g) more = map_o (λ gs. g.0 ∷ gs) more
+adds (Some opened) (Some g) more = option_map (λ gs. g.0 ∷ gs) more
 
 -- All gets of a line; the Bool says whether a word's byte stands in front of it, since no call begins inside a word.
 unfoldable pub gets_in : Bool → Str → Option (List Get)
@@ -184,22 +185,22 @@ arg_bits v value = v
 arg_bits v (constant k) = Some k
 
 unfoldable pub run_op : Option ℕ → Op → Record → Option Record
-run_op v (set_op p a m) r = bind_o (arg_bits v a) (λ x. put_value p x m r)
+run_op v (set_op p a m) r = option_and_then (λ x. put_value p x m r) (arg_bits v a)
 run_op v (clear_op i) r = clear i r
 
 -- an empty line does nothing
 unfoldable pub run_line : Option ℕ → Str → Record → Option Record
 run_line v [] r = Some r
-run_line v (c ∷ s) r = bind_o (writes (c ∷ s)) (λ x. run_op v x.0 r)
+run_line v (c ∷ s) r = option_and_then (λ x. run_op v x.0 r) (writes (c ∷ s))
 
 -- lines run from the top, each on the record that the line before left
 unfoldable pub run_lines : Option ℕ → List Str → Record → Option Record
 run_lines v [] r = Some r
-run_lines v (l ∷ ls) r = bind_o (run_line v (trim l) r) (run_lines v ls)
+run_lines v (l ∷ ls) r = option_and_then (run_lines v ls) (run_line v (trim l) r)
 
 -- a setter: the first two lines and the last do nothing
 unfoldable pub run_setter : Str → ℕ → Record → Option Record
-run_setter t v r = bind_o (inner (lines t)) (λ ls. run_lines (Some v) ls r)
+run_setter t v r = option_and_then (λ ls. run_lines (Some v) ls r) (inner (lines t))
 
 -- a zeroing
 unfoldable pub run_zeroing : Str → Record → Option Record
@@ -208,7 +209,7 @@ run_zeroing t r = run_lines None (lines t) r
 -- a getter: line 1 does nothing; the single get below it, whatever stands around it, is the answer
 abbrev pub all_gets : List Str → Option (List Get)
 all_gets [] = Some []
-all_gets (l ∷ ls) = bind_o (gets_in false l) (λ gs. map_o (λ more. gs ++ more) (all_gets ls))
+all_gets (l ∷ ls) = option_and_then (λ gs. option_map (λ more. gs ++ more) (all_gets ls)) (gets_in false l)
 
 abbrev pub after_first : List Str → List Str
 after_first [] = []
@@ -220,7 +221,7 @@ single (g ∷ []) = Some g
 single (g ∷ (h ∷ l)) = None
 
 unfoldable pub run_getter : Str → Record → Option ℕ
-run_getter t r = map_o (λ g. get g.0 g.1 r) (bind_o (all_gets (after_first (lines t))) single)
+run_getter t r = option_map (λ g. get g.0 g.1 r) (option_and_then single (all_gets (after_first (lines t))))
 
 -- a haser: the first two lines and the last do nothing; each line between them that is not empty is a test
 unfoldable pub tests_of : List Str → Option (List Test)
@@ -229,7 +230,7 @@ tests_of (l ∷ ls) = one (trim l) (tests_of ls)
   where
     one : Str → Option (List Test) → Option (List Test)
     one [] more = more
-    one (c ∷ s) more = bind_o (tests (c ∷ s)) (λ t. map_o (λ ts. t.0 ∷ ts) more)
+    one (c ∷ s) more = option_and_then (λ t. option_map (λ ts. t.0 ∷ ts) more) (tests (c ∷ s))
 
 -- one null test, or a tag test before it: false where that finds another number, else whether the pointer is not null
 unfoldable pub run_tests : List Test → Record → Option Bool
@@ -242,4 +243,4 @@ run_tests (tag_test o n ∷ (null_test i ∷ (t ∷ ts))) r = None
 run_tests (tag_test o n ∷ (tag_test p m ∷ ts)) r = None
 
 unfoldable pub run_haser : Str → Record → Option Bool
-run_haser t r = bind_o (inner (lines t)) (λ ls. bind_o (tests_of ls) (λ ts. run_tests ts r))
+run_haser t r = option_and_then (λ ls. option_and_then (λ ts. run_tests ts r) (tests_of ls)) (inner (lines t))

@@ -1,10 +1,11 @@
 -- Reading from the front of a line: fixed bytes, numbers, types and masks as they are written in a call. Assumes nothing.
+use Rattle.std.specs.Bool.{then_some}
+use Rattle.std.specs.Option.{option_and_then, option_or}
 use Rattle.std.specs.Prelude.{ℕ, ◌+◌, ◌-◌, ◌*◌, ◌^◌, Bool, [], ◌∷◌, ◌==◌, nat_le, nat_lt}
 use Prim.Native.String.{String}
 use Rattle.std.specs.Prelude.{Option, None, Some}
 use Rattle.text.specs.Bytes.{Str, ascii, cond, both, either}
 use Rattle.record.specs.Masks.{half_of}
-use Rattle.record.specs.Record.{only}
 use Rattle.record.specs.Types.{Num, int, uint, float32, float64, bits_of, type_name_of}
 use Rattle.record.specs.declared.Width.TheVariants.{One, Two, Four, Eight}
 
@@ -12,20 +13,12 @@ use Rattle.record.specs.declared.Width.TheVariants.{One, Two, Four, Eight}
 abbrev pub Reads : Type 0 → Type 0
 Reads A = Str → Option (A × Str)
 
-abbrev pub bind_o : {A B : Type 0} → Option A → (A → Option B) → Option B
-bind_o None f = None
-bind_o (Some x) f = f x
-
-abbrev pub else_o : {A : Type 0} → Option A → Option A → Option A
-else_o None o = o
-else_o (Some a) o = Some a
-
 infixl 20 ◌>>=◌ ◌>>◌
 abbrev pub ◌>>=◌ : {A B : Type 0} → Reads A → (A → Reads B) → Reads B
-◌>>=◌ m f = λ s. bind_o (m s) (λ x. f x.0 x.1)
+◌>>=◌ m f = λ s. option_and_then (λ x. f x.0 x.1) (m s)
 
 abbrev pub ◌>>◌ : {A B : Type 0} → Reads A → Reads B → Reads B
-◌>>◌ m f = λ s. bind_o (m s) (λ x. f x.1)
+◌>>◌ m f = λ s. option_and_then (λ x. f x.1) (m s)
 
 abbrev pub pure : {A : Type 0} → A → Reads A
 pure a = λ s. Some (a, s)
@@ -33,7 +26,7 @@ pure a = λ s. Some (a, s)
 -- the first reading, or where it finds nothing the second
 infixr 15 ◌or◌
 abbrev pub ◌or◌ : {A : Type 0} → Reads A → Reads A → Reads A
-◌or◌ f g = λ s. else_o (f s) (g s)
+◌or◌ f g = λ s. option_or (f s) (g s)
 
 -- these bytes
 abbrev pub strip : Str → Reads (Unit {0})
@@ -67,15 +60,15 @@ digits_from n (c ∷ s) = cond (digit_byte c) (digits_from (n * 10 + (c - 48)) s
 -- a number: one digit at least, and all that follow
 abbrev pub numeral : Reads ℕ
 numeral [] = None
-numeral (c ∷ s) = only (digit_byte c) (digits_from 0 (c ∷ s))
+numeral (c ∷ s) = then_some (digit_byte c) (digits_from 0 (c ∷ s))
 
 -- a number below a limit
 abbrev pub below : ℕ → Reads ℕ
-below limit s = bind_o (numeral s) (λ x. only (nat_lt x.0 limit) x)
+below limit s = option_and_then (λ x. then_some (nat_lt x.0 limit) x) (numeral s)
 
 -- the bits of a negative number by what stands after its sign: 1 to half, which is the sign's bit
 abbrev pub negative : ℕ → Reads ℕ
-negative half s = bind_o (numeral s) (λ x. only (both (nat_lt 0 x.0) (nat_le x.0 half)) (half + half - x.0, x.1))
+negative half s = option_and_then (λ x. then_some (both (nat_lt 0 x.0) (nat_le x.0 half)) (half + half - x.0, x.1)) (numeral s)
 
 -- a number with a sign as its bits: -5 of 8 bits is 251
 abbrev pub signed_number : ℕ → Reads ℕ

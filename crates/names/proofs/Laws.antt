@@ -1,45 +1,43 @@
 -- Laws of snake names: how long one can get, and the struct that holds it. By induction on the name. Assumes nothing.
-use mathlib.Core.Path.{◌≡◌, refl, sym, ap, ap₂, ◌∙◌}
+use mathlib.Core.Path.{◌≡◌, refl, ap, ap₂, ◌∙◌}
 use mathlib.Core.Bool.{Bool, true, false}
 use mathlib.Core.List.{[], ◌∷◌, ◌++◌}
-use Prim.Native.Nat.{ℕ, zero, suc, ◌+◌, ◌-◌, ◌*◌, ◌^◌, ◌≤◌, ◌<◌, min}
-use native.Mathlib.Nat.{add-zero, sub-zero, zero-sub, zero-add, suc-sub-suc}
+use Prim.Native.Nat.{ℕ, zero, suc, ◌-◌, ◌*◌, ◌^◌, ◌≤◌, ◌<◌}
+use native.Mathlib.Nat.{sub-zero, zero-sub, zero-add, suc-sub-suc}
 use native.Mathlib.Omega.{arith}
 use borrow.Author.Tests.{le-leb, lt-leb, leb-true, ltb-true, ltb-false}
 use lib.Dec.{leb, ltb}
-use lib.ListN.{length, get_or, take, drop, replicate, length-append, length-replicate}
-use lib.Seq.{get_or-drop, take_all, take-append_seam, length-take-le}
+use lib.ListN.{length, drop, replicate, length-append, length-replicate}
+use lib.Seq.{take-append_seam}
+use Rattle.std.specs.Char as ascii
 use Rattle.text.specs.Answer.{placed}
 use Rattle.text.specs.Bytes.{Str, unit, cond, both}
 use Rattle.text.specs.Text.{put, state_at, Wrote}
 use Rattle.text.specs.declared.Text.{Text}
 use Rattle.text.proofs.BytesLaws.{both_false}
 use Rattle.text.proofs.Places.{put-placed, adv-fits}
-use Rattle.column.specs.Texts.{is_lead, is_accented, are_chars}
-use Rattle.column.proofs.CharLaws.{low-no-lead}
+use Rattle.column.specs.Texts.{are_chars}
 use Rattle.names.specs.Keywords.{is_keyword}
-use Rattle.names.specs.Names.{is_uppercase, to_ascii_lowercase, is_ascii, taken, snake_byte, snake_from}
+use Rattle.names.specs.Names.{is_uppercase, to_ascii_lowercase, to_ascii_uppercase, is_ascii, taken, snake_byte, snake_from}
 use Rattle.names.specs.Names.{camel_to_snake_case, module_name, held, Snaked, name_of}
 use Rattle.names.specs.declared.Snake.{Snake}
 
--- whether a capital begins with a byte: below the ASCII capitals, one of them, and above them
-pub upper_low : (b : ℕ) (t : Str) → b < 65 → is_uppercase b t ≡ false
-upper_low b t h = rw (lt-leb 65 b h, low-no-lead b (omega arith))
+-- an ASCII letter in lower case and in upper case, as std's methods answer
+pub lower_case : (b : ℕ) → ascii.to_ascii_lowercase b ≡ to_ascii_lowercase b
+lower_case b = go (ltb b 65) (ltb b 91) refl refl
+  where
+    go : (p q : Bool) → ltb b 65 ≡ p → ltb b 91 ≡ q → ascii.to_ascii_lowercase b ≡ to_ascii_lowercase b
+    go true q e f = rw (e, lt-leb 65 b (ltb-true b 65 e))
+    go false true e f = rw (e, f, le-leb 65 b (ltb-false b 65 e), le-leb b 90 (omega (arith, ltb-true b 91 f)))
+    go false false e f = rw (e, f, le-leb 65 b (ltb-false b 65 e), lt-leb b 90 (omega (arith, ltb-false b 91 f)))
 
-pub upper_ascii : (b : ℕ) (t : Str) → 65 ≤ b → b ≤ 90 → is_uppercase b t ≡ true
-upper_ascii b t l h = rw (le-leb 65 b l, le-leb b 90 h)
-
-pub upper_high :
-    (s : Str) (i : ℕ) → 90 < get_or s i 0
-    → is_uppercase (get_or s i 0) (drop (i + 1) s)
-    ≡ both (both (is_lead (get_or s i 0)) (is_accented (get_or s (i + 1) 0))) (leb (get_or s (i + 1) 0) 0x9E)
-upper_high s i h =
-    rw (
-      le-leb 65 (get_or s i 0) (omega arith),
-      lt-leb (get_or s i 0) 90 h,
-      get_or-drop (i + 1) s 0 0,
-      add-zero (i + 1),
-    )
+pub upper_case : (b : ℕ) → ascii.to_ascii_uppercase b ≡ to_ascii_uppercase b
+upper_case b = go (ltb b 97) (ltb b 123) refl refl
+  where
+    go : (p q : Bool) → ltb b 97 ≡ p → ltb b 123 ≡ q → ascii.to_ascii_uppercase b ≡ to_ascii_uppercase b
+    go true q e f = rw (e, lt-leb 97 b (ltb-true b 97 e))
+    go false true e f = rw (e, f, le-leb 97 b (ltb-false b 97 e), le-leb b 122 (omega (arith, ltb-true b 123 f)))
+    go false false e f = rw (e, f, le-leb 97 b (ltb-false b 97 e), lt-leb b 122 (omega (arith, ltb-false b 123 f)))
 
 -- a turn of the loop: the first byte, a byte that begins no capital, and one that does
 pub byte-first : (b : ℕ) (t : Str) → snake_byte true b t ≡ unit (to_ascii_lowercase b)
@@ -133,19 +131,3 @@ module_keyword name e = rw e
 pub module-plain : (name : Str) → is_keyword (camel_to_snake_case name) ≡ false → module_name name ≡ camel_to_snake_case name
 unfolding module_name
 module-plain name e = rw e
-
--- the first r bytes of an array, where r is the length that a struct gives or the array's own
-module _ (bytes : Str) (len r : ℕ) (full : length bytes ≡ 128) (e : r ≡ min len 128) where
-  pub size-counted : r ≡ length (take r bytes)
-  size-counted = sym (length-take-le r bytes (omega arith))
-
-  pub size-name : take r bytes ≡ take len bytes
-  size-name = go (ltb len 128) refl
-    where
-      go : (b : Bool) → ltb len 128 ≡ b → take r bytes ≡ take len bytes
-      go true h =
-          let g : r ≡ len = omega (arith, ltb-true len 128 h) in
-          rw g
-      go false h =
-          let g : 128 ≤ len = ltb-false len 128 h in
-          take_all r bytes (omega arith) ∙ sym (take_all len bytes (omega arith))

@@ -1,4 +1,3 @@
 pub mod Keywords
 pub mod Names
-pub mod Words
 pub mod Examples

@@ -1,48 +1,58 @@
 // Rust's keywords.
-ghost use Rattle.std.specs.Prelude.{◌≡◌, length};
-ghost use Rattle.names.specs.Keywords.{is_one_of, is_keyword};
-ghost use Rattle.names.specs.Words.{cut_words};
+ghost use Rattle.std.specs.Prelude.{◌≡◌};
+ghost use Rattle.std.specs.List.{list_any};
+ghost use Rattle.std.specs.Str.{bytes_eq};
+ghost use Rattle.names.specs.Keywords.{is_keyword};
 
-use text::equal;
-
-// Whether a name is one of the words, which have its length and stand one after the other with a space after each.
-fn one_of(name: &[u8], words: &[u8]) -> bool
-    ensures { result ≡ is_one_of name.now (cut_words (length name.now) words.now) }
+// Whether a name is one of the words of its length.
+fn one_of<const N: usize>(name: &[u8], words: &[[u8; N]]) -> bool
+    ensures { result ≡ list_any (λ w. bytes_eq w name.now) words.now }
 {
-    let len = name.len();
-    let mut at = 0;
-    while len < words.len() - at {
-        let end = at + len;
-        if equal(name, &words[at..end]) {
-            return true;
-        }
-        at = end + 1;
-    }
-    false
+    words.iter().any(
+        |word| -> bool
+            ensures { result ≡ bytes_eq word.now name.entry.now }
+        { word.as_slice() == name },
+    )
 }
 
 // Whether a name is one of `RUST_KEYWORDS`: it is compared with those of its own length.
 pub fn is_keyword(name: &[u8]) -> bool
     ensures { result ≡ is_keyword name.now }
 {
-    let len = name.len();
-    match len {
-        2 => one_of(name, b"as be do fn if in "),
-        3 => one_of(name, b"box for let mod mut pub ref use "),
+    match name.len() {
+        2 => one_of(name, &[*b"as", *b"be", *b"do", *b"fn", *b"if", *b"in"]),
+        3 => one_of(
+            name,
+            &[
+                *b"box", *b"for", *b"let", *b"mod", *b"mut", *b"pub", *b"ref", *b"use",
+            ],
+        ),
         4 => one_of(
             name,
-            b"else enum impl loop move once priv proc pure self true type ",
+            &[
+                *b"else", *b"enum", *b"impl", *b"loop", *b"move", *b"once", *b"priv", *b"proc",
+                *b"pure", *b"self", *b"true", *b"type",
+            ],
         ),
         5 => one_of(
             name,
-            b"break const crate false final macro match super trait where while yield ",
+            &[
+                *b"break", *b"const", *b"crate", *b"false", *b"final", *b"macro", *b"match",
+                *b"super", *b"trait", *b"where", *b"while", *b"yield",
+            ],
         ),
         6 => one_of(
             name,
-            b"become extern return sizeof static struct typeof unsafe ",
+            &[
+                *b"become", *b"extern", *b"return", *b"sizeof", *b"static", *b"struct", *b"typeof",
+                *b"unsafe",
+            ],
         ),
-        7 => one_of(name, b"alignof unsized virtual "),
-        8 => one_of(name, b"abstract continue offsetof override "),
+        7 => one_of(name, &[*b"alignof", *b"unsized", *b"virtual"]),
+        8 => one_of(
+            name,
+            &[*b"abstract", *b"continue", *b"offsetof", *b"override"],
+        ),
         _ => false,
     }
 }

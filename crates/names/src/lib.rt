@@ -6,7 +6,8 @@ pub mod keywords;
 ghost use Rattle.std.specs.Prelude.{◌≡◌, true, map, ◌+◌, ◌<◌, min, eqb, length, drop, get_or};
 ghost use Rattle.text.specs.Text.{Wrote};
 ghost use Rattle.names.specs.Keywords.{is_keyword};
-ghost use Rattle.names.specs.Names.{is_uppercase, to_ascii_lowercase, to_ascii_uppercase, taken, snake_byte, snake_from};
+ghost use Rattle.names.specs.Names.{is_ascii, is_uppercase, to_ascii_lowercase, to_ascii_uppercase, taken};
+ghost use Rattle.names.specs.Names.{snake_byte, snake_from};
 ghost use Rattle.names.specs.Names.{camel_to_snake_case, default_name, module_name, FieldNamesTaken, Snaked, name_of};
 
 use crate::keywords::is_keyword;
@@ -16,7 +17,7 @@ use text::Text;
 // The second byte of the last capital with an accent, U+00DE.
 const LAST_CAPITAL: u8 = 0x9e;
 
-// A snake name, held whole: its bytes, then zeros.
+// A snake name, held whole: its bytes, then zeros. An array with its length, as nothing here stands on a heap.
 #[derive(Clone, Copy)]
 pub struct Snake {
     bytes: [u8; 128],
@@ -28,85 +29,32 @@ fn is_uppercase(name: &[u8], i: usize) -> bool
     requires { i < length name.now }
     ensures { result ≡ is_uppercase (get_or name.now i 0) (drop (i + 1) name.now) }
 {
-    let b = name[i];
-    if b < b'A' {
-        return false;
-    }
-    if b <= b'Z' {
-        return true;
-    }
-    if !column::letter_at(name, i) {
-        return false;
-    }
-    name[i + 1] <= LAST_CAPITAL
-}
-
-// An ASCII letter in lower case, and in upper case; any other byte as it is.
-fn to_ascii_lowercase(c: u8) -> u8
-    ensures { result ≡ to_ascii_lowercase c }
-{
-    if c < b'A' {
-        return c;
-    }
-    if c <= b'Z' { c + 32 } else { c }
-}
-
-fn to_ascii_uppercase(c: u8) -> u8
-    ensures { result ≡ to_ascii_uppercase c }
-{
-    if c < b'a' {
-        return c;
-    }
-    if c <= b'z' { c - 32 } else { c }
+    name[i].is_ascii_uppercase() || column::letter_at(name, i) && name[i + 1] <= LAST_CAPITAL
 }
 
 // Whether a name is taken: at most 64 bytes, of ASCII and letters from U+00C0 to U+00FF.
 pub fn takes(name: &[u8]) -> bool
     ensures { result ≡ taken name.now }
 {
-    if name.len() > limits::NAME_BYTES {
-        return false;
-    }
-    let mut i = 0;
-    while i < name.len() {
-        if name[i] < 128 {
-            i += 1;
-            continue;
-        }
-        if !column::letter_at(name, i) {
-            return false;
-        }
-        i += 2;
-    }
-    true
+    name.len() <= limits::NAME_BYTES
+        && column::are_chars(
+            name,
+            |b| -> bool
+                ensures { result ≡ is_ascii b }
+            { b.is_ascii() },
+        )
 }
 
-// One byte of a name, in lower case, after an underscore where a capital begins that is not the first char.
-fn snake_byte(name: &[u8], i: usize, t: Text, buf: &mut [u8]) -> Text
-    requires { i < length name.now }
-    ensures { Wrote buf.old t
-        (snake_byte (eqb i 0) (get_or name.now i 0) (drop (i + 1) name.now)) buf.new result }
-{
-    let b = to_ascii_lowercase(name[i]);
-    if i == 0 {
-        return t.byte(buf, b);
-    }
-    if !is_uppercase(name, i) {
-        return t.byte(buf, b);
-    }
-    let t = t.byte(buf, b'_');
-    t.byte(buf, b)
-}
-
-// All bytes of a name.
+// All bytes of a name, in lower case, with an underscore where a capital begins that is not the first char.
 fn snake_bytes(name: &[u8], t: Text, buf: &mut [u8]) -> Text
     ensures { Wrote buf.old t (snake_from true name.now) buf.new result }
 {
     let mut t = t;
-    let mut i = 0;
-    while i < name.len() {
-        t = snake_byte(name, i, t, buf);
-        i += 1;
+    for (i, b) in name.iter().enumerate() {
+        if i > 0 && is_uppercase(name, i) {
+            t = t.byte(buf, b'_');
+        }
+        t = t.byte(buf, b.to_ascii_lowercase());
     }
     t
 }
@@ -127,53 +75,30 @@ pub fn camel_to_snake_case(name: &[u8]) -> Snake
 }
 
 impl Snake {
-    // the name's length, at most the array's
-    fn size(self) -> usize
-        ensures { result ≡ min self.len 128 }
+    // the name
+    fn name(&self) -> &[u8]
+        ensures { result.now ≡ name_of self.now }
     {
-        let len = self.len;
-        if len < 128 { len } else { 128 }
+        &self.bytes[..self.len.min(128)]
     }
 
-    // the name
+    // the name, written
     pub fn write(self, t: Text, buf: &mut [u8]) -> Text
         ensures { Wrote buf.old t (name_of self) buf.new result }
     {
-        let len = self.size();
-        let bytes = self.bytes;
-        t.bytes(buf, &bytes[..len])
+        t.bytes(buf, self.name())
     }
 
-    // the name in capitals
+    // the name, written in capitals
     fn write_capitals(self, t: Text, buf: &mut [u8]) -> Text
         ensures { Wrote buf.old t (map to_ascii_uppercase (name_of self)) buf.new result }
     {
-        let len = self.size();
-        let bytes = self.bytes;
-        capitals(&bytes[..len], t, buf)
+        let mut t = t;
+        for b in self.name() {
+            t = t.byte(buf, b.to_ascii_uppercase());
+        }
+        t
     }
-
-    // whether the name is one of `RUST_KEYWORDS`
-    fn is_keyword(self) -> bool
-        ensures { result ≡ is_keyword (name_of self) }
-    {
-        let len = self.size();
-        let bytes = self.bytes;
-        is_keyword(&bytes[..len])
-    }
-}
-
-// A text in capitals.
-fn capitals(s: &[u8], t: Text, buf: &mut [u8]) -> Text
-    ensures { Wrote buf.old t (map to_ascii_uppercase s.now) buf.new result }
-{
-    let mut t = t;
-    let mut i = 0;
-    while i < s.len() {
-        t = t.byte(buf, to_ascii_uppercase(s[i]));
-        i += 1;
-    }
-    t
 }
 
 // A name in snake case.
@@ -198,11 +123,13 @@ pub fn module_name(name: &[u8], t: Text, buf: &mut [u8]) -> Text
     ensures { Wrote buf.old t (module_name name.now) buf.new result }
 {
     let snake = camel_to_snake_case(name);
-    let t = snake.write(t, buf);
-    if snake.is_keyword() {
-        return t.byte(buf, b'_');
+    let snake = snake.name();
+    let t = t.bytes(buf, snake);
+    if is_keyword(snake) {
+        t.byte(buf, b'_')
+    } else {
+        t
     }
-    t
 }
 
 // Makes it a promise of this crate that the name of a field is taken.

@@ -1,18 +1,19 @@
 -- Laws of what is found in an index: one turn of a search for an id, and that what is found for the id or the number of a node
 -- is that node's entry. By induction on the nodes. Assumes nothing.
-use mathlib.Core.Path.{◌≡◌, refl, ap, ◌∙◌}
-use mathlib.Core.Bool.{Bool, true, false}
+use mathlib.Core.Path.{◌≡◌, refl, sym, ap, subst, ◌∙◌}
+use mathlib.Core.Bool.{Bool, true, false, ◌||◌}
 use mathlib.Core.List.{List, [], ◌∷◌}
-use Rattle.std.specs.Prelude.{None, Some}
 use Prim.Native.Nat.{ℕ, zero, suc, ◌+◌, ◌-◌, ◌*◌, ◌/◌, ◌%◌, ◌<◌, ◌≤◌, min}
-use native.Mathlib.Numerals.{add-one, sub-one}
 use native.Mathlib.Decide.{dec_lt}
 use native.Mathlib.Omega.{arith}
 use borrow.Author.Tests.{eq-eqb, ne_eqb, lt-ltb, le-ltb}
-use lib.Dec.{eqb, ltb}
-use lib.ListN.{length, drop, get_or, drop_of_length-le}
-use lib.Seq.{drop-cons}
-use Rattle.text.specs.Bytes.{Str, cond}
+use lib.Dec.{eqb, ltb, lit<}
+use lib.ListN.{length, take, drop, get_or, drop_of_length-le, length-drop}
+use lib.Seq.{drop-drop, get_or-drop, get_or-take}
+use native.Mathlib.Nat.{add-zero}
+use Rattle.std.specs.List.{list_any, between}
+use Rattle.std.proofs.lemmas.Slice.{between_to_end}
+use Rattle.text.specs.Bytes.{Str, cond, either}
 use Rattle.row.specs.Rows.{rows}
 use Rattle.tree.specs.Read.{among}
 use Rattle.tree.specs.Tree.{Node}
@@ -20,59 +21,97 @@ use Rattle.tree.proofs.OtherLines.{never}
 use Rattle.nodes.specs.Index.{entry_at, by_id, nth, lookup_from, lookup, entry_with, EntryIs, Entries, Indexed, Finds}
 use Rattle.nodes.specs.Index.{mark_every, names_of, rows_after, NameAt, parameter_rows}
 use Rattle.nodes.specs.declared.Entry.{Entry}
-use Rattle.nodes.specs.declared.Found.TheVariants.{At, Nothing}
-use Rattle.nodes.specs.declared.Position.{Position}
-use Rattle.nodes.specs.declared.Position.TheVariants as position
+use Rattle.std.specs.Prelude.{Option, Some, None}
 use Rattle.nodes.proofs.NameLaws.{names_out, name-after, name-past}
 
 -- ---- the search for an id
 
--- among ids
+-- among ids, as the slice's own test says it
+pub among-any : (id : ℕ) (ids : List ℕ) → list_any (λ (y : ℕ). eqb y id) ids ≡ among id ids
+unfolding among
+among-any id [] = refl
+among-any id (x ∷ ids) = rw (among-any id ids) (go (eqb x id))
+  where
+    go : (t : Bool) → (t || among id ids) ≡ either t (among id ids)
+    go true = refl
+    go false = refl
+
 pub among_out : (id : ℕ) (ids : List ℕ) (i : ℕ) → length ids ≤ i → among id (drop i ids) ≡ false
 unfolding among
 among_out id ids i h = rw (drop_of_length-le ids h)
 
-pub among_hit : (id : ℕ) (ids : List ℕ) (i : ℕ) → i < length ids → get_or ids i 0 ≡ id → among id (drop i ids) ≡ true
-unfolding among
-among_hit id ids i h e = rw (drop-cons ids i 0 h, eq-eqb _ _ e)
+-- the numbers of an entry are the first twelve of those from its place on
+pub entry-taken : (index : List ℕ) (p : ℕ) → entry_at (take 12 (drop p index)) 0 ≡ entry_at index p
+entry-taken index p =
+    let at : (k : ℕ) → k < 12 → get_or (take 12 (drop p index)) k 0 ≡ get_or index (p + k) 0 =
+    λ k h. get_or-take 12 (drop p index) k 0 h ∙ get_or-drop p index k 0 in
+    rw (
+      at 0 (lit< tt),
+      at 1 (lit< tt),
+      at 2 (lit< tt),
+      at 3 (lit< tt),
+      at 4 (lit< tt),
+      at 5 (lit< tt),
+      at 6 (lit< tt),
+      at 7 (lit< tt),
+      at 8 (lit< tt),
+      at 9 (lit< tt),
+      at 10 (lit< tt),
+      at 11 (lit< tt),
+      add-zero p,
+    ) refl
 
-pub among-miss : (id : ℕ) (ids : List ℕ) (i : ℕ) → i < length ids → (get_or ids i 0 ≡ id → ⊥)
-    → among id (drop i ids) ≡ among id (drop (i + 1) ids)
-unfolding among
-among-miss id ids i h e = rw (drop-cons ids i 0 h, ne_eqb _ _ e, add-one)
-
-pub lookup-empty : (index : List ℕ) (id : ℕ) → length index ≡ 0 → Nothing ≡ lookup index id
+pub lookup-empty : (index : List ℕ) (id : ℕ) → length index ≡ 0 → None ≡ lookup index id
 unfolding lookup_from
 lookup-empty [] id h = refl
 lookup-empty (x ∷ index) id h = let z : ⊥ = omega arith in absurd z
 
-module _ (index : List ℕ) (id left p : ℕ) where
-  pub lookup-none : left ≤ 0 → lookup_from index id left p ≡ Nothing
+-- one turn of the search, at the entry with the number i of n
+module _ (index : List ℕ) (id n i : ℕ) where
+  pub lookup-none : n ≤ i → lookup_from index id (n - i) (1 + 12 * i) ≡ None
   unfolding lookup_from
-  lookup-none h = let z : left ≡ 0 = omega arith in rw z
+  lookup-none h = let z : n - i ≡ 0 = omega arith in rw z
 
-  lookup-turn :
-      0 < left
-      → lookup_from index id left p ≡ cond (ltb (length index) (p + 12)) Nothing
-      (cond (eqb (get_or index p 0) id) (At (entry_at index p)) (lookup_from index id (left - 1) (p + 12)))
-  unfolding lookup_from
-  lookup-turn h = go left h
-    where
-      go : (left : ℕ) → 0 < left
-          → lookup_from index id left p ≡ cond (ltb (length index) (p + 12)) Nothing
-          (cond (eqb (get_or index p 0) id) (At (entry_at index p)) (lookup_from index id (left - 1) (p + 12)))
-      go zero h = let z : ⊥ = omega arith in absurd z
-      go (suc left) h = rw (sub-one (suc left))
+  module _ (h : i < n) where
+    lookup-turn :
+        lookup_from index id (n - i) (1 + 12 * i)
+        ≡ cond (ltb (length index) (1 + 12 * i + 12)) None
+        (cond (eqb (get_or index (1 + 12 * i) 0) id) (Some (entry_at index (1 + 12 * i)))
+        (lookup_from index id (n - (i + 1)) (1 + 12 * (i + 1))))
+    unfolding lookup_from
+    lookup-turn =
+        let z : n - i ≡ suc (n - (i + 1)) = omega arith in
+        let p : 1 + 12 * (i + 1) ≡ 1 + 12 * i + 12 = omega arith in
+        rw (z, p)
 
-  pub lookup_out : 0 < left → length index < p + 12 → lookup_from index id left p ≡ Nothing
-  lookup_out h o = lookup-turn h ∙ rw (lt-ltb (length index) (p + 12) o)
+    pub lookup_out : length (drop (1 + 12 * i) index) < 12 → lookup_from index id (n - i) (1 + 12 * i) ≡ None
+    lookup_out o =
+        lookup-turn ∙ rw (lt-ltb (length index) (1 + 12 * i + 12) (omega (arith, length-drop (1 + 12 * i) index)))
 
-  module _ (h : 0 < left) (fits : p + 12 ≤ length index) where
-    pub lookup-hit : get_or index p 0 ≡ id → lookup_from index id left p ≡ At (entry_at index p)
-    lookup-hit e = lookup-turn h ∙ rw (le-ltb (length index) (p + 12) fits, eq-eqb (get_or index p 0) id e)
+    module _ (fits : 12 ≤ length (drop (1 + 12 * i) index)) where
+      fits-index : 1 + 12 * i + 12 ≤ length index
+      fits-index = omega (arith, length-drop (1 + 12 * i) index)
 
-    pub lookup-miss : (get_or index p 0 ≡ id → ⊥) → lookup_from index id left p ≡ lookup_from index id (left - 1) (p + 12)
-    lookup-miss e = lookup-turn h ∙ rw (le-ltb (length index) (p + 12) fits, ne_eqb (get_or index p 0) id e)
+      pub lookup-hit :
+          get_or (take 12 (drop (1 + 12 * i) index)) 0 0 ≡ id
+          → lookup_from index id (n - i) (1 + 12 * i) ≡ Some (entry_at (take 12 (drop (1 + 12 * i) index)) 0)
+      lookup-hit e =
+          lookup-turn
+          ∙ rw (
+            le-ltb (length index) (1 + 12 * i + 12) fits-index,
+            eq-eqb (get_or index (1 + 12 * i) 0) id (ap (λ (x : Entry). x.id) (sym (entry-taken index (1 + 12 * i))) ∙ e),
+            entry-taken index (1 + 12 * i),
+          )
+
+      pub lookup-miss :
+          (get_or (take 12 (drop (1 + 12 * i) index)) 0 0 ≡ id → ⊥)
+          → lookup_from index id (n - i) (1 + 12 * i) ≡ lookup_from index id (n - (i + 1)) (1 + 12 * (i + 1))
+      lookup-miss e =
+          lookup-turn
+          ∙ rw (
+            le-ltb (length index) (1 + 12 * i + 12) fits-index,
+            ne_eqb (get_or index (1 + 12 * i) 0) id (λ x. e (ap (λ (x : Entry). x.id) (entry-taken index (1 + 12 * i)) ∙ x)),
+          )
 
 -- ---- what is found
 
@@ -87,7 +126,7 @@ found_from s index id p (n ∷ ns) x =
     (ap (λ (i : ℕ). eqb i id) x.1.id))
   where
     go : Finds s index (lookup_from index id (length ns) (p + 12)) (by_id id ns) → (t u : Bool) → t ≡ u
-        → Finds s index (cond t (At (entry_at index p)) (lookup_from index id (length ns) (p + 12)))
+        → Finds s index (cond t (Some (entry_at index p)) (lookup_from index id (length ns) (p + 12)))
         (cond u (Some n) (by_id id ns))
     go h true true e = x.1
     go h true false e = never cc
@@ -135,39 +174,55 @@ nth-is s ns index k x = go (dec_lt k (length ns))
         let l : min 64 (length ns) ≤ k = omega arith in
         rw (entry_with, x.count, le-ltb k (min 64 (length ns)) l, names_out k ns o) tt
 
--- ---- the entry with a number, as the code finds it
+-- ---- the entry with a number, as the code finds it: in an index of a count and more
 
-module _ (index : List ℕ) (k : ℕ) where
-  pub with_none : min 64 (get_or index 0 0) ≤ k → Nothing ≡ entry_with index k
-  unfolding entry_with
-  with_none h = rw (le-ltb k (min 64 (get_or index 0 0)) h)
+pub with_none : (index : List ℕ) (k : ℕ) → min 64 (get_or index 0 0) ≤ k → None ≡ entry_with index k
+unfolding entry_with
+with_none index k h = rw (le-ltb k (min 64 (get_or index 0 0)) h)
 
-  pub with-empty : length index ≡ 0 → Nothing ≡ entry_with index k
-  with-empty h = with_none (go index h)
-    where
-      go : (l : List ℕ) → length l ≡ 0 → min 64 (get_or l 0 0) ≤ k
-      go [] h = omega arith
-      go (x ∷ l) h = let z : ⊥ = omega arith in absurd z
+pub with-empty : (index : List ℕ) (k : ℕ) → length index ≡ 0 → None ≡ entry_with index k
+with-empty [] k h = with_none [] k (omega arith)
+with-empty (x ∷ index) k h = let z : ⊥ = omega arith in absurd z
 
-  module _ (h : k < min 64 (get_or index 0 0)) where
-    pub with_out : length index < 1 + 12 * k + 12 → Nothing ≡ entry_with index k
+module _ (index : List ℕ) (k n : ℕ) (rest : List ℕ) (is : index ≡ n ∷ rest) where
+  pub with-past : min 64 n ≤ k → None ≡ entry_with index k
+  with-past h = with_none index k (rw is h)
+
+  module _ (h : k < min 64 n) where
+    with-there : entry_with index k ≡ cond (ltb (length index) (1 + 12 * k + 12)) None (Some (entry_at index (1 + 12 * k)))
     unfolding entry_with
-    with_out o = rw (lt-ltb k (min 64 (get_or index 0 0)) h, lt-ltb (length index) (1 + 12 * k + 12) o)
+    with-there =
+        let z : get_or index 0 0 ≡ n = rw is in
+        rw (z, lt-ltb k (min 64 n) h)
 
-    pub with-entry : 1 + 12 * k + 12 ≤ length index → At (entry_at index (1 + 12 * k)) ≡ entry_with index k
-    unfolding entry_with
-    with-entry f = rw (lt-ltb k (min 64 (get_or index 0 0)) h, le-ltb (length index) (1 + 12 * k + 12) f)
+    pub with_out : length rest < 12 * k + 12 → None ≡ entry_with index k
+    with_out o = rw (with-there, lt-ltb (length index) (1 + 12 * k + 12) (omega (arith, ap length is)))
+
+    pub with-entry :
+        12 * k + 12 ≤ length rest → Some (entry_at (take 12 (between (12 * k) (length rest) rest)) 0) ≡ entry_with index k
+    with-entry f =
+        let d : between (12 * k) (length rest) rest ≡ drop (1 + 12 * k) index =
+        between_to_end rest (12 * k) (length rest) (omega arith)
+        ∙ subst (λ (l : List ℕ). drop (12 * k) rest ≡ drop (1 + 12 * k) l) (sym is) (drop-drop (12 * k) 1 (n ∷ rest)) in
+        rw (with-there, le-ltb (length index) (1 + 12 * k + 12) (omega (arith, ap length is)), d, entry-taken index (1 + 12 * k))
 
 -- ---- a parameter
 
+-- the mark with a number, as it is read
+pub mark-read :
+    (index marks : List ℕ) (m j q : ℕ) → m ≤ length index → marks ≡ between m (length index) index → q ≡ get_or marks j 0
+    → q ≡ get_or index (m + j) 0
+mark-read index marks m j q h is e =
+    e ∙ ap (λ (l : List ℕ). get_or l j 0) (is ∙ between_to_end index m (length index) (omega arith)) ∙ get_or-drop m index j 0
+
 module _ (s : Str) (index : List ℕ) (e : Entry) (k : ℕ) (n : Node) (x : EntryIs s index e n) where
-  pub parameter-none : e.count ≤ k → NameAt s position.Nothing k n.params
+  pub parameter-none : e.count ≤ k → NameAt s None k n.params
   parameter-none h = names_out k n.params (omega (arith, x.count))
 
   module _ (h : k < e.count) where
     -- one before the first mark is sought from the P rows' beginning
     pub parameter-first :
-        (q : ℕ) → rows (drop q s) ≡ rows_after k (rows (drop e.params s)) → NameAt s (position.At q) k n.params
+        (q : ℕ) → rows (drop q s) ≡ rows_after k (rows (drop e.params s)) → NameAt s (Some q) k n.params
     parameter-first q f =
         rw (f, ← x.params) (name-after k (rows (drop e.params s)) (omega (arith, x.count, ap length x.params)))
 
@@ -179,13 +234,13 @@ module _ (s : Str) (index : List ℕ) (e : Entry) (k : ℕ) (n : Node) (x : Entr
           ≡ drop (mark_every * suc (k / mark_every - 1)) n.params)
       marked = x.marks.each (k / mark_every - 1) (omega (arith, x.count))
 
-      pub parameter-out : (r : Position) → length index ≤ e.marks + (k / mark_every - 1) → NameAt s r k n.params
+      pub parameter-out : (r : Option ℕ) → length index ≤ e.marks + (k / mark_every - 1) → NameAt s r k n.params
       parameter-out r o = let z : ⊥ = omega (arith, marked.0) in absurd z
 
       pub parameter-marked :
           (q : ℕ)
           → rows (drop q s) ≡ rows_after (k % mark_every) (rows (drop (get_or index (e.marks + (k / mark_every - 1)) 0) s))
-          → NameAt s (position.At q) k n.params
+          → NameAt s (Some q) k n.params
       parameter-marked q f =
           let z : mark_every * suc (k / mark_every - 1) + k % mark_every ≡ k = omega arith in
           let p = name-past (mark_every * suc (k / mark_every - 1)) (k % mark_every) n.params

@@ -1,12 +1,11 @@
--- Laws of the P rows of a node: their names are what the reader of P rows reads, and after k rows stand the names but the first
--- k. By induction on the rows and the count. Assumes nothing.
+-- Laws of the P rows of a node: their names are what the reader of P rows reads, and after k rows stands the name with the
+-- number k. By induction on the rows and the count. Assumes nothing.
 use mathlib.Core.Path.{◌≡◌, refl, sym, ap, ◌∙◌}
 use mathlib.Core.Bool.{true, false}
 use mathlib.Core.List.{List, [], ◌∷◌}
 use Rattle.std.specs.Prelude.{Option, None, Some}
 use Prim.Native.Nat.{ℕ, zero, suc, ◌+◌, ◌-◌, ◌<◌, ◌≤◌}
 use native.Mathlib.Nat.{zero-add, suc-add}
-use native.Mathlib.Numerals.{sub-one}
 use native.Mathlib.Omega.{arith}
 use lib.ListN.{length, drop, length-drop}
 use Rattle.text.specs.Bytes.{Str}
@@ -88,15 +87,7 @@ names-first [] h = let z : ⊥ = omega (arith, ap length no_names) in absurd z
 names-first (r ∷ rs) h =
     names_by (λ l. 0 < length l → l ≡ text_of r ∷ names_of rs) r rs (λ e t. refl) (λ t. let z : ⊥ = omega arith in absurd z) h
 
--- after k rows stand the names but the first k
-pub names-after : (k : ℕ) (rs : Rows) → k ≤ length (names_of rs) → names_of (rows_after k rs) ≡ drop k (names_of rs)
-unfolding rows_after
-names-after zero rs h = refl
-names-after (suc k) rs h =
-    let e = names-first rs (omega arith) in
-    names-after k (rest_of rs) (omega (arith, ap length e)) ∙ sym (rw e)
-
--- the text of that row is the name with the number k
+-- the text of the row after k rows is the name with the number k
 pub name-after : (k : ℕ) (rs : Rows) → k < length (names_of rs) → nth k (names_of rs) ≡ Some (text_at (rows_after k rs))
 unfolding rows_after nth
 name-after zero rs h = rw (names-first rs h)
@@ -123,11 +114,10 @@ names_out k [] h = refl
 names_out zero (x ∷ l) h = let z : ⊥ = omega arith in absurd z
 names_out (suc k) (x ∷ l) h = names_out k l (omega arith)
 
--- one turn of passing over rows
-pub after_more : (k : ℕ) (rs : Rows) → 0 < k → rows_after k rs ≡ rows_after (k - 1) (rest_of rs)
+-- one turn of passing over n rows, after i of them
+pub after-turn : (n i : ℕ) (rs : Rows) → i < n → rows_after (n - i) rs ≡ rows_after (n - (i + 1)) (rest_of rs)
 unfolding rows_after
-after_more zero rs h = let z : ⊥ = omega arith in absurd z
-after_more (suc k) rs h = rw (sub-one (suc k))
+after-turn n i rs h = let z : n - i ≡ suc (n - (i + 1)) = omega arith in rw z
 
 pub after_none : (k : ℕ) (rs : Rows) → k ≤ 0 → rows_after k rs ≡ rs
 unfolding rows_after

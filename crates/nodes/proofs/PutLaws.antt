@@ -1,23 +1,16 @@
--- Laws of what is put into an index: an entry's twelve stores, and what stands where afterwards. Assumes nothing.
+-- Laws of what is put into an index: an entry's twelve numbers, and what stands where afterwards. Assumes nothing.
 use mathlib.Core.Path.{◌≡◌, refl, sym, ap, ◌∙◌}
 use mathlib.Core.List.{List, ◌++◌, append_assoc}
-use Prim.Native.Nat.{ℕ, suc, ◌+◌, ◌-◌, ◌<◌, ◌≤◌}
-use native.Mathlib.Nat.{add-zero, add-suc}
+use Prim.Native.Nat.{ℕ, ◌+◌, ◌-◌, ◌<◌, ◌≤◌}
+use native.Mathlib.Nat.{add-zero}
 use native.Mathlib.Decide.{dec_lt}
 use native.Mathlib.Omega.{arith}
 use borrow.Author.Tests.{lt-ltb, le-ltb}
-use lib.ListN.{length, take, drop, get_or, set, length-append, length-drop, get_or-append}
-use lib.Seq.{sets-eq, length-take-le, get_or-append-add, get_or-drop, get_or-take}
+use lib.ListN.{length, take, drop, get_or, length-append, length-drop, get_or-append}
+use borrow.Rule.Slice.PartMut.{put_mid}
+use lib.Seq.{drop-drop, length-take-le, get_or-append-add, get_or-drop, get_or-take}
 use Rattle.nodes.specs.Index.{entry_at, numbers_of, with_entry}
 use Rattle.nodes.specs.declared.Entry.{Entry}
-
--- the stores one after the other
-abbrev stores : List ℕ → ℕ → Entry → List ℕ
-stores l p e =
-    set (set (set (set (set (set (set (set (set (set (set (set l p e.id)
-    (p + 1) e.parent) (p + 2) e.scope) (p + 3) e.is_struct) (p + 4) e.generic) (p + 5) e.tag_count)
-    (p + 6) e.tag_offset) (p + 7) e.at) (p + 8) e.params) (p + 9) e.count) (p + 10) e.marks)
-    (p + 11) e.fields
 
 module _ (l : List ℕ) (p : ℕ) (e : Entry) where
   pub put-none : length l < p + 12 → l ≡ with_entry l p e
@@ -29,20 +22,11 @@ module _ (l : List ℕ) (p : ℕ) (e : Entry) where
     unfolding with_entry
     with-entry = rw (le-ltb (length l) (p + 12) fits)
 
-    pub put_all : stores l p e ≡ with_entry l p e
+    -- as a write to this part of the index
+    pub put_all : put_mid p (p + 12 - p) l (numbers_of e) ≡ with_entry l p e
     put_all =
-        let a = add-suc p 0 ∙ ap suc (add-zero p) in
-        let b = add-suc p 1 ∙ ap suc a in
-        let c = add-suc p 2 ∙ ap suc b in
-        let d = add-suc p 3 ∙ ap suc c in
-        let f = add-suc p 4 ∙ ap suc d in
-        let g = add-suc p 5 ∙ ap suc f in
-        let h = add-suc p 6 ∙ ap suc g in
-        let i = add-suc p 7 ∙ ap suc h in
-        let j = add-suc p 8 ∙ ap suc i in
-        let k = add-suc p 9 ∙ ap suc j in
-        let m = add-suc p 10 ∙ ap suc k in
-        rw (a, b, c, d, f, g, h, i, j, k, m) (sets-eq (numbers_of e) l p fits) ∙ sym with-entry
+        let z : p + 12 - p ≡ 12 = omega arith in
+        rw (z, drop-drop 12 p l, with-entry, append_assoc (take p l) (numbers_of e) (drop (p + 12) l))
 
     head-length : length (take p l) ≡ p
     head-length = length-take-le p l (omega arith)

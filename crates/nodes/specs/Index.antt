@@ -10,10 +10,7 @@ use Rattle.tree.specs.Tree.{Node, Sheet}
 use Rattle.tree.specs.Reader.{Rows}
 use Rattle.tree.specs.Fields.{FieldsHere}
 use Rattle.nodes.specs.declared.Entry.{Entry}
-use Rattle.nodes.specs.declared.Found.{Found}
-use Rattle.nodes.specs.declared.Found.TheVariants.{At, Nothing}
-use Rattle.nodes.specs.declared.Position.{Position}
-use Rattle.nodes.specs.declared.Position.TheVariants as position
+use Rattle.nodes.specs.declared.Source.{Source}
 
 -- how many numbers an entry has
 abbrev pub entry_size : ℕ
@@ -86,21 +83,21 @@ rows_after zero rs = rs
 rows_after (suc n) rs = rows_after n (rest_of rs)
 
 -- the first of so many entries from a place on that has an id, as far as the index reaches
-unfoldable pub lookup_from : List ℕ → ℕ → ℕ → ℕ → Found
-lookup_from index id zero p = Nothing
+unfoldable pub lookup_from : List ℕ → ℕ → ℕ → ℕ → Option Entry
+lookup_from index id zero p = None
 lookup_from index id (suc left) p =
-    cond (ltb (length index) (p + entry_size)) Nothing
-    (cond (eqb (get_or index p 0) id) (At (entry_at index p)) (lookup_from index id left (p + entry_size)))
+    cond (ltb (length index) (p + entry_size)) None
+    (cond (eqb (get_or index p 0) id) (Some (entry_at index p)) (lookup_from index id left (p + entry_size)))
 
-abbrev pub lookup : List ℕ → ℕ → Found
+abbrev pub lookup : List ℕ → ℕ → Option Entry
 lookup index id = lookup_from index id (get_or index 0 0) 1
 
 -- the entry with a number, from 0, as far as the index reaches; there are at most 64
-unfoldable pub entry_with : List ℕ → ℕ → Found
+unfoldable pub entry_with : List ℕ → ℕ → Option Entry
 entry_with index k =
     cond (ltb k (min 64 (get_or index 0 0)))
-    (cond (ltb (length index) (1 + entry_size * k + entry_size)) Nothing (At (entry_at index (1 + entry_size * k))))
-    Nothing
+    (cond (ltb (length index) (1 + entry_size * k + entry_size)) None (Some (entry_at index (1 + entry_size * k))))
+    None
 
 -- where each parameter stands that has a mark: the marks from a place of the index on
 pub record Marked (s : Str) (index : List ℕ) (marks : ℕ) (names : List Str) : Type 0 where
@@ -137,21 +134,21 @@ pub record Indexed (s : Str) (ns : List Node) (index : List ℕ) : Type 0 where
   pub entries : Entries s index 1 ns
 
 -- an entry that was looked for is that of the node, and there is none where there is no node
-abbrev pub Finds : Str → List ℕ → Found → Option Node → Type 0
-Finds s index (At e) (Some n) = EntryIs s index e n
-Finds s index (At e) None = ⊥
-Finds s index Nothing (Some n) = ⊥
-Finds s index Nothing None = Unit {0}
+abbrev pub Finds : Str → List ℕ → Option Entry → Option Node → Type 0
+Finds s index (Some e) (Some n) = EntryIs s index e n
+Finds s index (Some e) None = ⊥
+Finds s index None (Some n) = ⊥
+Finds s index None None = Unit {0}
 
 -- the text at a position that was found is the name with a number, from 0; no position stands for none
-abbrev pub NameAt : Str → Position → ℕ → List Str → Type 0
-NameAt s (position.At q) k names = nth k names ≡ Some (text_at (rows (drop q s)))
-NameAt s position.Nothing k names = nth k names ≡ None
+abbrev pub NameAt : Str → Option ℕ → ℕ → List Str → Type 0
+NameAt s (Some q) k names = nth k names ≡ Some (text_at (rows (drop q s)))
+NameAt s None k names = nth k names ≡ None
 
 -- the rows that a position stands for, if there is one
-abbrev pub rows_there : Str → Position → Option Rows
-rows_there s (position.At q) = Some (rows (drop q s))
-rows_there s position.Nothing = None
+abbrev pub rows_there : Str → Option ℕ → Option Rows
+rows_there s (Some q) = Some (rows (drop q s))
+rows_there s None = None
 
 -- the rows from the P row of an entry's parameter with a number, from 0, on: one before the first mark is counted from the
 -- first P row, any other from the last mark before it, if the index has that mark
@@ -170,3 +167,13 @@ sheet_of root ns = record { root = root; nodes = ns }
 -- in every sheet with this root whose nodes the index has
 abbrev pub ForAll : Str → Str → List ℕ → (Sheet → Type 0) → Type 0
 ForAll root s index P = (ns : List Node) → Indexed s ns index → P (sheet_of root ns)
+
+-- the same, of a sheet with its index
+abbrev pub InSource : Source → (Sheet → Type 0) → Type 0
+InSource x P = ForAll x.root.now x.bytes.now x.index.now P
+
+-- a source of these bytes and this index: its root is the text of the first row
+pub record IsSource (s index : List ℕ) (x : Source) : Type 0 where
+  pub root-is : x.root.now ≡ text_at (rows s)
+  pub bytes-are : x.bytes.now ≡ s
+  pub index-is : x.index.now ≡ index

@@ -1,7 +1,6 @@
 // The program `pad`: reads from standard input a sheet that is written by hand, and prints it with its numbers in their columns.
 #![tactic(auto)]
 
-use programs::Input;
 use std::io::{self, Print};
 use text::Text;
 
@@ -26,7 +25,7 @@ fn print_padded(rt: &HostRuntime, short: &[u8]) -> io::Result<()> {
 fn main(rt: HostRuntime) -> io::Result<()> {
     // One byte more than a sheet may have: a longer one is then known to be longer.
     let mut short = [0u8; 65537];
-    let Input::Bytes(n) = programs::read_input(&rt, &mut short) else {
+    let Ok(n) = programs::read_input(&rt, &mut short) else {
         return rt.stderr().write_all(b"pad: cannot read standard input\n");
     };
     if 65536 < n {

@@ -1,13 +1,16 @@
 -- Laws for the loops: what stands from a position on, by the byte there, and a turn's word or row. Assumes nothing.
-use mathlib.Core.Path.{◌≡◌, refl, sym, ap, ◌∙◌}
+use mathlib.Core.Path.{◌≡◌, refl, ap, ◌∙◌}
 use mathlib.Core.List.{[], ◌∷◌, ◌++◌}
-use Prim.Native.Nat.{ℕ, zero, suc, ◌+◌, ◌-◌, ◌≤◌, ◌<◌}
+use Prim.Native.Nat.{ℕ, suc, ◌+◌, ◌-◌, ◌≤◌, ◌<◌}
 use native.Mathlib.Omega.{arith}
-use native.Mathlib.Numerals.{add-one}
-use lib.ListN.{length, get_or, take, drop, replicate, drop_of_length-le}
-use lib.Seq.{drop-cons, drop-drop, take_all}
-use borrow.Author.Tests.{eq-eqb, ne_eqb}
-use Rattle.text.specs.Bytes.{Str, unit}
+use lib.ListN.{length, get_or, take, drop, replicate, length-drop}
+use lib.Seq.{take_all}
+use Rattle.std.specs.List.{prefix_len, take_while}
+use Rattle.std.proofs.lemmas.List.Folds.{length-prefix_len}
+use mathlib.Core.Bool as bool
+use mathlib.Core.Bool.{Bool, true, false, not, ◌&&◌}
+use Rattle.std.specs.Prelude.{◌==◌}
+use Rattle.text.specs.Bytes.{Str, unit, either}
 use Rattle.text.specs.Text.{put, adv, Wrote}
 use Rattle.text.specs.declared.Text.{Text}
 use Rattle.text.proofs.Laws.{Left}
@@ -24,36 +27,41 @@ left-last f w = record { bytes = w.bytes ∙ f.bytes; state = w.state ∙ f.stat
 pub wrote_as : {l : Str} {t : Text} {a b l₁ : Str} {t₁ : Text} → a ≡ b → Wrote l t a l₁ t₁ → Wrote l t b l₁ t₁
 wrote_as e w = rw (← e) w
 
--- ---- spaces and words from a position on
+-- ---- spaces and words in front, as the code counts them
 
-module _ (r : Str) (i : ℕ) (h : i < length r) where
-  pub space_more : get_or r i 0 ≡ 32 → space_len (drop i r) ≡ suc (space_len (drop (i + 1) r))
-  unfolding space_len
-  space_more e = rw (add-one, drop-cons r i 0 h, space_len, eq-eqb (get_or r i 0) 32 e)
+-- what is counted while a test holds
+counted_while : (p : ℕ → Bool) (t : Str) (n : ℕ) → prefix_len p t ≡ n → length (take_while p t) ≡ n
+counted_while p t n e = length-prefix_len p t ∙ e
 
-  pub space_stop : (get_or r i 0 ≡ 32 → ⊥) → space_len (drop i r) ≡ 0
-  unfolding space_len
-  space_stop e = rw (drop-cons r i 0 h, space_len, ne_eqb (get_or r i 0) 32 e)
-
-  pub word_space : get_or r i 0 ≡ 32 → word_len (drop i r) ≡ 0
-  unfolding word_len
-  word_space e = rw (drop-cons r i 0 h, word_len, eq-eqb (get_or r i 0) 32 e)
-
-  pub word_line : (get_or r i 0 ≡ 32 → ⊥) → get_or r i 0 ≡ 10 → word_len (drop i r) ≡ 0
-  unfolding word_len
-  word_line n e = rw (drop-cons r i 0 h, word_len, ne_eqb (get_or r i 0) 32 n, eq-eqb (get_or r i 0) 10 e)
-
-  pub word_more : (get_or r i 0 ≡ 32 → ⊥) → (get_or r i 0 ≡ 10 → ⊥) → word_len (drop i r) ≡ suc (word_len (drop (i + 1) r))
-  unfolding word_len
-  word_more n e = rw (add-one, drop-cons r i 0 h, word_len, ne_eqb (get_or r i 0) 32 n, ne_eqb (get_or r i 0) 10 e)
-
-pub space_end : (r : Str) (i : ℕ) → length r ≤ i → space_len (drop i r) ≡ 0
+space_prefix : (t : Str) → prefix_len (λ (b : ℕ). b == 32) t ≡ space_len t
 unfolding space_len
-space_end r i h = rw (drop_of_length-le r h)
+space_prefix [] = refl
+space_prefix (b ∷ t) = go (b == 32) (space_prefix t)
+  where
+    go : (e : Bool) → prefix_len (λ (c : ℕ). c == 32) t ≡ space_len t
+        → bool.cond e (1 + prefix_len (λ (c : ℕ). c == 32) t) 0 ≡ elim e [ true ↦ suc (space_len t) | false ↦ 0 ]
+    go true f = omega (arith, f)
+    go false f = refl
 
-pub word_end : (r : Str) (i : ℕ) → length r ≤ i → word_len (drop i r) ≡ 0
+abbrev in_word : ℕ → Bool
+in_word b = not (b == 32) && not (b == 10)
+
+word_prefix : (t : Str) → prefix_len in_word t ≡ word_len t
 unfolding word_len
-word_end r i h = rw (drop_of_length-le r h)
+word_prefix [] = refl
+word_prefix (b ∷ t) = go (b == 32) (b == 10) (word_prefix t)
+  where
+    go : (d e : Bool) → prefix_len in_word t ≡ word_len t
+        → bool.cond (not d && not e) (1 + prefix_len in_word t) 0 ≡ elim (either d e) [ true ↦ 0 | false ↦ suc (word_len t) ]
+    go true e f = refl
+    go false true f = refl
+    go false false f = omega (arith, f)
+
+pub spaces-counted : (t : Str) → length (take_while (λ (b : ℕ). b == 32) t) ≡ space_len t
+spaces-counted t = counted_while (λ (b : ℕ). b == 32) t (space_len t) (space_prefix t)
+
+pub word-counted : (t : Str) → length (take_while (λ (b : ℕ). not (b == 32) && not (b == 10)) t) ≡ word_len t
+word-counted t = counted_while in_word t (word_len t) (word_prefix t)
 
 -- ---- a word in its columns
 
@@ -66,38 +74,32 @@ spaces-none n w h = let e : 21 - n ≡ 0 = omega arith in rw e
 
 -- ---- a turn over words
 
-module _ (r : Str) (at start : ℕ) (starts : start ≡ at + space_len (drop at r)) where
-  past : drop (space_len (drop at r)) (drop at r) ≡ drop start r
-  past = drop-drop (space_len (drop at r)) at r ∙ ap (λ (k : ℕ). drop k r) (sym starts)
+-- a slice from a place on
+abbrev pub from : ℕ → Str → Str
+from n t = take (length t - n) (drop n t)
 
+from-drop : (n : ℕ) (t : Str) → from n t ≡ drop n t
+from-drop n t = take_all (length t - n) (drop n t) (rw length-drop (omega arith))
+
+-- s spaces stand in front of the next word, which has n bytes
+module _ (t : Str) (s n : ℕ) (spaces : s ≡ length (take_while (λ (b : ℕ). b == 32) t))
+    (bytes : n ≡ length (take_while (λ (b : ℕ). not (b == 32) && not (b == 10)) (from s t))) where
   -- the next word in its columns, and those after it
-  pub words-turn :
-      (left end : ℕ) → 0 < left → end ≡ start + word_len (drop start r)
-      → words_padded left (drop at r)
-      ≡ right_justified (take (end - start) (drop start r)) ++ words_padded (left - 1) (drop end r)
+  pub words-turn : (count done : ℕ) → done < count
+      → words_padded (count - done) t
+      ≡ right_justified (take n (from s t)) ++ words_padded (count - (done + 1)) (from n (from s t))
   unfolding words_padded
-  words-turn zero end l ends = let z : ⊥ = omega arith in absurd z
-  words-turn (suc n) end l ends =
-      let size : end - start ≡ word_len (drop start r) = omega arith in
-      let fewer : suc n - 1 ≡ n = omega arith in
-      let after : drop (word_len (drop start r)) (drop start r) ≡ drop end r =
-      drop-drop (word_len (drop start r)) start r ∙ ap (λ (k : ℕ). drop k r) (sym ends) in
-      ap (λ (u : Str). right_justified (take (word_len u) u) ++ words_padded n (drop (word_len u) u)) past
-      ∙ ap (λ (u : Str). right_justified (take (word_len (drop start r)) (drop start r)) ++ words_padded n u) after
-      ∙ rw (size, fewer)
+  words-turn count done h =
+      let e : count - done ≡ suc (count - (done + 1)) = omega arith in
+      let a : from s t ≡ drop (space_len t) t = from-drop s t ∙ ap (λ (k : ℕ). drop k t) (spaces ∙ spaces-counted t) in
+      let k : n ≡ word_len (drop (space_len t) t) = bytes ∙ word-counted (from s t) ∙ ap word_len a in
+      rw (e, words_padded, from-drop n (from s t), a, k)
 
-  -- the rest, where spaces stand in front of it and where none do
-  pub rest-spaced : (left : ℕ) → left ≡ 0 → at < start → words_padded left (drop at r) ≡ drop (start - 1) r
-  unfolding words_padded
-  rest-spaced left none h =
-      let e : at + (space_len (drop at r) - 1) ≡ start - 1 = omega arith in
-      ap (λ (k : ℕ). words_padded k (drop at r)) none ∙ drop-drop (space_len (drop at r) - 1) at r ∙ ap (λ (k : ℕ). drop k r) e
-
-  pub rest_bare : (left : ℕ) → left ≡ 0 → start ≤ at → words_padded left (drop at r) ≡ drop at r
-  unfolding words_padded
-  rest_bare left none h =
-      let e : space_len (drop at r) - 1 ≡ 0 = omega arith in
-      ap (λ (k : ℕ). words_padded k (drop at r)) none ∙ ap (λ (k : ℕ). drop k (drop at r)) e
+-- the rest, of whose spaces in front one is kept
+pub words-rest : (t : Str) (s : ℕ) → s ≡ length (take_while (λ (b : ℕ). b == 32) t) → (left : ℕ) → left ≡ 0
+    → words_padded left t ≡ from (s - 1) t
+unfolding words_padded
+words-rest t s spaces left e = rw (e, words_padded, from-drop (s - 1) t, spaces ∙ spaces-counted t)
 
 -- ---- rows
 

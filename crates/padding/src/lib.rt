@@ -2,9 +2,9 @@
 // columns. `claims` does nothing: its contract is what this does to sheets.
 #![tactic(auto)]
 
-ghost use Rattle.std.specs.Prelude.{◌≡◌, ◌+◌, ◌≤◌, length, drop};
+ghost use Rattle.std.specs.Prelude.{◌≡◌, ◌==◌, ◌&&◌, not, take_while, length};
 ghost use Rattle.text.specs.Text.{Wrote};
-ghost use Rattle.padding.specs.Padded.{number_count, space_len, word_len, right_justified, words_padded, padded_row, padded_text};
+ghost use Rattle.padding.specs.Padded.{number_count, right_justified, words_padded, padded_row, padded_text};
 ghost use Rattle.padding.specs.Claims.{PadsShortHolds, KeepsPaddedHolds};
 
 use text::Text;
@@ -13,6 +13,7 @@ use text::Text;
 const COLUMNS: usize = 21;
 
 // How many numbers a line with a letter has.
+#[tactic(auto, unfolding(crate::specs::Padded::number_count))]
 fn number_count(letter: u8) -> usize
     ensures { result ≡ number_count letter }
 {
@@ -28,39 +29,18 @@ fn number_count(letter: u8) -> usize
     }
 }
 
-// The position of the first byte at or after `from` that is no space.
-fn past_spaces(r: &[u8], from: usize) -> usize
-    requires { from ≤ length r.now }
-    ensures upper_bound { result ≤ length r.now }
-    ensures value { result ≡ from + space_len (drop from r.now) }
+// How many spaces stand in front.
+fn space_len(t: &[u8]) -> usize
+    ensures { result ≡ length (take_while (λ b. b == 32) t.now) }
 {
-    let mut i = from;
-    while i < r.len() {
-        if r[i] != b' ' {
-            return i;
-        }
-        i += 1;
-    }
-    i
+    t.iter().take_while(|&&b| b == b' ').count()
 }
 
-// The position of the first space or byte 10 at or after `from`.
-fn word_end(r: &[u8], from: usize) -> usize
-    requires { from ≤ length r.now }
-    ensures upper_bound { result ≤ length r.now }
-    ensures value { result ≡ from + word_len (drop from r.now) }
+// How many bytes stand in front of the first space or byte 10.
+fn word_len(t: &[u8]) -> usize
+    ensures { result ≡ length (take_while (λ b. not (b == 32) && not (b == 10)) t.now) }
 {
-    let mut i = from;
-    while i < r.len() {
-        if r[i] == b' ' {
-            return i;
-        }
-        if r[i] == b'\n' {
-            return i;
-        }
-        i += 1;
-    }
-    i
+    t.iter().take_while(|&&b| b != b' ' && b != b'\n').count()
 }
 
 // A word at the end of its columns.
@@ -68,10 +48,8 @@ fn right_justified(w: &[u8], t: Text, buf: &mut [u8]) -> Text
     ensures { Wrote buf.old t (right_justified w.now) buf.new result }
 {
     let mut out = t;
-    let mut n = w.len();
-    while n < COLUMNS {
+    for _ in w.len()..COLUMNS {
         out = out.byte(buf, b' ');
-        n += 1;
     }
     out.bytes(buf, w)
 }
@@ -81,37 +59,32 @@ fn words_padded(r: &[u8], count: usize, t: Text, buf: &mut [u8]) -> Text
     ensures { Wrote buf.old t (words_padded count r.now) buf.new result }
 {
     let mut out = t;
-    let mut at = 0;
-    let mut left = count;
-    while left > 0 {
-        let start = past_spaces(r, at);
-        at = word_end(r, start);
-        out = right_justified(&r[start..at], out, buf);
-        left -= 1;
+    let mut rest = r;
+    for _ in 0..count {
+        let word = &rest[space_len(rest)..];
+        let len = word_len(word);
+        out = right_justified(&word[..len], out, buf);
+        rest = &word[len..];
     }
-    let start = past_spaces(r, at);
-    if at < start {
-        return out.bytes(buf, &r[start - 1..]);
-    }
-    out.bytes(buf, &r[at..])
+    out.bytes(buf, &rest[space_len(rest).saturating_sub(1)..])
 }
 
 // A row.
 fn pad_row(r: &[u8], t: Text, buf: &mut [u8]) -> Text
     ensures { Wrote buf.old t (padded_row r.now) buf.new result }
 {
-    if r.len() == 0 {
+    let [letter, rest @ ..] = r else {
         return t;
-    }
-    let letter = r[0];
-    let out = t.byte(buf, letter);
-    words_padded(&r[1..], number_count(letter), out, buf)
+    };
+    let out = t.byte(buf, *letter);
+    words_padded(rest, number_count(*letter), out, buf)
 }
 
 // The sheet that a text says.
 pub fn pad(s: &[u8], t: Text, buf: &mut [u8]) -> Text
     ensures { Wrote buf.old t (padded_text s.now) buf.new result }
 {
+    // `row_end` finds byte 10 eight bytes at a time, which no iterator of std does.
     let mut out = t;
     let mut at = 0;
     while at < s.len() {

@@ -3,6 +3,8 @@
 use mathlib.Core.Path.{◌≡◌, refl}
 use mathlib.Core.Bool.{Bool, true, false}
 use mathlib.Core.List.{List, [], ◌∷◌}
+use Rattle.std.specs.Prelude.{Option, None, Some}
+use Rattle.nodes.specs.declared.Source.{Source}
 use Prim.Native.Nat.{ℕ, ◌+◌, ◌*◌, ◌≤◌}
 use native.Mathlib.Nat.{le_trans, mul-le-mul_right}
 use native.Mathlib.Omega.{arith}
@@ -28,8 +30,6 @@ use Rattle.field.specs.declared.Field.TheVariants as field_is
 use Rattle.parts.specs.Program.{parts_from, parts_of, field_text}
 use Rattle.parts.specs.Fit.{part_most, unit_most, TakesAtMost, PartsPut, FieldPut}
 use Rattle.parts.specs.declared.Part.TheVariants.{GetterReader, Zero}
-use Rattle.parts.specs.declared.Fit.{Fit}
-use Rattle.parts.specs.declared.Fit.TheVariants.{Whole, Short}
 
 -- ---- its name
 
@@ -73,44 +73,44 @@ field-few rs f fs (more e h) = rw e at (read-few rs)
 unit-most : (k n : ℕ) → k ≤ 5 → n ≤ 64 → k * (n + 65554) ≤ unit_most
 unit-most k n h g = le_trans (mul-le-mul_right (n + 65554) h) (omega arith)
 
-fits_unit : (k : ℕ) (l : Str) (name : Str) (r : Fit) → k ≤ 5 → length name ≤ 64 → TakesAtMost (k * part_most name) l r
+fits_unit : (k : ℕ) (l : Str) (name : Str) (r : Option ℕ) → k ≤ 5 → length name ≤ 64 → TakesAtMost (k * part_most name) l r
     → TakesAtMost unit_most l r
-fits_unit k l name (Whole n) h g f = omega (arith, unit-most k (length name) h g)
-fits_unit k l name Short h g f = omega (arith, unit-most k (length name) h g)
+fits_unit k l name (Some n) h g f = omega (arith, unit-most k (length name) h g)
+fits_unit k l name None h g f = omega (arith, unit-most k (length name) h g)
 
-module _ (root s index : List ℕ) (tag : ℕ) (name l l' : Str) (r : Fit) where
+module _ (x : Source) (tag : ℕ) (name l l' : Str) (r : Option ℕ) where
   -- what is known of a slot's name and of its parts from the first on
   pub slot-unit :
-      (sl : code.Slot) → ((f : SlotField) → SlotHere s sl f → name ≡ f.name)
+      (sl : code.Slot) → ((f : SlotField) → SlotHere x.bytes.now sl f → name ≡ f.name)
       → TakesAtMost (length (parts_from GetterReader) * part_most name) l r
-      → PartsPut root s index tag (field_is.Slot sl) name GetterReader l' r
-      → FieldPut root s index tag (field_is.Slot sl) l l' r
+      → PartsPut x tag (field_is.Slot sl) name GetterReader l' r
+      → FieldPut x tag (field_is.Slot sl) l l' r
   unfolding field_text
-  slot-unit sl named fits put ns x at tag-is is few =
+  slot-unit sl named fits put ns i₀ at tag-is is few =
       let (i, parts) = go at.1.arm is in (
         fits_unit 5 l name r (omega arith) (rw i few) fits,
-        rw parts (put ns x at (record { tag-is = tag-is; field_is = is; name-is = i })),
+        rw parts (put ns i₀ at (record { tag-is = tag-is; field_is = is; name-is = i })),
       )
     where
-      go : (arm : Arm) → SlotIn s sl at.1.name at.1.discriminant arm
+      go : (arm : Arm) → SlotIn x.bytes.now sl at.1.name at.1.discriminant arm
           → (name ≡ at.1.name) × (parts_of arm ≡ parts_from GetterReader)
       go (slot t) h = (named _ h, refl)
       go (group id) h = absurd h
 
   -- and of a group's
   pub group-unit :
-      (g : Group) → ((n : Str) (d id : ℕ) → GroupHere s g n d id → name ≡ n)
+      (g : Group) → ((n : Str) (d id : ℕ) → GroupHere x.bytes.now g n d id → name ≡ n)
       → TakesAtMost (length (parts_from Zero) * part_most name) l r
-      → PartsPut root s index tag (field_is.Group g) name Zero l' r
-      → FieldPut root s index tag (field_is.Group g) l l' r
+      → PartsPut x tag (field_is.Group g) name Zero l' r
+      → FieldPut x tag (field_is.Group g) l l' r
   unfolding field_text
-  group-unit g named fits put ns x at tag-is is few =
+  group-unit g named fits put ns i₀ at tag-is is few =
       let (i, parts) = go at.1.arm is in (
         fits_unit 1 l name r (omega arith) (rw i few) fits,
-        rw parts (put ns x at (record { tag-is = tag-is; field_is = is; name-is = i })),
+        rw parts (put ns i₀ at (record { tag-is = tag-is; field_is = is; name-is = i })),
       )
     where
-      go : (arm : Arm) → GroupIn s g at.1.name at.1.discriminant arm
+      go : (arm : Arm) → GroupIn x.bytes.now g at.1.name at.1.discriminant arm
           → (name ≡ at.1.name) × (parts_of arm ≡ parts_from Zero)
       go (slot t) h = absurd h
       go (group id) h = (named _ _ _ h, refl)

@@ -3,13 +3,13 @@
 use mathlib.Core.Path.{◌≡◌, refl, sym, ap, ◌∙◌}
 use mathlib.Core.Bool.{Bool, true, false}
 use mathlib.Core.List.{◌++◌}
-use Prim.Native.Nat.{ℕ, ◌+◌, ◌^◌, ◌≤◌, ◌<◌}
+use Rattle.std.specs.Prelude.{Option, None, Some}
+use Prim.Native.Nat.{ℕ, ◌+◌, ◌-◌, ◌^◌, ◌≤◌, ◌<◌}
 use native.Mathlib.Omega.{arith}
 use borrow.Author.Tests.{ltb-true, ltb-false}
 use lib.Dec.{ltb}
-use lib.ListN.{length, take, drop, length-append, length-drop}
+use lib.ListN.{length, take, drop, length-append, length-drop, length-take}
 use lib.Seq.{take_at, length-take-le, take-append-add, take-append-le}
-use Rattle.io.specs.Counts.{IsPrefixLen}
 use Rattle.text.specs.Bytes.{Str, cond}
 use Rattle.text.specs.Decimal.{decimal}
 use Rattle.text.specs.Text.{state_at, Wrote}
@@ -18,13 +18,11 @@ use Rattle.text.specs.declared.Text.{Text}
 use Rattle.text.proofs.Laws.{kept}
 use Rattle.text.proofs.Places.{put-placed}
 use Rattle.text.proofs.DecimalLaws.{decimal-length}
-pub use Rattle.requests.proofs.LentLaws.{text-end, lent, back, lent_length, before-kept}
+pub use Rattle.requests.proofs.LentLaws.{text-end, lent, back}
 use Rattle.parts.specs.Program.{opening, header_text, refused_text, refused_sheet_text}
-use Rattle.parts.specs.Fit.{fit_of, Within, TakesAtMost, Puts}
+use Rattle.parts.specs.Fit.{fit_of, TakesAtMost, Puts}
 use Rattle.parts.specs.declared.Part.{Part}
 use Rattle.parts.specs.declared.Part.TheVariants.{GetterReader, GetterBuilder, Setter, HaserReader, HaserBuilder, Zero}
-use Rattle.parts.specs.declared.Fit.{Fit}
-use Rattle.parts.specs.declared.Fit.TheVariants.{Whole, Short}
 
 -- ---- lengths
 
@@ -60,24 +58,17 @@ placed_first : (l w : Str) → take (length w) (placed l 0 w) ≡ w
 unfolding placed
 placed_first l w = take_at w (drop (0 + length w) l) (length w) refl
 
-pub taken-within : (n : ℕ) (l : Str) (r : Fit) → r ≡ fit_of n (length l) → Within r l
-taken-within n l r i = rw i (go (ltb (length l) n) refl)
-  where
-    go : (b : Bool) → ltb (length l) n ≡ b → Within (cond b Short (Whole n)) l
-    go true e = tt
-    go false e = ltb-false (length l) n e
-
-pub taken-most : (n : ℕ) (l : Str) (r : Fit) (most : ℕ) → n ≤ most → r ≡ fit_of n (length l) → TakesAtMost most l r
+pub taken-most : (n : ℕ) (l : Str) (r : Option ℕ) (most : ℕ) → n ≤ most → r ≡ fit_of n (length l) → TakesAtMost most l r
 taken-most n l r most h i = rw i (go (ltb (length l) n) refl)
   where
-    go : (b : Bool) → ltb (length l) n ≡ b → TakesAtMost most l (cond b Short (Whole n))
+    go : (b : Bool) → ltb (length l) n ≡ b → TakesAtMost most l (cond b None (Some n))
     go true f = omega (arith, ltb-true (length l) n f)
     go false f = h
 
 -- a buffer of the same length is as short
-pub fits-same : (most : ℕ) (l l₁ : Str) (r : Fit) → length l₁ ≡ length l → TakesAtMost most l₁ r → TakesAtMost most l r
-fits-same most l l₁ (Whole n) e f = f
-fits-same most l l₁ Short e f = omega (arith, e, f)
+pub fits-same : (most : ℕ) (l l₁ : Str) (r : Option ℕ) → length l₁ ≡ length l → TakesAtMost most l₁ r → TakesAtMost most l r
+fits-same most l l₁ (Some n) e f = f
+fits-same most l l₁ None e f = omega (arith, e, f)
 
 -- the text w, written from the start of l on
 module _ {l w l' : Str} {t₀ t : Text} (z : t₀ ≡ state_at 0) (e : Wrote l t₀ w l' t) where
@@ -87,30 +78,26 @@ module _ {l w l' : Str} {t₀ t : Text} (z : t₀ ≡ state_at 0) (e : Wrote l t
         let g : t.at ≡ length w = omega (arith, text-end z e) in
         rw (g, e.bytes, z, put-placed l 0 w (omega arith) (omega arith)) (placed_first l w)
 
-    pub taken-puts : (r : Fit) → r ≡ fit_of t.at (length l') → Puts w l' r
+    pub taken-puts : (r : Option ℕ) → r ≡ fit_of t.at (length l') → Puts w l' r
     taken-puts r i = rw i (go (ltb (length l') t.at) refl)
       where
-        go : (b : Bool) → ltb (length l') t.at ≡ b → Puts w l' (cond b Short (Whole t.at))
+        go : (b : Bool) → ltb (length l') t.at ≡ b → Puts w l' (cond b None (Some t.at))
         go true f = tt
         go false f = text-whole (omega (arith, kept e, ltb-false (length l') t.at f))
 
-  pub taken-fits : (most : ℕ) (r : Fit) → t.at ≤ most → r ≡ fit_of t.at (length l') → TakesAtMost most l r
+  pub taken-fits : (most : ℕ) (r : Option ℕ) → t.at ≤ most → r ≡ fit_of t.at (length l') → TakesAtMost most l r
   taken-fits most r h i = fits-same most l l' r (kept e) (taken-most t.at l' r most h i)
 
--- so many of a buffer's bytes
-pub counted : (n : ℕ) (l : Str) → n ≤ length l → IsPrefixLen n l
-counted n l h = (h, sym (length-take-le n l h))
-
 -- ---- a buffer of which the bytes from n on are lent
+
+pub lent_length : (l : Str) (n : ℕ) → length (lent l n) ≡ length l - n
+lent_length l n = length-take (length l - n) (drop n l) ∙ rw (length-drop n l) (omega arith)
 
 module _ (l l' : Str) (n : ℕ) (h : n ≤ length l) where
   pub back-length : length l' ≡ length (lent l n) → length (back l n l') ≡ length l
   back-length e =
       simp (length-append, length-take-le n l h, length-drop)
       (omega (arith, e, lent_length l n))
-
-  pub kept-within : n ≤ length (back l n l')
-  kept-within = simp length-append (omega (arith, length-take-le n l h))
 
   pub on-within : (m : ℕ) → m ≤ length l' → n + m ≤ length (back l n l')
   on-within m g = simp length-append (omega (arith, g, length-take-le n l h))

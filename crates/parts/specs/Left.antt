@@ -7,6 +7,7 @@ use Rattle.row.specs.Line.{text_at}
 use Rattle.tree.specs.Tree.{Field, Node, Sheet}
 use Rattle.tree.specs.Fields.{FieldsHere}
 use Rattle.nodes.specs.Index.{Indexed, nth, sheet_of}
+use Rattle.terms.specs.Refusals.{number}
 use Rattle.parts.specs.Program.{each_text, field_text, node_text, refused_sheet_text}
 use Rattle.parts.specs.declared.Place.{Place}
 use Rattle.parts.specs.declared.Place.TheVariants.{Refused, At, End}
@@ -29,7 +30,7 @@ pub record LeftAt (s index : List ℕ) (number q : ℕ) (text : Str) : Type 0 wh
 
 -- what is left to print at a place
 abbrev pub Left : (s index : List ℕ) → Place → Str → Type 0
-Left s index (Refused k line column) text = text ≡ refused_sheet_text k line column
+Left s index (Refused r) text = text ≡ refused_sheet_text (number r.refusal) r.line r.column
 Left s index (At number q) text = LeftAt s index number q text
 Left s index End text = text ≡ []
 

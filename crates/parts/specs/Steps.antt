@@ -1,6 +1,7 @@
 -- What the functions that print promise one another: where a node's fields begin, one turn, a piece, and what the printing over a
 -- buffer comes to. Only the code needs them: `PiecesHold` does not stand on them. Assumes nothing.
 use Rattle.std.specs.Prelude.{◌≡◌, List, ◌++◌, ℕ, ◌+◌, ◌-◌, ◌*◌, ◌≤◌, ◌<◌, length, take, drop}
+use Rattle.std.specs.Prelude.{Option, None, Some, Result, Ok, Err}
 use Rattle.text.specs.Bytes.{Str}
 use Rattle.row.specs.Rows.{rows}
 use Rattle.tree.specs.Tree.{Node}
@@ -9,17 +10,13 @@ use Rattle.nodes.specs.Index.{Indexed}
 use Rattle.parts.specs.Program.{each_text, node_text, program_text}
 use Rattle.parts.specs.Fit.{unit_most}
 use Rattle.parts.specs.Left.{sheet_in, Left, Gives}
-use Rattle.parts.specs.declared.Fit.{Fit}
-use Rattle.parts.specs.declared.Fit.TheVariants.{Whole, Short}
 use Rattle.parts.specs.declared.Place.{Place}
 use Rattle.parts.specs.declared.Place.TheVariants.{Refused, At, End}
 use Rattle.parts.specs.declared.Piece.{Piece}
-use Rattle.parts.specs.declared.Came.{Came}
-use Rattle.parts.specs.declared.Came.TheVariants.{To, Failed}
 
 -- a number that falls with each field and with each node
 abbrev pub most_left : Str → Place → ℕ
-most_left s (Refused k line column) = 1
+most_left s (Refused r) = 1
 most_left s (At number q) = (64 - number) * (length s + 2) + length (rows (drop q s)) + 1
 most_left s End = 0
 
@@ -30,9 +27,9 @@ pub record Enters (index : List ℕ) (number : ℕ) (place : Place) : Type 0 whe
   pub few : (s : Str) → most_left s place ≤ (65 - number) * (length s + 2)
 
 -- one turn at a place over the buffer l: what is taken is a piece; l is too short only if it has less than a unit has at most
-abbrev pub Turns : (s index : List ℕ) → Place → (l l' : Str) → Fit → Place → Type 0
-Turns s index place l l' (Whole n) next = Gives s index place (take n l') next
-Turns s index place l l' Short next = (text : Str) → Left s index place text → length l < unit_most
+abbrev pub Turns : (s index : List ℕ) → Place → (l l' : Str) → Option ℕ → Place → Type 0
+Turns s index place l l' (Some n) next = Gives s index place (take n l') next
+Turns s index place l l' None next = (text : Str) → Left s index place text → length l < unit_most
 
 -- the contract of a piece: it is what is left up to the next place; with a byte in it, less is left there; and over a buffer
 -- that holds a unit it has a byte, unless the next place is the end
@@ -50,6 +47,6 @@ pub record Reached (s index : List ℕ) (place : Place) : Type 0 where
 
 -- the contract of the printing over a buffer with so many bytes: it comes to a place of the sheet, and that is the end if the
 -- buffer holds a unit
-abbrev pub Comes : (s index : List ℕ) → ℕ → Came → Type 0
-Comes s index size (To place) = Reached s index place × (unit_most ≤ size → place ≡ End)
-Comes s index size Failed = Unit {0}
+abbrev pub Comes : {E : Type 0} → (s index : List ℕ) → ℕ → Result Place E → Type 0
+Comes s index size (Ok place) = Reached s index place × (unit_most ≤ size → place ≡ End)
+Comes s index size (Err e) = Unit {0}

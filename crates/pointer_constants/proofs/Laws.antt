@@ -2,13 +2,18 @@
 use mathlib.Core.Path.{◌≡◌, refl, sym, ap, ◌∙◌}
 use mathlib.Core.Bool.{true}
 use mathlib.Core.List.{List, [], ◌∷◌, ◌++◌, append_assoc}
-use Prim.Native.Nat.{ℕ, zero, suc, ◌-◌, ◌/◌, ◌%◌, ◌<◌, ◌≤◌}
-use native.Mathlib.Numerals.{sub-one}
+use Prim.Native.Nat.{ℕ, zero, suc, ◌+◌, ◌-◌, ◌/◌, ◌%◌, ◌^◌, ◌<◌, ◌≤◌}
 use native.Mathlib.Omega.{arith}
-use package.types.Run.{OneOf}
 use denote.Enum.Declared.{tag_of}
-use lib.ListN.{length}
+use native.Mathlib.Numerals.{add-one}
 use Rattle.row.specs.contracts.Line.{the_type}
+use lib.ListN.{length, take, drop, get_or}
+use Rattle.std.proofs.Math.ListN.{drop_of_length-le}
+use lib.Seq.{drop-cons}
+use Rattle.std.specs.Prelude.{Result, Ok, Err}
+use Rattle.std.specs.Int.{w64, bytes_low_first, to_le_bytes}
+use Rattle.std.proofs.Math.Nat.{div-div-eq-div-mul, pow-suc}
+use Rattle.row.specs.declared.BadLine.{BadLine}
 use Rattle.text.specs.Bytes.{Str, ascii, unit}
 use Rattle.text.specs.Decimal.{decimal}
 use Rattle.text.specs.Text.{Wrote}
@@ -22,7 +27,7 @@ use Rattle.row.specs.declared.Line.{Line as RowLine}
 use Rattle.row.specs.declared.Line.TheVariants as line
 use Rattle.tree.specs.Reader.{Rows, Reading, Reader, got, no, ◌then◌, On, Has}
 use Rattle.tree.specs.Read.{read_words_up_to, read_words}
-use Rattle.tree.proofs.OtherLines.{but_Word, not-word}
+use Rattle.tree.proofs.OtherLines.{not-word, not_word-tag}
 use Rattle.tree.proofs.WalkLaws.{by_told}
 use Rattle.types.proofs.Laws.{on-map, on_one}
 use Rattle.codegen.specs.WordArray.{bytes_from, word_bytes, words_lines, word_array_declaration}
@@ -94,22 +99,32 @@ words_of : (rs : Rows) (ws : List ℕ) (k : ℕ) → Has (read_words true rs) (�
 words_of rs ws k h e =
     let z = words-whole rs ws h in rw (e, z) (words-short 255 rs)
 
-pub words-none : (n : ℕ) (rs : Rows) → n ≤ 0 → words_at n rs ≡ []
+pub words-none : (most done : ℕ) (rs : Rows) → most ≤ done → words_at (most - done) rs ≡ []
 unfolding words_at
-words-none zero rs h = refl
-words-none (suc n) rs h = let z : ⊥ = omega arith in absurd z
+words-none most done rs h = rw (let z : most - done ≡ 0 = omega arith in z) refl
+
+-- what the code says of a row that is no W row: a line with another tag, or a bad one
+abbrev pub NoWord : Result RowLine BadLine → Type 0
+NoWord (Ok l) = tag_of the_type l ≡ 9 → ⊥
+NoWord (Err b) = Unit {0}
 
 -- what the code says of the first row, and the rows after it
-module _ (rs rest : Rows) (l : RowLine) (here : line_said l ≡ line_at rs) (after : rest ≡ rest_of rs) where
-  pub words_more : (n w : ℕ) → 0 < n → l ≡ line.Word w → words_at n rs ≡ w ∷ words_at (n - 1) rest
+module _ (rs rest : Rows) (l : Result RowLine BadLine) (here : line_said l ≡ line_at rs) (after : rest ≡ rest_of rs) where
+  pub words_more : (most done w : ℕ) → done < most → l ≡ Ok (line.Word w)
+      → words_at (most - done) rs ≡ w ∷ words_at (most - (done + 1)) rest
   unfolding line_said words_at
-  words_more zero w h is = let z : ⊥ = omega arith in absurd z
-  words_more (suc n) w h is = rw (← here, is, ← after, sub-one (suc n)) refl
+  words_more most done w h is =
+      rw (let z : most - done ≡ suc (most - (done + 1)) = omega arith in z, ← here, is, ← after) refl
 
-  pub words-stop : (n : ℕ) → 0 < n → OneOf but_Word (tag_of the_type l) → words_at n rs ≡ []
-  unfolding words_at
-  words-stop zero h other = let z : ⊥ = omega arith in absurd z
-  words-stop (suc n) h other = rw (← here) (not-word l _ _ other)
+  pub words-stop : (most done : ℕ) → done < most → NoWord l → words_at (most - done) rs ≡ []
+  unfolding line_said words_at
+  words-stop most done h other =
+      rw (let z : most - done ≡ suc (most - (done + 1)) = omega arith in z, ← here) (go l other)
+    where
+      go : (k : Result RowLine BadLine) → NoWord k
+          → as_word (line_said k) (λ w. w ∷ words_at (most - (done + 1)) (rest_of rs)) [] ≡ []
+      go (Ok k) f = not-word k _ _ (not_word-tag k (λ w e. f (ap (tag_of the_type) e)))
+      go (Err b) f = refl
 
 -- and of their text
 pub text-more : (root : Str) (xs ws : List ℕ) (w : ℕ) → xs ≡ w ∷ ws → words_text root xs ≡ word_code root w ++ words_text root ws
@@ -122,16 +137,34 @@ text-none root xs e = rw e refl
 
 -- ---- bytes
 
--- one more byte of a word
-pub bytes-more : (n w : ℕ) → 0 < n → bytes_from n w ≡ ascii ", " ++ (decimal (w % 256) ++ bytes_from (n - 1) (w / 256))
-unfolding bytes_from
-bytes-more zero w h = let z : ⊥ = omega arith in absurd z
-bytes-more (suc n) w h = rw (sub-one (suc n)) (append_assoc (ascii ", ") (decimal (w % 256)) (bytes_from n (w / 256)))
+-- the bytes of a word but the first, each in decimal after a comma and a space
+unfoldable pub bytes_text : List ℕ → Str
+bytes_text [] = []
+bytes_text (b ∷ bs) = ascii ", " ++ (decimal b ++ bytes_text bs)
 
-pub bytes-none : (n w : ℕ) → n ≤ 0 → bytes_from n w ≡ []
-unfolding bytes_from
-bytes-none zero w h = refl
-bytes-none (suc n) w h = let z : ⊥ = omega arith in absurd z
+pub more-bytes : (bs : List ℕ) (i : ℕ) → i < length bs
+    → bytes_text (drop i bs) ≡ ascii ", " ++ (decimal (get_or bs i 0) ++ bytes_text (drop (i + 1) bs))
+unfolding bytes_text
+more-bytes bs i h = rw (add-one, drop-cons bs i 0 h) refl
+
+pub no-bytes : (bs : List ℕ) (i : ℕ) → length bs ≤ i → bytes_text (drop i bs) ≡ []
+unfolding bytes_text
+no-bytes bs i h = rw (drop_of_length-le bs h) refl
+
+-- from byte i on they are those of the word without its first i bytes
+bytes-from : (i n w : ℕ) → bytes_from n (w / 256 ^ suc i) ≡ bytes_text (bytes_low_first (suc i) n w)
+unfolding bytes_from bytes_text
+bytes-from i zero w = refl
+bytes-from i (suc n) w =
+    append_assoc (ascii ", ") (decimal (w / 256 ^ suc i % 256)) (bytes_from n (w / 256 ^ suc i / 256))
+    ∙ ap (λ (x : Str). ascii ", " ++ (decimal (w / 256 ^ suc i % 256) ++ x))
+    (ap (bytes_from n) (div-div-eq-div-mul w (256 ^ suc i) 256 ∙ ap (λ (p : ℕ). w / p) (sym (pow-suc 256 (suc i))))
+    ∙ bytes-from (suc i) n w)
+
+-- the first byte, then the others
+pub word-text : (bs : List ℕ) (b w : ℕ) → bs ≡ to_le_bytes w64 w → b ≡ get_or bs 0 0
+    → decimal b ++ bytes_text (take 7 (drop 1 bs)) ≡ word_bytes w
+word-text bs b w e f = rw (f, e) (ap (λ (x : Str). decimal (w % 256) ++ x) (sym (bytes-from 0 7 w)))
 
 -- ---- the declaration
 

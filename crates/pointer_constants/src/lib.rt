@@ -28,14 +28,11 @@ fn word(root: &[u8], w: u64, t: Text, buf: &mut [u8]) -> Text
 fn bytes(w: u64, t: Text, buf: &mut [u8]) -> Text
     ensures { Wrote buf.old t (word_bytes w) buf.new result }
 {
-    let mut t = t.number(buf, w % 256);
-    let mut left = w / 256;
-    let mut n: u64 = 7;
-    while 0 < n {
+    let bytes = w.to_le_bytes();
+    let mut t = t.number(buf, u64::from(bytes[0]));
+    for &byte in &bytes[1..] {
         t = t.bytes(buf, b", ");
-        t = t.number(buf, left % 256);
-        left = left / 256;
-        n -= 1;
+        t = t.number(buf, u64::from(byte));
     }
     t
 }
@@ -47,16 +44,13 @@ fn words(root: &[u8], s: &[u8], from: usize, most: u64, t: Text, buf: &mut [u8])
 {
     let mut t = t;
     let mut at = from;
-    let mut n = most;
-    while 0 < n {
-        let g = row::next(s, at);
-        let line = g.line;
-        let Line::Word { value } = line else {
+    for _ in 0..most {
+        let row = row::next(s, at);
+        let Ok(Line::Word { value }) = row.line else {
             return t;
         };
         t = word(root, value, t, buf);
-        at = g.next;
-        n -= 1;
+        at = row.next;
     }
     t
 }

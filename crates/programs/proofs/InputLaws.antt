@@ -1,57 +1,35 @@
 -- Laws of what was read, and of the input's lines, numbers and sheets: what stands from a place on, by the byte there. Assumes
 -- nothing.
-use mathlib.Core.Path.{◌≡◌, refl, sym}
-use mathlib.Core.Bool.{Bool, true, false}
-use Prim.Native.Nat.{ℕ, suc, ◌+◌, ◌-◌, ◌*◌, ◌%◌, ◌<◌, ◌≤◌, min}
+use mathlib.Core.Path.{◌≡◌, refl}
+use Prim.Native.Nat.{ℕ, ◌+◌, ◌-◌, ◌*◌, ◌%◌, ◌<◌, ◌≤◌, min}
 use native.Mathlib.Omega.{arith}
 use native.Mathlib.Numerals.{add-one}
-use lib.Dec.{ltb}
 use lib.ListN.{length, get_or, take, drop, drop_of_length-le}
-use lib.Seq.{drop-cons, length-take-le}
-use borrow.Author.Tests.{eq-eqb, ne_eqb, ltb-false, lt-ltb, le-ltb}
-use Rattle.io.specs.Counts.{IsPrefixLen}
+use lib.Seq.{drop-cons}
+use borrow.Author.Tests.{eq-eqb, ne_eqb, lt-ltb, le-ltb}
+use Rattle.std.specs.Prelude.{Option}
+use Rattle.std.specs.Option.{MatchOption, unwrap_or}
+use Rattle.std.specs.List.{AllWithin, HoldsAt}
+use Rattle.std.proofs.lemmas.Iterator.{index_from_first}
+use mathlib.Core.Logic.{◌≢◌}
 use Rattle.text.specs.Bytes.{Str}
 use Rattle.programs.specs.Input.{line_length, line_end, digit_of, number_from, decimal_of, sheet_after}
 
--- so many of a buffer's bytes
-pub counted : (n : ℕ) (l : Str) → n ≤ length l → IsPrefixLen n l
-counted n l h = (h, sym (length-take-le n l h))
-
--- where a line ends and where it goes on
-pub line-here : (s : Str) (i : ℕ) → i < length s → get_or s i 0 ≡ 10 → line_end s i ≡ i
+-- what stands in front of the first byte 10, as `position` tells where it stands, or that there is none
+pub line-first :
+    (s : Str) (r : Option ℕ)
+    → MatchOption r (AllWithin (λ b. b ≢ 10) s 0 (length s))
+    (λ i. (i < length s) × HoldsAt (λ b. b ≡ 10) s i × AllWithin (λ b. b ≢ 10) s 0 i)
+    → line_length s ≡ unwrap_or r (length s)
 unfolding line_length
-line-here s i h e =
-    let z : line_length (drop i s) ≡ 0 = rw (drop-cons s i 0, line_length, eq-eqb (get_or s i 0) 10 e) in
-    omega arith
+line-first =
+    index_from_first line_length (λ b. b ≡ 10) (λ b. b ≢ 10) refl (λ b s e. rw (line_length, eq-eqb b 10 e) refl)
+    (λ b s e. rw (line_length, ne_eqb b 10 e) (omega arith))
 
-pub line_on : (s : Str) (i : ℕ) → i < length s → (get_or s i 0 ≡ 10 → ⊥) → line_end s i ≡ line_end s (i + 1)
-unfolding line_length
-line_on s i h e = omega (arith, on)
-  where
-    on : line_length (drop i s) ≡ suc (line_length (drop (i + 1) s))
-    on = rw (add-one, drop-cons s i 0, line_length, ne_eqb (get_or s i 0) 10 e)
-
+-- past the end stands nothing
 pub line-last : (s : Str) (i : ℕ) → length s ≤ i → line_end s i ≡ i
 unfolding line_length
 line-last s i h = let z : line_length (drop i s) ≡ 0 = rw (drop_of_length-le s h) in omega arith
-
--- a digit, and the bytes below and above the digits
-pub digit-is : (b : ℕ) → 48 ≤ b → b ≤ 57 → b - 48 ≡ digit_of b
-digit-is b l h = rw (le-ltb b 48 l, le-ltb 57 b h)
-
-pub digit_low : (b : ℕ) → b < 48 → 0 ≡ digit_of b
-digit_low b h = rw (lt-ltb b 48 h)
-
-pub digit-high : (b : ℕ) → 57 < b → 0 ≡ digit_of b
-digit-high b h = let l : 48 ≤ b = omega arith in rw (le-ltb b 48 l, lt-ltb 57 b h)
-
-pub digit-most : (b : ℕ) → digit_of b ≤ 9
-digit-most b = go (ltb b 48) refl (ltb 57 b) refl
-  where
-    go : (l : Bool) → ltb b 48 ≡ l → (h : Bool) → ltb 57 b ≡ h → digit_of b ≤ 9
-    go true e h f = rw e (omega arith)
-    go false e true f = rw (e, f) (omega arith)
-    go false e false f = rw (e, f) (omega (arith, ltb-false 57 b f))
 
 -- a number goes on with the digit at a place, and is whole at the end
 pub number-on :

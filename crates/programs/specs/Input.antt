@@ -1,16 +1,15 @@
 -- What was read of standard input. The input of the replay programs: lines, and sheets, each after a line that has its length in
 -- decimal. Assumes nothing.
+use Rattle.std.specs.Prelude.{Result, Ok, Err}
 use Rattle.std.specs.Prelude.{true, false, [], ◌∷◌, ℕ, suc, ◌+◌, ◌-◌, ◌*◌, ◌%◌, min, eqb, ltb, length, take, drop}
 use Rattle.text.specs.Bytes.{Str, cond}
 use Rattle.io.specs.Counts.{IsPrefixLen}
-use Rattle.programs.specs.declared.Input.{Input}
-use Rattle.programs.specs.declared.Input.TheVariants.{Bytes, Failed}
 use Rattle.programs.specs.declared.Sheet.{Sheet}
 
 -- so many bytes of the buffer were read
-abbrev pub WasRead : Input → Str → Type 0
-WasRead (Bytes n) l = IsPrefixLen n l
-WasRead Failed l = Unit {0}
+abbrev pub WasRead : {E : Type 0} → Result ℕ E → Str → Type 0
+WasRead (Ok n) l = IsPrefixLen n l
+WasRead (Err e) l = Unit {0}
 
 -- how many bytes stand in front of the first byte 10, or of the end
 unfoldable pub line_length : Str → ℕ

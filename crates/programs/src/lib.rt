@@ -1,23 +1,16 @@
 // What the programs share: reading standard input, the lines and sheets of an input, and how much of a buffer a text state has
-// filled.
+// filled. Each program has a `main` of its own: its buffers and its messages are its own.
 #![tactic(auto)]
 
 ghost use Rattle.std.specs.Prelude.{◌≡◌, ◌+◌, ◌≤◌, min, max, length};
 ghost use Rattle.io.specs.Counts.{IsPrefixLen};
 ghost use Rattle.programs.specs.Input.{WasRead, line_end, digit_of, decimal_of, sheet_after};
 
-use std::io::{ErrorKind, Read};
+use std::io::{self, ErrorKind, Read};
 use text::Text;
 
 // How often a read that a signal interrupted is tried again.
 const TRIES: usize = 4096;
-
-// What was read: so many bytes at the start of a buffer, or a failure.
-#[derive(Clone, Copy)]
-pub enum Input {
-    Bytes(usize),
-    Failed,
-}
 
 // Where a sheet starts and ends among others.
 #[derive(Clone, Copy)]
@@ -26,33 +19,26 @@ pub struct Sheet {
     pub end: usize,
 }
 
-// Reads standard input to its end, or until the buffer is full.
-pub fn read_input(rt: &HostRuntime, buf: &mut [u8]) -> Input
+// Reads standard input to its end, or until the buffer is full. So many bytes at the start of the buffer were read.
+pub fn read_input(rt: &HostRuntime, buf: &mut [u8]) -> io::Result<usize>
     ensures { WasRead result buf.new }
 {
     let mut n: usize = 0;
     let mut tries = TRIES;
+    // How much is read is what each read answers.
     while n < buf.len() {
         match rt.stdin().read(&mut buf[n..]) {
-            Ok(m) => {
-                if 0 < m {
-                    n += m;
-                    continue;
-                }
-                return Input::Bytes(n);
-            }
+            Ok(0) => return Ok(n),
+            Ok(m) => n += m,
             Err(e) => {
-                if e.kind() != ErrorKind::Interrupted {
-                    return Input::Failed;
+                if tries == 0 || e.kind() != ErrorKind::Interrupted {
+                    return Err(e);
                 }
+                tries -= 1;
             }
         }
-        if tries == 0 {
-            return Input::Failed;
-        }
-        tries -= 1;
     }
-    Input::Bytes(n)
+    Ok(n)
 }
 
 // The first byte 10 from a place on, or the end; a place past the end as it is.
@@ -60,14 +46,12 @@ pub fn line_end(s: &[u8], from: usize) -> usize
     ensures end { result ≡ line_end s.now from }
     ensures within { (from ≤ result) × (result ≤ max from (length s.now)) }
 {
-    let mut at = from;
-    while at < s.len() {
-        if s[at] == b'\n' {
-            return at;
-        }
-        at += 1;
+    if s.len() <= from {
+        return from;
     }
-    at
+    let rest = &s[from..];
+    let line = rest.iter().position(|&b| b == b'\n');
+    from + line.unwrap_or(rest.len())
 }
 
 // What a decimal digit counts; 0 for any other byte.
@@ -75,7 +59,7 @@ fn digit(b: u8) -> usize
     ensures { result ≡ digit_of b }
 {
     match b {
-        b'0'..=b'9' => (b - b'0') as usize,
+        b'0'..=b'9' => usize::from(b - b'0'),
         _ => 0,
     }
 }
@@ -85,10 +69,8 @@ fn number(digits: &[u8]) -> usize
     ensures { result ≡ decimal_of digits.now }
 {
     let mut n: usize = 0;
-    let mut i = 0;
-    while i < digits.len() {
-        n = n % 1000000 * 10 + digit(digits[i]);
-        i += 1;
+    for &b in digits {
+        n = n % 1000000 * 10 + digit(b);
     }
     n
 }
@@ -107,18 +89,26 @@ pub fn next_sheet(s: &[u8], from: usize) -> Sheet
             end: line,
         };
     }
-    let size = number(&s[from..line]);
     let start = line + 1;
-    if size < s.len() - start {
-        return Sheet {
-            start,
-            end: start + size,
-        };
-    }
+    let size = number(&s[from..line]).min(s.len() - start);
     Sheet {
         start,
-        end: s.len(),
+        end: start + size,
     }
+}
+
+// Hands each sheet of an input to a function, one after the other, up to the first error. A sheet says itself where the next one
+// begins, so no iterator of std goes through them.
+pub fn each_sheet<F: FnMut(&[u8]) -> io::Result<()>>(input: &[u8], mut f: F) -> io::Result<()>
+    requires { (s : F) (x : _) → F.pre s x }
+{
+    let mut at = 0;
+    while at < input.len() {
+        let Sheet { start, end } = next_sheet(input, at);
+        f(&input[start..end])?;
+        at = end;
+    }
+    Ok(())
 }
 
 // How much of the buffer is filled: the fill count, or the buffer's length where a text did not fit.
@@ -126,6 +116,5 @@ pub fn filled(t: Text, buf: &[u8]) -> usize
     ensures count { result ≡ min t.at (length buf.now) }
     ensures part { IsPrefixLen result buf.now }
 {
-    let fill = t.fill();
-    if fill < buf.len() { fill } else { buf.len() }
+    t.fill().min(buf.len())
 }

@@ -27,7 +27,7 @@ bit-two zero h = refl
 bit-two (suc zero) h = refl
 bit-two (suc (suc x)) h = absurd (omega arith)
 
-pub half_below : (n v : ℕ) → v < 2 ^ suc n → v / 2 < 2 ^ n
+half_below : (n v : ℕ) → v < 2 ^ suc n → v / 2 < 2 ^ n
 half_below n v h = (div-lt_iff_lt-mul two_pos).1 (rw pow-suc at h)
 
 pub of_to : (n v : ℕ) → v < 2 ^ n → of_bits (to_bits n v) ≡ v
@@ -44,11 +44,11 @@ bit_half : (b : Bool) (x : ℕ) → (bit b + 2 * x) / 2 ≡ x
 bit_half true x = omega arith
 bit_half false x = omega arith
 
-pub to_of : (l : List Bool) → to_bits (length l) (of_bits l) ≡ l
+to_of : (l : List Bool) → to_bits (length l) (of_bits l) ≡ l
 to_of [] = refl
 to_of (b ∷ l) = rw (bit-odd b (of_bits l), bit_half b (of_bits l), to_of l)
 
-pub of_below : (l : List Bool) → of_bits l < 2 ^ length l
+of_below : (l : List Bool) → of_bits l < 2 ^ length l
 of_below [] = zero-lt-suc 0
 of_below (true ∷ l) = rw pow-suc (omega (arith, of_below l))
 of_below (false ∷ l) = rw pow-suc (omega (arith, of_below l))

@@ -19,10 +19,14 @@ use Rattle.record.proofs.BitLaws.{of_to, to_bits-at, to_bits_append, to_bits_mod
 pub bytes_rest : (b : ℕ) (l : List ℕ) → Bytes (b ∷ l) → Bytes l
 bytes_rest b l h i = h (suc i)
 
-pub bytes_drop : (n : ℕ) (l : List ℕ) → Bytes l → Bytes (drop n l)
+bytes_drop : (n : ℕ) (l : List ℕ) → Bytes l → Bytes (drop n l)
 bytes_drop zero l h = h
 bytes_drop (suc n) [] h = h
 bytes_drop (suc n) (x ∷ l) h = bytes_drop n l (bytes_rest x l h)
+
+pub bytes_end : (a b : List ℕ) → Bytes (a ++ b) → Bytes b
+bytes_end [] b h = h
+bytes_end (x ∷ a) b h = bytes_end a b (bytes_rest x (a ++ b) h)
 
 bytes_take : (n : ℕ) (l : List ℕ) → Bytes l → Bytes (take n l)
 bytes_take zero l h i = zero-lt-suc 255
@@ -36,14 +40,14 @@ pub length_section : (bs : List ℕ) → length (section_bits bs) ≡ length bs 
 length_section [] = refl
 length_section (b ∷ bs) = rw (suc-mul, ← length_section bs) (omega arith)
 
-pub drop_section : (k : ℕ) (bs : List ℕ) → drop (k * 8) (section_bits bs) ≡ section_bits (drop k bs)
+drop_section : (k : ℕ) (bs : List ℕ) → drop (k * 8) (section_bits bs) ≡ section_bits (drop k bs)
 drop_section zero bs = refl
 drop_section (suc k) [] = drop-nil (suc k * 8)
 drop_section (suc k) (b ∷ bs) =
     let e : suc k * 8 ≡ 8 + k * 8 = omega arith in
     rw e (drop-append-add (to_bits 8 b) (section_bits bs) (k * 8) ∙ drop_section k bs)
 
-pub take_section : (k : ℕ) (bs : List ℕ) → take (k * 8) (section_bits bs) ≡ section_bits (take k bs)
+take_section : (k : ℕ) (bs : List ℕ) → take (k * 8) (section_bits bs) ≡ section_bits (take k bs)
 take_section zero bs = refl
 take_section (suc k) [] = take-nil (suc k * 8)
 take_section (suc k) (b ∷ bs) =
@@ -86,7 +90,7 @@ section_injective (x ∷ a) (y ∷ b) ha hb e =
 -- ---- which bit a Bool is
 
 -- bit j of byte k; past the bytes both sides are false
-pub bit_of_byte : (bs : List ℕ) (k j : ℕ) → j < 8
+bit_of_byte : (bs : List ℕ) (k j : ℕ) → j < 8
     → get_or (section_bits bs) (k * 8 + j) false ≡ eqb (get_or bs k 0 / 2 ^ j % 2) 1
 bit_of_byte bs k j l = sym (get_or-drop (k * 8) (section_bits bs) j false) ∙ rw (drop_section k bs) (go (dec_lt k (length bs)))
   where
@@ -105,7 +109,7 @@ of_append : (l m : List Bool) → of_bits (l ++ m) ≡ of_bits l + 2 ^ length l 
 of_append [] m = omega arith
 of_append (b ∷ l) m = rw (of_append l m, pow-suc) (omega arith)
 
-pub of_section : (bs : List ℕ) → Bytes bs → of_bits (section_bits bs) ≡ little bs
+of_section : (bs : List ℕ) → Bytes bs → of_bits (section_bits bs) ≡ little bs
 of_section [] h = refl
 of_section (b ∷ bs) h = of_append (to_bits 8 b) (section_bits bs) ∙ rw (of_to 8 b (h 0), of_section bs (bytes_rest b bs h))
 

@@ -1,76 +1,90 @@
--- What the code does to bytes is what the definitions do to bits: a law for each operation, inside the section and past it, and
--- one for each turn of a loop. Assumes nothing.
+-- What the code does to bytes is what the definitions do to bits: a law for each operation, inside the section and past it, one
+-- for each answer of the code, from where it looked and what it found there, and one for each turn of a loop. Assumes nothing.
 use mathlib.Core.Path.{◌≡◌, refl, sym, ap, ◌∙◌, subst}
-use mathlib.Core.Bool.{Bool, true, false, not}
-use Rattle.std.specs.Prelude.{None, Some}
+use mathlib.Core.Bool.{Bool, true, false, not, beq}
+use Rattle.std.specs.Prelude.{Option, None, Some, Ok, Err, ⊤, MatchOption}
+use Rattle.std.specs.Slice.{IsItemAt, IsGetRangeResult}
+use denote.Ref.{Bor}
+use Rattle.std.specs.List.{push, slice_range}
+use Rattle.std.specs.Int.RustNames.{bit_or, bit_and}
+use mathlib.Core.Logic.{◌⊎◌, inl, inr}
 use mathlib.Core.List.{List, [], ◌∷◌, ◌++◌, append_assoc, append-nil}
 use Prim.Native.Nat.{ℕ, zero, suc, ◌+◌, ◌-◌, ◌*◌, ◌/◌, ◌%◌, ◌^◌, ◌≤◌, ◌<◌}
-use native.Mathlib.Nat.{mod-lt, zero-lt-suc, pow-succ', one-le-pow, one-mul}
+use native.Mathlib.Nat.{mod-lt, mod-eq_of_lt, div-add-mod', zero-lt-suc, pow-succ', one-le-pow, one-mul, zero-mul}
 use native.Mathlib.Omega.{arith}
-use lib.Arith.{digits_lt, digits_div, digits_mod}
-use lib.Bits.{bit_xor, xor_lt}
-use lib.Dec.{eqb, leb, lit<}
-use lib.ListN.{length, take, drop, get_or, set, length-append}
-use lib.Pow.{high, low, pow_pos, pow-add, pow_mono, shr_lt, shl_exact}
-use lib.Seq.{drop-cons, take_at, drop_at, sets, set_split}
-use borrow.Author.Tests.{le-leb, lt-leb, leb-true, leb-false}
+use lib.Arith.{digits_div, digits_mod}
+use lib.Bits.{bit_xor, xor_lt, or_zero_r}
+use Rattle.std.proofs.lemmas.Nat.{or_shifted, or_disjoint, shr_high, shr_split, and_mask, and-not, and_comm}
+use Rattle.std.proofs.lemmas.Nat.Bits.{and_pow}
+use borrow.Rule.Slice.PartMut.{put_mid}
+use lib.Dec.{eqb, lit<}
+use lib.ListN.{length, take, drop, get_or, set, length-append, length-set, length-take, length-drop}
+use lib.Pow.{high, low, pow_pos, pow-lt, shl_exact}
+use lib.Seq.{drop-cons, take_at, drop_at, sets, set_split, set_out, take-suc-set, take_all, sets-eq, drop-drop}
 use Rattle.record.specs.Bits.{to_bits, bit, with_bit, section_bits, little, little_bytes, flags}
 use Rattle.record.specs.Bytes.{Bytes, SetBytesHolds}
 use Rattle.record.specs.Offsets.{Place, bytes_of, bool_at, data_at, from, bit_count}
+use Rattle.record.specs.Offsets.{bit_address, element_address, pointer_address}
 use Rattle.record.specs.Record.{read, write, coded, get_bits, put_bits, null_flag, clear_flag}
-use Rattle.record.specs.Answers.{Put}
+use Rattle.record.specs.Answers.{Put, Cleared}
+use Rattle.record.specs.declared.BitAddress.{BitAddress}
 use Rattle.record.specs.declared.BitOffset.{BitOffset}
 use Rattle.record.specs.declared.ElementOffset.{ElementOffset}
 use Rattle.record.specs.declared.PointerOffset.{PointerOffset}
-use Rattle.record.specs.declared.Set.TheVariants.{Done, NoMeaning}
+use Rattle.record.specs.declared.NoMeaning.{NoMeaning}
 use Rattle.record.specs.declared.Width.{Width}
 use Rattle.record.specs.declared.Width.TheVariants.{One, Two, Four, Eight}
-use Rattle.record.proofs.BitLaws.{length-to_bits, length-xors, bit-two, half_below, to_bits_append, to_bits_mod, mask_bits}
+use Rattle.record.proofs.BitLaws.{length-to_bits, length-xors, bit-two, to_bits_append, to_bits_mod, mask_bits}
 use Rattle.record.proofs.BitLaws.{mask_alone, xors_xor}
 use Rattle.record.proofs.SectionLaws.{write-part, length-read, found_inside, found-past, stored-inside, stored_past}
-use Rattle.record.proofs.ByteLaws.{bytes_rest, length_section, read_section, write_section, bool_at_lem, number_at}
+use Rattle.record.proofs.ByteLaws.{bytes_rest, bytes_end, length_section, read_section, write_section, bool_at_lem, number_at}
 use Rattle.record.proofs.ByteLaws.{to_bits-bytes, length-little_bytes, length-flags, flag_at}
 
 -- ---- one bit of a byte
 
--- what a byte with another bit is made of still fits
-module _ (b j x : ℕ) (hb : b < 256) (hj : j < 8) (hx : x < 2) where
-  above : ℕ
-  above = b / 2 ^ j / 2 * 2 + x
+-- with its weight p, what stands above it h, and what stands below it r: t of it taken out and x of it put in
+exchanged : (o b p h t r x : ℕ) → o + t * p ≡ b + x * p → (h * 2 + t) * p + r ≡ b → o ≡ (h * 2 + x) * p + r
+exchanged o b p h t r x e f = omega arith
 
-  above-below : above < 2 ^ (8 - j)
-  unfolding above
-  above-below =
-      let e : 8 - j + j ≡ 8 = omega arith in
-      let s : suc (7 - j) ≡ 8 - j = omega arith in
-      let y : b / 2 ^ j < 2 ^ suc (7 - j) = rw s (shr_lt (8 - j) j (rw e hb)) in
-      rw (← s, pow-succ') (omega (arith, half_below (7 - j) (b / 2 ^ j) y))
+module _ (b j : ℕ) (hb : b < 256) (hj : j < 8) where
+  weight : 1 * 2 ^ j % 2 ^ 8 ≡ 2 ^ j
+  weight = shl_exact {a = 1} 1 j 8 (lit< tt) (omega arith) ∙ one-mul (2 ^ j)
 
-  pub with-bit-below : with_bit b j x < 256
-  unfolding above
-  with-bit-below =
-      let e : 8 - j + j ≡ 8 = omega arith in
-      subst (λ (n : ℕ). with_bit b j x < n) (sym (pow-add 2 (8 - j) j) ∙ ap (λ (k : ℕ). 2 ^ k) e)
-      (digits_lt above-below (mod-lt b (pow_pos j)))
+  parts : (b / 2 ^ j / 2 * 2 + b / 2 ^ j % 2) * 2 ^ j + b % 2 ^ j ≡ b
+  parts = rw (div-add-mod' (b / 2 ^ j) 2) (shr_split b j)
 
-  -- and so do its parts
-  pub with-bit-parts : (b / 2 ^ j / 2 * 2 + x < 256) × ((b / 2 ^ j / 2 * 2 + x) * 2 ^ j < 256)
-  unfolding above
-  with-bit-parts =
-      let l : 8 - j ≤ 8 = omega arith in
-      let h : 2 ^ (8 - j) ≤ 2 ^ 8 = pow_mono l in
-      (omega (arith, above-below), omega (arith, with-bit-below))
+  -- with that bit cleared
+  off : bit_and b (255 - 1 * 2 ^ j % 2 ^ 8) ≡ with_bit b j 0
+  off =
+      let p : ℕ = 2 ^ j in
+      let f : p < 2 ^ 8 = pow-lt hj in
+      let n = and-not 8 p b f hb in
+      exchanged (bit_and b (255 - 1 * 2 ^ j % 2 ^ 8)) b p (b / p / 2) (b / p % 2) (b % p) 0
+      (rw (weight, ← and_pow b j, and_comm b (255 - p), and_comm b p) (omega (arith, n))) parts
 
--- the shift that makes a bit's weight loses nothing
-pub shifted : (j : ℕ) → j < 8 → 1 * 2 ^ j % 2 ^ 64 ≡ 2 ^ j
-shifted j h = shl_exact {a = 1} 1 j 64 (lit< tt) (omega arith) ∙ one-mul (2 ^ j)
+  apart : bit_and (with_bit b j 0) (2 ^ j) ≡ 0
+  apart =
+      let h : ℕ = b / 2 ^ j / 2 * 2 + 0 in
+      let even : h % 2 ≡ 0 = omega arith in
+      and_pow (with_bit b j 0) j ∙ rw (shr_high h j (b % 2 ^ j) (mod-lt b (pow_pos j)), even) (zero-mul (2 ^ j))
 
-pub bit_below : (b : Bool) → bit b < 2
+  pub bit_put : (x : Bool) → bit_or (bit_and b (255 - 1 * 2 ^ j % 2 ^ 8)) (bit x * 2 ^ j % 2 ^ 8) ≡ with_bit b j (bit x)
+  bit_put true = rw (off, weight) (or_disjoint (with_bit b j 0) (2 ^ j) apart ∙ omega arith)
+  bit_put false = rw (off, zero-mul (2 ^ j)) (or_zero_r (with_bit b j 0))
+
+-- a mask on a Bool
+bit-xor : (a b : Bool) → bit (not (beq a b)) ≡ bit_xor (bit a) (bit b)
+bit-xor true true = refl
+bit-xor true false = refl
+bit-xor false true = refl
+bit-xor false false = refl
+
+bit_below : (b : Bool) → bit b < 2
 bit_below true = omega arith
 bit_below false = omega arith
 
 -- the bits of a number with another bit
-pub with-bit-bits : (j k b x : ℕ) → x < 2 → to_bits (j + suc k) (with_bit b j x) ≡ write j (to_bits 1 x) (to_bits (j + suc k) b)
+with-bit-bits : (j k b x : ℕ) → x < 2 → to_bits (j + suc k) (with_bit b j x) ≡ write j (to_bits 1 x) (to_bits (j + suc k) b)
 with-bit-bits j k b x hx =
     let p : ℕ = 2 ^ j in
     let y : ℕ = b / p / 2 * 2 + x in
@@ -101,7 +115,7 @@ module _ (l : List ℕ) (o : BitOffset) (h : o.0 / 8 < length l) where
   bool-inside : from (bool_at o) + 1 ≤ length (section_bits l)
   bool-inside = rw (length_section l) (omega (arith, mod-lt o.0 (zero-lt-suc 7)))
 
-  get-bool : (m : ℕ) → m < 2
+  pub get-bool : (m : ℕ) → m < 2
       → get_bits (bool_at o) m (section_bits l) ≡ bit_xor (get_or l (o.0 / 8) 0 / 2 ^ (o.0 % 8) % 2) m
   unfolding get_bits
   get-bool m hm =
@@ -116,18 +130,10 @@ module _ (l : List ℕ) (o : BitOffset) (h : o.0 / 8 < length l) where
         odd_mod (get_or l (o.0 / 8) 0 / 2 ^ (o.0 % 8)),
       )
 
-  -- the same by a test, since a bit under a mask is again a bit
-  pub get-bit : (m : Bool)
-      → bit (eqb (bit_xor (get_or l (o.0 / 8) 0 / 2 ^ (o.0 % 8) % 2) (bit m)) 1) ≡ get_bits (bool_at o) (bit m) (section_bits l)
-  get-bit m =
-      let x : ℕ = get_or l (o.0 / 8) 0 / 2 ^ (o.0 % 8) in
-      bit-two (bit_xor (x % 2) (bit m)) (xor_lt 1 (x % 2) (bit m) (mod-lt x (zero-lt-suc 1)) (bit_below m))
-      ∙ sym (get-bool (bit m) (bit_below m))
-
   byte-bits : read (o.0 / 8 * 8) 8 (section_bits l) ≡ to_bits 8 (get_or l (o.0 / 8) 0)
   byte-bits = read_section (o.0 / 8) 1 l ∙ rw (drop-cons l (o.0 / 8) 0 h) (append-nil (to_bits 8 (get_or l (o.0 / 8) 0)))
 
-  pub put-bool : (v m : ℕ) → v < 2 → m < 2
+  put-bool : (v m : ℕ) → v < 2 → m < 2
       → put_bits (bool_at o) v m (section_bits l)
       ≡ Some (section_bits (set l (o.0 / 8) (with_bit (get_or l (o.0 / 8) 0) (o.0 % 8) (bit_xor v m))))
   unfolding put_bits
@@ -155,17 +161,18 @@ module _ (l : List ℕ) (w : Width) (o : ElementOffset) (h : o.0 * bytes_of w + 
   data-inside : from (data_at w o) + bit_count (data_at w o) ≤ length (section_bits l)
   data-inside = rw (length_section l) (omega arith)
 
-  pub get-data : Bytes l → (m : ℕ)
-      → get_bits (data_at w o) m (section_bits l)
-      ≡ bit_xor (little (take (bytes_of w) (drop (o.0 * bytes_of w) l))) (m % 2 ^ (bytes_of w * 8))
+  pub get-data : Bytes l → (m : ℕ) (part : List ℕ)
+      → part ≡ slice_range l (o.0 * bytes_of w) (o.0 * bytes_of w + bytes_of w)
+      → get_bits (data_at w o) m (section_bits l) ≡ bit_xor (little part) (m % 2 ^ (bytes_of w * 8))
   unfolding get_bits
-  get-data bytes m =
+  get-data bytes m part e =
+      let z : o.0 * bytes_of w + bytes_of w - o.0 * bytes_of w ≡ bytes_of w = omega arith in
       let s : List Bool = section_bits l in
       let a : ℕ = from (data_at w o) in
       let n : ℕ = bit_count (data_at w o) in
-      rw (found_inside a n s data-inside, mask_bits n m (read a n s) (length-read a n s data-inside), number_at l w o bytes)
+      rw (found_inside a n s data-inside, mask_bits n m (read a n s) (length-read a n s data-inside), number_at l w o bytes, e, z)
 
-  pub put-data : (v m : ℕ)
+  put-data : (v m : ℕ)
       → put_bits (data_at w o) v m (section_bits l)
       ≡ Some (section_bits (sets l (o.0 * bytes_of w) (little_bytes (bytes_of w) (bit_xor v m))))
   unfolding put_bits
@@ -188,51 +195,89 @@ set-bytes = (put-bool, put-data)
 
 -- ---- past the section
 
--- an element that doesn't lie inside the bytes doesn't lie inside their bits
-pub data-past : (w : Width) (o : ElementOffset) (n : ℕ) → n < o.0 * bytes_of w + bytes_of w
-    → n * 8 < from (data_at w o) + bit_count (data_at w o)
-data-past w o n h = omega arith
-
 module _ (p : Place) (l : List ℕ) (h : length l * 8 < from p + bit_count p) where
-  pub get-past-bytes : (m : ℕ) → get_bits p m (section_bits l) ≡ m % 2 ^ bit_count p
+  get-past-bytes : (m : ℕ) → get_bits p m (section_bits l) ≡ m % 2 ^ bit_count p
   unfolding get_bits
   get-past-bytes m =
       rw (found-past (from p) (bit_count p) (section_bits l) (rw (length_section l) h)) (mask_alone (bit_count p) m)
 
-  pub put-past-bytes : (v m : ℕ) → put_bits p v m (section_bits l) ≡ None
+  put-past-bytes : (v m : ℕ) → put_bits p v m (section_bits l) ≡ None
   unfolding put_bits
   put-past-bytes v m =
       stored_past (from p) (coded p v m) (section_bits l) (rw (length_section l, length-xors (bit_count p) v m) h)
 
-pub bytes_small : (w : Width) → bytes_of w ≤ 8
-bytes_small One = omega arith
-bytes_small Two = omega arith
-bytes_small Four = omega arith
-bytes_small Eight = omega arith
+-- as many ones as the width has bits
+ones : (w : Width) → 18446744073709551615 / 2 ^ (64 - bytes_of w * 8) ≡ 2 ^ (bytes_of w * 8) - 1
+ones One = refl
+ones Two = refl
+ones Four = refl
+ones Eight = refl
 
--- ---- what a set leaves and answers
+pub low_ones : {n : ℕ} (w : Width) (x : ℕ) → n ≡ bytes_of w
+    → bit_and x (18446744073709551615 / 2 ^ (64 - n * 8)) ≡ x % 2 ^ (bytes_of w * 8)
+low_ones w x e = rw (e, ones w) (and_mask x (bytes_of w * 8))
 
-pub put-none : {p : Place} {v m : ℕ} {l : List ℕ} → length l * 8 < from p + bit_count p → Put p v m l l NoMeaning
-put-none {p} {v} {m} {l} h = record { answer = rw (put-past-bytes p l h v m); left = rw (put-past-bytes p l h v m) }
+-- ---- what the code answers and leaves, from where it looked and what it found
 
-pub put-bool-done : {l : List ℕ} {o : BitOffset} (v m : Bool) → o.0 / 8 < length l
-    → Put (bool_at o) (bit v) (bit m) l
-    (set l (o.0 / 8) (with_bit (get_or l (o.0 / 8) 0) (o.0 % 8) (bit_xor (bit v) (bit m)))) Done
-put-bool-done {l} {o} v m h =
-    let e = put-bool l o h (bit v) (bit m) (bit_below v) (bit_below m) in
-    record { answer = rw e; left = rw e }
+module _ (l : List ℕ) (o : BitOffset) (a : BitAddress) (e : a ≡ bit_address o) where
+  pub bool_got : (found m : Bool) (b : Bor ℕ) → IsItemAt l a.byte (Some b) → bit found ≡ b.now / 2 ^ a.bit % 2
+      → bit (not (beq found m)) ≡ get_bits (bool_at o) (bit m) (section_bits l)
+  bool_got found m b item f =
+      let at = rw e at item in
+      rw (bit-xor found m, f, e, at.4 (omega arith) 0) (sym (get-bool l o at.3.0 (bit m) (bit_below m)))
 
-pub put-data-done : {l : List ℕ} {w : Width} {o : ElementOffset} (v m : ℕ) → o.0 * bytes_of w + bytes_of w ≤ length l
-    → Put (data_at w o) v m l (sets l (o.0 * bytes_of w) (little_bytes (bytes_of w) (bit_xor v m))) Done
-put-data-done {l} {w} {o} v m h = record { answer = rw (put-data l w o h v m); left = rw (put-data l w o h v m) }
+  pub bool_not_got : (m : Bool) → length l ≤ a.byte → bit m ≡ get_bits (bool_at o) (bit m) (section_bits l)
+  bool_not_got m h =
+      let k = rw e at h in
+      sym (get-past-bytes (bool_at o) l (omega arith) (bit m) ∙ mod-eq_of_lt (bit_below m))
 
--- a length test by a difference
-pub leb_difference : (at n len : ℕ) → at ≤ len → leb n (len - at) ≡ leb (at + n) len
-leb_difference at n len h = go (leb n (len - at)) refl
-  where
-    go : (b : Bool) → leb n (len - at) ≡ b → b ≡ leb (at + n) len
-    go true e = sym (le-leb (at + n) len (omega (arith, leb-true n (len - at) e)))
-    go false e = sym (lt-leb (at + n) len (omega (arith, leb-false n (len - at) e)))
+  pub bool_put : {x : ℕ} {u : ⊤} (v m : Bool) → a.byte < length l → x ≡ with_bit (get_or l a.byte 0) a.bit (bit (not (beq v m)))
+      → Put (bool_at o) (bit v) (bit m) l (set l a.byte x) (Ok u)
+  bool_put v m h f =
+      let put = put-bool l o (rw e at h) (bit v) (bit m) (bit_below v) (bit_below m) in
+      rw (f, bit-xor v m, e) (record { answer = rw put; left = rw put })
+
+  pub bool_not_put : {v m : ℕ} {r : NoMeaning} → length l ≤ a.byte → Put (bool_at o) v m l l (Err r)
+  bool_not_put {v} {m} h =
+      let k = rw e at h in
+      let none = put-past-bytes (bool_at o) l (omega arith) v m in
+      record { answer = rw none; left = rw none }
+
+module _ (l : List ℕ) (w : Width) (o : ElementOffset) (a n : ℕ) (e : a ≡ element_address w o) (f : n ≡ bytes_of w) where
+  pub data_got : {word low : ℕ} (m : ℕ) (part : Bor (List ℕ)) → Bytes l → IsGetRangeResult l a (a + n) (Some part)
+      → word ≡ little part.now → low ≡ m % 2 ^ (bytes_of w * 8)
+      → bit_xor word low ≡ get_bits (data_at w o) m (section_bits l)
+  data_got m part bytes g h k =
+      let found = rw (e, f) at g.0 in
+      rw (h, k) (sym (get-data l w o found.1 bytes m part.now found.2))
+
+  -- a part that is none does not lie inside
+  past : (a + n < a) ⊎ (length l < a + n) → length l * 8 < from (data_at w o) + bit_count (data_at w o)
+  past (inl h) = absurd (omega arith)
+  past (inr h) = let k = rw (e, f) at h in omega arith
+
+  pub data_not_got : {low : ℕ} (m : ℕ) → IsGetRangeResult l a (a + n) None → low ≡ m % 2 ^ (bytes_of w * 8)
+      → low ≡ get_bits (data_at w o) m (section_bits l)
+  data_not_got m g k = rw (k, get-past-bytes (data_at w o) l (past g.0) m)
+
+  pub data_put : {new : List ℕ} {u : ⊤} (v m : ℕ) → a + n ≤ length l
+      → new ≡ little_bytes (length (take (a + n - a) (drop a l))) (bit_xor v m)
+      → Put (data_at w o) v m l (put_mid a (a + n - a) l new) (Ok u)
+  data_put {new} v m h g =
+      let z : a + n - a ≡ n = omega arith in
+      let size : length (take (a + n - a) (drop a l)) ≡ n = simp (length-take, length-drop) (omega arith) in
+      let i : new ≡ little_bytes n (bit_xor v m) = rw size at g in
+      let k : length new ≡ n = ap length i ∙ length-little_bytes n (bit_xor v m) in
+      let there : put_mid a n l new ≡ sets l a new =
+      ap (λ (r : List ℕ). take a l ++ (new ++ r)) (drop-drop n a l ∙ ap (λ (j : ℕ). drop (a + j) l) (sym k))
+      ∙ sym (sets-eq new l a (omega (arith, k)) ∙ append_assoc (take a l) new (drop (a + length new) l)) in
+      let put = put-data l w o (rw (e, f) at h) v m in
+      rw (z, there, i, e, f) (record { answer = rw put; left = rw put })
+
+  pub data_not_put : {v m : ℕ} {r : NoMeaning} → length l < a + n → Put (data_at w o) v m l l (Err r)
+  data_not_put {v} {m} h =
+      let none = put-past-bytes (data_at w o) l (past (inr h)) v m in
+      record { answer = rw none; left = rw none }
 
 -- ---- pointers
 
@@ -246,7 +291,7 @@ set-flags (b ∷ l) zero = refl
 set-flags (b ∷ l) (suc i) = ap (λ (r : List Bool). not (eqb b 0) ∷ r) (set-flags l i)
 
 module _ (l : List ℕ) (i : PointerOffset) where
-  pub null-inside : i.0 < length l → null_flag i (flags l) ≡ eqb (get_or l i.0 0) 0
+  null-inside : i.0 < length l → null_flag i (flags l) ≡ eqb (get_or l i.0 0) 0
   unfolding null_flag
   null-inside h =
       let g : i.0 < length (flags l) = rw (length-flags l) h in
@@ -257,9 +302,15 @@ module _ (l : List ℕ) (i : PointerOffset) where
         not-bit (eqb (get_or l i.0 0) 0),
       )
 
-  pub null-past-bytes : length l ≤ i.0 → null_flag i (flags l) ≡ true
+  null-past-bytes : length l ≤ i.0 → null_flag i (flags l) ≡ true
   unfolding null_flag
   null-past-bytes h = rw (found-past i.0 1 (flags l) (rw (length-flags l) (omega arith)))
+
+  -- what a test of the byte answers, where there is one
+  pub null_told : {r : Bool} {Told : Bor ℕ → Type 0} (o : Option (Bor ℕ)) → IsItemAt l i.0 o
+      → ((b : Bor ℕ) → Told b → r ≡ eqb b.now 0) → MatchOption o (r ≡ true) Told → r ≡ null_flag i (flags l)
+  null_told None item f e = rw (null-past-bytes item.3) e
+  null_told (Some b) item f e = rw (null-inside item.3.0, ← item.4 (omega arith) 0) (f b e)
 
   pub clear-inside : i.0 < length l → clear_flag i (flags l) ≡ Some (flags (set l i.0 0))
   unfolding clear_flag
@@ -268,21 +319,76 @@ module _ (l : List ℕ) (i : PointerOffset) where
       let e : i.0 + 1 ≡ suc i.0 = omega arith in
       rw (stored-inside i.0 (false ∷ []) (flags l) (omega arith), e, set-flags l i.0, set_split (flags l) i.0 false g)
 
-  pub clear-past : length l ≤ i.0 → clear_flag i (flags l) ≡ None
+  clear-past : length l ≤ i.0 → clear_flag i (flags l) ≡ None
   unfolding clear_flag
   clear-past h = stored_past i.0 (false ∷ []) (flags l) (rw (length-flags l) (omega arith))
 
+module _ (l : List ℕ) (i : PointerOffset) (a : ℕ) (e : a ≡ pointer_address i) where
+  pub clear_done : {u : ⊤} → a < length l → Cleared i l (set l a 0) (Ok u)
+  clear_done h =
+      let k = rw e at h in
+      rw e (record { answer = rw (clear-inside l i k); left = rw (clear-inside l i k); bytes = refl })
+
+  pub clear_none : {r : NoMeaning} → length l ≤ a → Cleared i l l (Err r)
+  clear_none h =
+      let k = rw e at h in
+      record { answer = rw (clear-past l i k); left = rw (clear-past l i k); bytes = sym (set_out l i.0 0 k) }
+
 -- ---- loops
 
--- one byte more in front
-pub little-turn : (l : List ℕ) (a k : ℕ) → a < length l
-    → little (take (suc k) (drop a l)) ≡ get_or l a 0 + 256 * little (take k (drop (suc a) l))
-little-turn l a k h = rw (drop-cons l a 0 h)
+-- bytes are a number below 256 to their count
+little-below : (n : ℕ) (l : List ℕ) → Bytes l → length l ≤ n → little l < 256 ^ n
+little-below n [] b h = one-le-pow n 256 (zero-lt-suc 255)
+little-below zero (x ∷ l) b h = let z : ⊥ = omega arith in absurd z
+little-below (suc n) (x ∷ l) b h = rw pow-succ' (omega (arith, little-below n l (bytes_rest x l b) (omega arith), b 0))
 
--- at most n bytes are a number below 256 to the n
-pub little-below : (n k : ℕ) (l : List ℕ) → Bytes l → k ≤ n → little (take k l) < 256 ^ n
-little-below n zero l b h = one-le-pow n 256 (zero-lt-suc 255)
-little-below n (suc k) [] b h = one-le-pow n 256 (zero-lt-suc 255)
-little-below zero (suc k) (x ∷ l) b h = let z : ⊥ = omega arith in absurd z
-little-below (suc n) (suc k) (x ∷ l) b h =
-    rw pow-succ' (omega (arith, little-below n k l (bytes_rest x l b) (omega arith), b 0))
+-- the number of the bytes behind the ones that are still to come
+pub record Loaded (bytes rest : List ℕ) (word : ℕ) : Type 0 where
+  pub behind : List ℕ
+  pub whole : rest ++ behind ≡ bytes
+  pub number : word ≡ little behind
+
+-- the last of those that are still to come is put in front of these
+pub loaded_turn : {bytes rest next : List ℕ} {word : ℕ} (byte : ℕ) → Bytes bytes → length bytes ≤ 8 → rest ≡ push next byte
+    → Loaded bytes rest word → Loaded bytes next (bit_or (word * 256 % 2 ^ 64) byte)
+loaded_turn {bytes} {rest} {next} {word} byte small few last l =
+    let e : next ++ (byte ∷ l.behind) ≡ bytes =
+    sym (append_assoc next (byte ∷ []) l.behind) ∙ ap (λ (r : List ℕ). r ++ l.behind) (sym last) ∙ l.whole in
+    let b : Bytes (byte ∷ l.behind) = bytes_end next (byte ∷ l.behind) (rw (← e) at small) in
+    let n : length l.behind ≤ 7 = omega (arith, few, ap length e, length-append next (byte ∷ l.behind)) in
+    let h : word < 256 ^ 7 = rw l.number (little-below 7 l.behind (bytes_rest byte l.behind b) n) in
+    let m : word * 256 % 2 ^ 64 ≡ word * 256 = mod-eq_of_lt (omega arith) in
+    record { behind = byte ∷ l.behind; whole = e; number = rw m (or_shifted word 8 byte (b 0) ∙ omega (arith, l.number)) }
+
+-- where none is still to come, the number is that of the bytes
+pub loaded_all : {bytes : List ℕ} {word : ℕ} (rest : List ℕ) → length rest ≡ 0 → Loaded bytes rest word → word ≡ little bytes
+loaded_all [] n l = rw (← l.whole) l.number
+loaded_all (x ∷ rest) n l = absurd (omega arith)
+
+-- what the loop has put, and what it is still to put, are the bytes of the number
+pub record Filling (bytes : List ℕ) (word i : ℕ) (now : List ℕ) (left : ℕ) : Type 0 where
+  pub kept : length now ≡ length bytes
+  pub made : take i now ++ little_bytes (length bytes - i) left ≡ little_bytes (length bytes) word
+
+pub filling_turn : {bytes now : List ℕ} {word i left : ℕ} → i < length now → Filling bytes word i now left
+    → Filling bytes word (i + 1) (set now i (left % 256)) (left / 256)
+filling_turn {bytes} {now} {word} {i} {left} h f =
+    let e : i + 1 ≡ suc i = omega arith in
+    let k : length bytes - i ≡ suc (length bytes - (i + 1)) = omega (arith, f.kept) in
+    let made = rw k at f.made in
+    record {
+      kept = length-set now i (left % 256) ∙ f.kept;
+      made = rw (
+        ap (λ (j : ℕ). take j (set now i (left % 256))) e,
+        take-suc-set now i (left % 256) h,
+        append_assoc (take i now) (left % 256 ∷ []) (little_bytes (length bytes - (i + 1)) (left / 256)),
+      ) made;
+    }
+
+pub filled : {bytes now : List ℕ} {word i left : ℕ} → length bytes ≤ i → Filling bytes word i now left
+    → now ≡ little_bytes (length bytes) word
+filled {bytes} {now} {word} {i} {left} h f =
+    let z : length bytes - i ≡ 0 = omega arith in
+    sym (take_all i now (omega (arith, f.kept)))
+    ∙ sym (append-nil (take i now))
+    ∙ rw z at f.made

@@ -29,11 +29,11 @@ module _ (a : ℕ) (vs l : List Bool) (h : a + length vs ≤ length l) where
   read-write =
       rw (drop_at (take a l) (vs ++ drop (a + length vs) l) a head-length) (take_at vs (drop (a + length vs) l) (length vs) refl)
 
-  pub write-below : (p : ℕ) → p < a → get_or (write a vs l) p false ≡ get_or l p false
+  write-below : (p : ℕ) → p < a → get_or (write a vs l) p false ≡ get_or l p false
   write-below p k =
       get_or-append (take a l) (vs ++ drop (a + length vs) l) false p (omega (arith, head-length)) ∙ get_or-take a l p false k
 
-  pub write-above : (p : ℕ) → a + length vs ≤ p → get_or (write a vs l) p false ≡ get_or l p false
+  write-above : (p : ℕ) → a + length vs ≤ p → get_or (write a vs l) p false ≡ get_or l p false
   write-above p k =
       let q : ℕ = p - (a + length vs) in
       let e : a + (length vs + q) ≡ p = omega arith in
@@ -44,7 +44,7 @@ module _ (a : ℕ) (vs l : List Bool) (h : a + length vs ≤ length l) where
       ∙ get_or-drop (a + length vs) l q false
       ∙ ap (λ (x : ℕ). get_or l x false) f)
 
-  pub write-within : (p : ℕ) → p < length vs → get_or (write a vs l) (a + p) false ≡ get_or vs p false
+  write-within : (p : ℕ) → p < length vs → get_or (write a vs l) (a + p) false ≡ get_or vs p false
   write-within p k =
       at_right (take a l) (vs ++ drop (a + length vs) l) a p head-length
       ∙ get_or-append vs (drop (a + length vs) l) false p k
@@ -74,7 +74,7 @@ write_out a vs l h b k = go (where? a (length vs) b)
     go (inr (inr x)) = write-above a vs l h b x
 
 -- sections that agree on some bits are the same there
-pub read_ext : (a n : ℕ) (l m : List Bool) → length m ≡ length l
+read_ext : (a n : ℕ) (l m : List Bool) → length m ≡ length l
     → ((b : ℕ) → (a ≤ b) × (b < a + n) → get_or m b false ≡ get_or l b false) → read a n m ≡ read a n l
 read_ext a n l m e f =
     ext_get_or false (read a n m) (read a n l) (simp (length-take, length-drop, e))

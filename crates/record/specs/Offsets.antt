@@ -1,8 +1,11 @@
 -- Where a value stands: offsets in bits, in elements and in pointers, each with its own address. Assumes nothing.
-use Rattle.std.specs.Prelude.{ℕ, ◌+◌, ◌*◌, ◌/◌, ◌%◌}
+use Rattle.std.specs.Prelude.{ℕ, ◌+◌, ◌*◌, ◌/◌, ◌%◌, Option, None, Some, Result, eqb}
+use Rattle.std.specs.Option.{ok_or}
+use Rattle.text.specs.Bytes.{cond}
 use Rattle.record.specs.declared.BitAddress.{BitAddress}
 use Rattle.record.specs.declared.BitOffset.{BitOffset}
 use Rattle.record.specs.declared.ElementOffset.{ElementOffset}
+use Rattle.record.specs.declared.NoWidth.{NoWidth}
 use Rattle.record.specs.declared.PointerOffset.{PointerOffset}
 use Rattle.record.specs.declared.Width.{Width}
 use Rattle.record.specs.declared.Width.TheVariants.{One, Two, Four, Eight}
@@ -13,6 +16,16 @@ bytes_of One = 1
 bytes_of Two = 2
 bytes_of Four = 4
 bytes_of Eight = 8
+
+-- the width of so many bytes, if there is one
+abbrev pub as_width : ℕ → Option Width
+as_width n =
+    cond (eqb n 1) (Some One)
+    (cond (eqb n 2) (Some Two) (cond (eqb n 4) (Some Four) (cond (eqb n 8) (Some Eight) None)))
+
+-- the same, or the number that is no width
+abbrev pub measured : ℕ → Result Width NoWidth
+measured n = ok_or (as_width n) (record { 0 = n })
 
 -- Bool at o: bit o modulo 8, lowest first, of the byte whose number is o divided by 8, rounded down
 abbrev pub bit_address : BitOffset → BitAddress

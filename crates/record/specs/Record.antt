@@ -1,28 +1,15 @@
 -- A record and what can be done to it (document 01, "What a line does to a record"). A section, of data bits or of the pointers'
 -- flags, is a list of Bools, so that one get and one set serve Bools, numbers and pointers. Assumes nothing.
-use Rattle.std.specs.Prelude.{ℕ, ◌+◌, ◌≤◌, ◌<◌, ◌≡◌, Bool, true, false, List, [], ◌∷◌, ◌++◌, eqb, leb, length, take, drop}
-use Rattle.std.specs.Prelude.{get_or, replicate}
-use Rattle.std.specs.Prelude.{Option, None, Some}
+use Rattle.std.specs.Prelude.{ℕ, ◌+◌, ◌≤◌, ◌<◌, ◌≡◌, Bool, false, List, [], ◌∷◌, ◌++◌, eqb, leb, length, take, drop}
+use Rattle.std.specs.Prelude.{get_or, replicate, Option}
+use Rattle.std.specs.Bool.{then_some}
+use Rattle.std.specs.Option.{option_map}
 use Rattle.text.specs.Bytes.{cond}
 use Rattle.record.specs.Bits.{to_bits, of_bits, xors}
 use Rattle.record.specs.Offsets.{Place, data_at, from, bit_count, pointer_address}
 use Rattle.record.specs.declared.ElementOffset.{ElementOffset}
 use Rattle.record.specs.declared.PointerOffset.{PointerOffset}
 use Rattle.record.specs.declared.Width.TheVariants.{Two}
-
--- a value where the test holds, else none
-abbrev pub only : {A : Type 0} → Bool → A → Option A
-only true a = Some a
-only false a = None
-
--- whether there is one
-abbrev pub is_some : {A : Type 0} → Option A → Bool
-is_some None = false
-is_some (Some a) = true
-
-abbrev pub map_o : {A B : Type 0} → (A → B) → Option A → Option B
-map_o f None = None
-map_o f (Some a) = Some (f a)
 
 -- n bits from a on, and the section with vs put there
 abbrev pub read : ℕ → ℕ → List Bool → List Bool
@@ -41,7 +28,7 @@ found a n l = cond (inside a n l) (read a n l) (replicate n false)
 
 -- What a set or a clear leaves: it has no meaning where it is not wholly inside its section.
 unfoldable pub stored : ℕ → List Bool → List Bool → Option (List Bool)
-stored a vs l = only (inside a (length vs) l) (write a vs l)
+stored a vs l = then_some (inside a (length vs) l) (write a vs l)
 
 -- exclusive or with the mask, on the way out and on the way in
 abbrev pub masked : Place → ℕ → List Bool → ℕ
@@ -82,13 +69,13 @@ abbrev pub get : Place → ℕ → Record → ℕ
 get p m r = get_bits p m r.bits
 
 abbrev pub put_value : Place → ℕ → ℕ → Record → Option Record
-put_value p v m r = map_o (λ bs. record { bits = bs; pointers = r.pointers }) (put_bits p v m r.bits)
+put_value p v m r = option_map (λ bs. record { bits = bs; pointers = r.pointers }) (put_bits p v m r.bits)
 
 abbrev pub null : PointerOffset → Record → Bool
 null i r = null_flag i r.pointers
 
 abbrev pub clear : PointerOffset → Record → Option Record
-clear i r = map_o (λ ps. record { bits = r.bits; pointers = ps }) (clear_flag i r.pointers)
+clear i r = option_map (λ ps. record { bits = r.bits; pointers = ps }) (clear_flag i r.pointers)
 
 -- ---- what the statements say of records
 

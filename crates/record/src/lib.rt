@@ -1,12 +1,12 @@
 // A record lent by its caller: a data section of bytes, and a byte for each pointer. The operations that document 01, "What a
 // line does to a record", gives a meaning: plain and masked gets and sets, tests of a tag, null tests and clears. Gets and tests
-// answer on sections of any length: they find zero bits where these are not wholly inside.
+// answer on sections of any length: they find zero bits where these are not wholly inside. Sets and clears write by index, since
+// no contract says what a slice holds after a write through its `get_mut`.
 #![tactic(auto)]
 
-ghost use Rattle.std.specs.Prelude.{◌≡◌, ◌+◌, ◌*◌, ◌/◌, ◌%◌, ◌^◌, ◌≤◌, ◌<◌, leb, length, take, drop};
-ghost use Rattle.std.proofs.lemmas.List.Edits.{sets};
+ghost use Rattle.std.specs.Prelude.{◌≡◌, ◌*◌, ◌/◌, ◌%◌, ◌^◌, ◌≤◌, ◌<◌, length};
 ghost use Rattle.record.specs.Bits.{bit, with_bit, little, little_bytes, section_bits, flags};
-ghost use Rattle.record.specs.Offsets.{bytes_of, bit_address, element_address, pointer_address, bool_at, data_at};
+ghost use Rattle.record.specs.Offsets.{bytes_of, measured, bit_address, element_address, pointer_address, bool_at, data_at};
 ghost use Rattle.record.specs.Record.{get_bits, tag_is, null_flag};
 ghost use Rattle.record.specs.Answers.{Put, Cleared};
 ghost use Rattle.record.specs.Bytes.{BoolAtHolds, NumberAtHolds, SetBytesHolds, SameBytesHolds};
@@ -32,31 +32,51 @@ pub struct BitAddress {
 }
 
 // How many bytes a number or an enum takes.
-#[derive(Clone, Copy)]
+#[derive(Clone, Copy, Debug, PartialEq, Eq)]
 pub enum Width {
-    One,
-    Two,
-    Four,
-    Eight,
+    One = 1,
+    Two = 2,
+    Four = 4,
+    Eight = 8,
 }
 
-// What becomes of a set or a clear; where it is not wholly inside its section it has no meaning, and the record is as before.
-#[derive(Clone, Copy)]
-pub enum Set {
-    Done,
-    NoMeaning,
-}
+// A number of bytes that is no width.
+#[derive(Clone, Copy, Debug, PartialEq, Eq)]
+pub struct NoWidth(pub u32);
+
+// Why a set or a clear is refused: it is not wholly inside its section. The record is as before.
+#[derive(Clone, Copy, Debug, PartialEq, Eq)]
+pub struct NoMeaning;
 
 impl Width {
     // The width in bytes.
     pub fn bytes(self) -> usize
         ensures { result ≡ bytes_of self }
     {
-        match self {
-            Width::One => 1,
-            Width::Two => 2,
-            Width::Four => 4,
-            Width::Eight => 8,
+        self as usize
+    }
+
+    // The low bits of a word, as many as the width has.
+    #[tactic(auto, using(crate::proofs::OperationLaws::low_ones))]
+    fn low_bits(self, word: u64) -> u64
+        ensures { result ≡ word % 2 ^ (bytes_of self * 8) }
+    {
+        word & (u64::MAX >> (64 - self.bytes() * 8))
+    }
+}
+
+impl TryFrom<u32> for Width {
+    type Error = NoWidth;
+
+    ghost try_from_gives = { λ n r. r ≡ measured n };
+
+    fn try_from(bytes: u32) -> Result<Width, NoWidth> {
+        match bytes {
+            1 => Ok(Width::One),
+            2 => Ok(Width::Two),
+            4 => Ok(Width::Four),
+            8 => Ok(Width::Eight),
+            _ => Err(NoWidth(bytes)),
         }
     }
 }
@@ -75,13 +95,7 @@ pub fn bit_address(o: BitOffset) -> BitAddress
 pub fn element_address(width: Width, o: ElementOffset) -> usize
     ensures { result ≡ element_address width o }
 {
-    let at = o.0 as usize;
-    match width {
-        Width::One => at,
-        Width::Two => at * 2,
-        Width::Four => at * 4,
-        Width::Eight => at * 8,
-    }
+    o.0 as usize * width.bytes()
 }
 
 // The byte of a pointer, among those that say whether pointers are null.
@@ -93,94 +107,59 @@ pub fn pointer_address(o: PointerOffset) -> usize
 
 // ---- bits and bytes
 
-// bit `bit` of a byte, lowest first
-fn bit_of(b: u8, bit: u32) -> u64
-    requires { bit < 8 }
-    ensures { result ≡ b / 2 ^ bit % 2 }
+// whether a bit of a byte is set, the lowest being bit 0
+fn bit_of(b: u8, at: u32) -> bool
+    requires { at < 8 }
+    ensures { bit result ≡ b / 2 ^ at % 2 }
 {
-    ((b >> bit) % 2) as u64
+    (b >> at) & 1 == 1
 }
 
-// the byte with that bit set to x, which is 0 or 1
-fn with_bit(b: u8, bit: u32, x: u64) -> u8
-    requires { (b < 256) × (bit < 8) × (x < 2) }
-    ensures { result ≡ with_bit b bit x }
+// the byte with that bit set or cleared
+#[tactic(auto, using(crate::proofs::OperationLaws::bit_put))]
+fn with_bit(b: u8, at: u32, on: bool) -> u8
+    requires { at < 8 }
+    ensures { result ≡ with_bit b at (bit on) }
 {
-    let p = 1u64 << bit;
-    let high = (b as u64) / p / 2;
-    let low = (b as u64) % p;
-    ((high * 2 + x) * p + low) as u8
+    (b & !(1 << at)) | (u8::from(on) << at)
 }
 
-// whether n bytes from at on lie in a section of len bytes
-fn inside(len: usize, at: usize, n: usize) -> bool
-    ensures { result ≡ leb (at + n) len }
+// the number that the bytes are, little-endian
+#[tactic(auto, using(crate::proofs::OperationLaws::loaded_turn, crate::proofs::OperationLaws::loaded_all))]
+fn load(bytes: &[u8]) -> u64
+    requires { length bytes.now ≤ 8 }
+    ensures { result ≡ little bytes.now }
 {
-    if len < at {
-        return false;
-    }
-    n <= len - at
-}
-
-// the number that n bytes from at on are, little-endian
-fn load(section: &[u8], at: usize, n: usize) -> u64
-    requires { (at + n ≤ length section.now) × (n ≤ 8) }
-    ensures { result ≡ little (take n (drop at section.now)) }
-{
-    let mut word: u64 = 0;
-    let mut i = n;
-    while 0 < i {
-        i -= 1;
-        let byte = section[at + i] as u64;
-        word = word * 256 + byte;
+    let mut word = 0;
+    for byte in bytes.iter().rev() {
+        word = (word << 8) | u64::from(*byte);
     }
     word
 }
 
-// puts the n low bytes of a number from at on, little-endian
-fn store(section: &mut [u8], at: usize, n: usize, word: u64)
-    requires { at + n ≤ length section.old }
-    ensures { section.new ≡ sets section.old at (little_bytes n word) }
+// fills the bytes with the low ones of a number, little-endian
+#[tactic(auto, using(crate::proofs::OperationLaws::filling_turn, crate::proofs::OperationLaws::filled))]
+fn store(bytes: &mut [u8], word: u64)
+    ensures { bytes.new ≡ little_bytes (length bytes.old) word }
 {
     let mut left = word;
-    let mut i = 0;
-    while i < n {
-        section[at + i] = (left % 256) as u8;
-        left = left / 256;
-        i += 1;
+    for byte in bytes.iter_mut() {
+        *byte = (left % 256) as u8;
+        left /= 256;
     }
-}
-
-// the low bits of a mask, as many as the width has
-fn low_bits(width: Width, mask: u64) -> u64
-    ensures { result ≡ mask % 2 ^ (bytes_of width * 8) }
-{
-    match width {
-        Width::One => mask % 0x100,
-        Width::Two => mask % 0x1_0000,
-        Width::Four => mask % 0x1_0000_0000,
-        Width::Eight => mask,
-    }
-}
-
-fn flag(b: bool) -> u64
-    ensures { result ≡ bit b }
-{
-    if b { 1 } else { 0 }
 }
 
 // ---- Bools
 
 // The bit there, exclusive or with the mask.
+#[tactic(auto, using(crate::proofs::OperationLaws::bool_got, crate::proofs::OperationLaws::bool_not_got))]
 pub fn get_bool_field_mask(section: &[u8], o: BitOffset, mask: bool) -> bool
     ensures { bit result ≡ get_bits (bool_at o) (bit mask) (section_bits section.now) }
 {
     let a = bit_address(o);
-    let byte = a.byte;
-    if byte < section.len() {
-        (bit_of(section[byte], a.bit) ^ flag(mask)) == 1
-    } else {
-        mask
+    match section.get(a.byte) {
+        Some(byte) => bit_of(*byte, a.bit) ^ mask,
+        None => mask,
     }
 }
 
@@ -192,21 +171,24 @@ pub fn get_bool_field(section: &[u8], o: BitOffset) -> bool
 }
 
 // Writes the value, exclusive or with the mask.
-pub fn set_bool_field_mask(section: &mut [u8], o: BitOffset, value: bool, mask: bool) -> Set
+pub fn set_bool_field_mask(
+    section: &mut [u8],
+    o: BitOffset,
+    value: bool,
+    mask: bool,
+) -> Result<(), NoMeaning>
     ensures { Put (bool_at o) (bit value) (bit mask) section.old section.new result }
 {
     let a = bit_address(o);
-    let byte = a.byte;
-    if byte < section.len() {
-        section[byte] = with_bit(section[byte], a.bit, flag(value) ^ flag(mask));
-        Set::Done
-    } else {
-        Set::NoMeaning
+    if a.byte >= section.len() {
+        return Err(NoMeaning);
     }
+    section[a.byte] = with_bit(section[a.byte], a.bit, value ^ mask);
+    Ok(())
 }
 
 // Writes the value as it is.
-pub fn set_bool_field(section: &mut [u8], o: BitOffset, value: bool) -> Set
+pub fn set_bool_field(section: &mut [u8], o: BitOffset, value: bool) -> Result<(), NoMeaning>
     ensures { Put (bool_at o) (bit value) 0 section.old section.new result }
 {
     set_bool_field_mask(section, o, value, false)
@@ -215,15 +197,14 @@ pub fn set_bool_field(section: &mut [u8], o: BitOffset, value: bool) -> Set
 // ---- numbers and enums, by their bits
 
 // The bits there as a number, exclusive or with the mask's low bits, as many as the width has.
+#[tactic(auto, using(crate::proofs::OperationLaws::data_got, crate::proofs::OperationLaws::data_not_got))]
 pub fn get_data_field_mask(section: &[u8], width: Width, o: ElementOffset, mask: u64) -> u64
     ensures { result ≡ get_bits (data_at width o) mask (section_bits section.now) }
 {
     let at = element_address(width, o);
-    let n = width.bytes();
-    if inside(section.len(), at, n) {
-        load(section, at, n) ^ low_bits(width, mask)
-    } else {
-        low_bits(width, mask)
+    match section.get(at..at + width.bytes()) {
+        Some(bytes) => load(bytes) ^ width.low_bits(mask),
+        None => width.low_bits(mask),
     }
 }
 
@@ -241,21 +222,25 @@ pub fn set_data_field_mask(
     o: ElementOffset,
     value: u64,
     mask: u64,
-) -> Set
+) -> Result<(), NoMeaning>
     ensures { Put (data_at width o) value mask section.old section.new result }
 {
     let at = element_address(width, o);
-    let n = width.bytes();
-    if inside(section.len(), at, n) {
-        store(section, at, n, value ^ mask);
-        Set::Done
-    } else {
-        Set::NoMeaning
+    let end = at + width.bytes();
+    if end > section.len() {
+        return Err(NoMeaning);
     }
+    store(&mut section[at..end], value ^ mask);
+    Ok(())
 }
 
 // Writes the value's low bits as they are.
-pub fn set_data_field(section: &mut [u8], width: Width, o: ElementOffset, value: u64) -> Set
+pub fn set_data_field(
+    section: &mut [u8],
+    width: Width,
+    o: ElementOffset,
+    value: u64,
+) -> Result<(), NoMeaning>
     ensures { Put (data_at width o) value 0 section.old section.new result }
 {
     set_data_field_mask(section, width, o, value, 0)
@@ -265,34 +250,31 @@ pub fn set_data_field(section: &mut [u8], width: Width, o: ElementOffset, value:
 pub fn tag_is(section: &[u8], o: ElementOffset, member: u16) -> bool
     ensures { result ≡ tag_is o member (section_bits section.now) }
 {
-    get_data_field(section, Width::Two, o) == member as u64
+    get_data_field(section, Width::Two, o) == u64::from(member)
 }
 
 // ---- pointers
 
 // Whether a pointer is null: its byte is 0, or past the pointers.
+#[tactic(auto, using(crate::proofs::OperationLaws::null_told))]
 pub fn is_pointer_field_null(pointers: &[u8], o: PointerOffset) -> bool
     ensures { result ≡ null_flag o (flags pointers.now) }
 {
-    let at = pointer_address(o);
-    if at < pointers.len() {
-        pointers[at] == 0
-    } else {
-        true
-    }
+    pointers
+        .get(pointer_address(o))
+        .is_none_or(|&byte| byte == 0)
 }
 
 // Makes a pointer null.
-pub fn clear(pointers: &mut [u8], o: PointerOffset) -> Set
+pub fn clear(pointers: &mut [u8], o: PointerOffset) -> Result<(), NoMeaning>
     ensures { Cleared o pointers.old pointers.new result }
 {
     let at = pointer_address(o);
-    if at < pointers.len() {
-        pointers[at] = 0;
-        Set::Done
-    } else {
-        Set::NoMeaning
+    if at >= pointers.len() {
+        return Err(NoMeaning);
     }
+    pointers[at] = 0;
+    Ok(())
 }
 
 // Makes it a promise of this crate which bytes the bits of a record are: a Bool's, a number's, and those that a set changes; and

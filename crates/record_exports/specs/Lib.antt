@@ -1,2 +1,1 @@
 pub mod Boundary
-pub mod Enums

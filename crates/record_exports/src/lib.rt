@@ -4,43 +4,12 @@
 
 ghost use Rattle.std.specs.Prelude.{◌≡◌, set};
 ghost use Rattle.record.specs.Bits.{bit, section_bits, flags};
+ghost use Rattle.record.specs.Offsets.{as_width};
 ghost use Rattle.record.specs.Record.{tag_is, null_flag, clear_flag};
-ghost use Rattle.record.specs.Answers.{set_means};
-ghost use Rattle.record_exports.specs.Boundary.{gets_bool, put_bool, elements, pointer_at, as_width, get_of, put_of};
+ghost use Rattle.record_exports.specs.Boundary.{gets_bool, put_bool, elements, pointer_at, get_of, put_of};
 ghost use Rattle.record_exports.specs.Boundary.{Gave, SetLeft};
-ghost use Rattle.record_exports.specs.Enums.{measured};
 
-use record::{BitOffset, ElementOffset, PointerOffset, Set, Width};
-
-// The width that a number of bytes is, if it is one.
-#[derive(Clone, Copy)]
-enum Measure {
-    Is(Width),
-    No,
-}
-
-// The width of so many bytes.
-fn width_of(width: u32) -> Measure
-    ensures { measured result ≡ as_width width }
-{
-    match width {
-        1 => Measure::Is(Width::One),
-        2 => Measure::Is(Width::Two),
-        4 => Measure::Is(Width::Four),
-        8 => Measure::Is(Width::Eight),
-        _ => Measure::No,
-    }
-}
-
-// whether a set or a clear has a meaning
-fn done(s: Set) -> bool
-    ensures { result ≡ set_means s }
-{
-    match s {
-        Set::Done => true,
-        Set::NoMeaning => false,
-    }
-}
+use record::{BitOffset, ElementOffset, PointerOffset, Width};
 
 // Bools: got and set with a mask and without.
 #[unsafe(no_mangle)]
@@ -67,7 +36,7 @@ pub extern "C" fn kitlubas_set_bool_mask(
     ensures { SetLeft (put_bool offset (bit value) (bit mask) section.old)
         (section_bits section.old) (section_bits section.new) result }
 {
-    done(record::set_bool_field_mask(section, BitOffset(offset), value, mask))
+    record::set_bool_field_mask(section, BitOffset(offset), value, mask).is_ok()
 }
 
 #[unsafe(no_mangle)]
@@ -75,7 +44,7 @@ pub extern "C" fn kitlubas_set_bool(section: &mut [u8], offset: u32, value: bool
     ensures { SetLeft (put_bool offset (bit value) 0 section.old)
         (section_bits section.old) (section_bits section.new) result }
 {
-    done(record::set_bool_field(section, BitOffset(offset), value))
+    record::set_bool_field(section, BitOffset(offset), value).is_ok()
 }
 
 // Numbers and enums by their bits: got and set with a mask and without.
@@ -90,7 +59,7 @@ pub extern "C" fn kitlubas_get_data_mask(
     ensures { Gave (get_of (as_width width) (elements offset) mask (section_bits section.now))
         value.old value.new result }
 {
-    let Measure::Is(w) = width_of(width) else {
+    let Ok(w) = Width::try_from(width) else {
         return false;
     };
     *value = record::get_data_field_mask(section, w, ElementOffset(offset), mask);
@@ -107,7 +76,7 @@ pub extern "C" fn kitlubas_get_data(
     ensures { Gave (get_of (as_width width) (elements offset) 0 (section_bits section.now))
         value.old value.new result }
 {
-    let Measure::Is(w) = width_of(width) else {
+    let Ok(w) = Width::try_from(width) else {
         return false;
     };
     *value = record::get_data_field(section, w, ElementOffset(offset));
@@ -125,10 +94,10 @@ pub extern "C" fn kitlubas_set_data_mask(
     ensures { SetLeft (put_of (as_width width) (elements offset) value mask (section_bits section.old))
         (section_bits section.old) (section_bits section.new) result }
 {
-    let Measure::Is(w) = width_of(width) else {
+    let Ok(w) = Width::try_from(width) else {
         return false;
     };
-    done(record::set_data_field_mask(section, w, ElementOffset(offset), value, mask))
+    record::set_data_field_mask(section, w, ElementOffset(offset), value, mask).is_ok()
 }
 
 #[unsafe(no_mangle)]
@@ -136,10 +105,10 @@ pub extern "C" fn kitlubas_set_data(section: &mut [u8], width: u32, offset: u32,
     ensures { SetLeft (put_of (as_width width) (elements offset) value 0 (section_bits section.old))
         (section_bits section.old) (section_bits section.new) result }
 {
-    let Measure::Is(w) = width_of(width) else {
+    let Ok(w) = Width::try_from(width) else {
         return false;
     };
-    done(record::set_data_field(section, w, ElementOffset(offset), value))
+    record::set_data_field(section, w, ElementOffset(offset), value).is_ok()
 }
 
 // Whether a union has the member with this number.
@@ -165,5 +134,5 @@ pub extern "C" fn kitlubas_clear(pointers: &mut [u8], offset: u32) -> bool
         (flags pointers.old) (flags pointers.new) result }
     ensures bytes { pointers.new ≡ set pointers.old offset 0 }
 {
-    done(record::clear(pointers, PointerOffset(offset)))
+    record::clear(pointers, PointerOffset(offset)).is_ok()
 }

@@ -13,7 +13,6 @@
 
 ghost use Rattle.std.specs.Prelude.{◌<◌};
 
-use programs::Input;
 use std::io::{self, Print};
 use text::Text;
 
@@ -22,8 +21,8 @@ fn hex_digit(b: u8) -> u64
     ensures { result < 16 }
 {
     match b {
-        b'0'..=b'9' => (b - b'0') as u64,
-        b'a'..=b'f' => (b - b'a' + 10) as u64,
+        b'0'..=b'9' => u64::from(b - b'0'),
+        b'a'..=b'f' => u64::from(b - b'a' + 10),
         _ => 0,
     }
 }
@@ -31,10 +30,8 @@ fn hex_digit(b: u8) -> u64
 // The number of the last 16 hex digits.
 fn hex(digits: &[u8]) -> u64 {
     let mut n: u64 = 0;
-    let mut i = 0;
-    while i < digits.len() {
-        n = n % 0x1000_0000_0000_0000 * 16 + hex_digit(digits[i]);
-        i += 1;
+    for &b in digits {
+        n = n % 0x1000_0000_0000_0000 * 16 + hex_digit(b);
     }
     n
 }
@@ -56,7 +53,7 @@ fn leaf(letter: u8, about: &[u8], t: Text, buf: &mut [u8]) -> Text {
 
 fn answer(letter: u8, about: &[u8], t: Text, buf: &mut [u8]) -> Text {
     match letter {
-        b'0'..=b'9' => t.line(buf, (letter - b'0') as usize, about),
+        b'0'..=b'9' => t.line(buf, usize::from(letter - b'0'), about),
         b'b' => t.blank_line(buf),
         b'z' => t.no_lines(buf),
         _ => {
@@ -73,28 +70,23 @@ fn print_answer(rt: &HostRuntime, letter: u8, about: &[u8], buf: &mut [u8]) -> i
 }
 
 fn print_case(rt: &HostRuntime, case: &[u8], buf: &mut [u8]) -> io::Result<()> {
-    if case.len() == 0 {
-        return Ok(());
+    match case {
+        [] => Ok(()),
+        [letter] => print_answer(rt, *letter, b"", buf),
+        [letter, _, about @ ..] => print_answer(rt, *letter, about, buf),
     }
-    if case.len() == 1 {
-        return print_answer(rt, case[0], b"", buf);
-    }
-    print_answer(rt, case[0], &case[2..], buf)
 }
 
 fn replay(rt: &HostRuntime, cases: &[u8], buf: &mut [u8]) -> io::Result<()> {
-    let mut at = 0;
-    while at < cases.len() {
-        let end = programs::line_end(cases, at);
-        print_case(rt, &cases[at..end], buf)?;
-        at = end + 1;
+    for case in cases.split(|&b| b == b'\n') {
+        print_case(rt, case, buf)?;
     }
     Ok(())
 }
 
 fn main(rt: HostRuntime) -> io::Result<()> {
     let mut cases = [0u8; 65536];
-    let Input::Bytes(n) = programs::read_input(&rt, &mut cases) else {
+    let Ok(n) = programs::read_input(&rt, &mut cases) else {
         return rt
             .stderr()
             .write_all(b"replay: cannot read standard input\n");

@@ -5,21 +5,23 @@
 // The files stdin and stdout beside src/ are written by the comparison in oracle/, by capnpc's own functions.
 #![tactic(auto)]
 
-use column::Number;
-use programs::Input;
-use std::io::{self, Print};
+use programs::Sheet;
+use std::io::{self, ErrorKind, Print};
 use text::Text;
 
 // The number in the columns from a place on; 0 where there is none.
 fn number(asked: &[u8], at: usize) -> u64 {
-    let Number::Is(n) = column::column(asked, at, 0, u64::MAX) else {
-        return 0;
-    };
-    n
+    column::column(asked, at, 0, u64::MAX).unwrap_or(0)
 }
 
 // Prints four numbers as a line.
-fn print_numbers(rt: &HostRuntime, refusal: u64, line: usize, column: usize, fill: usize) -> bool {
+fn print_numbers(
+    rt: &HostRuntime,
+    refusal: u64,
+    line: usize,
+    column: usize,
+    fill: usize,
+) -> io::Result<()> {
     let mut buf = [0u8; 4096];
     let t = Text::at(0).number(&mut buf, refusal);
     let t = t.byte(&mut buf, b' ');
@@ -30,11 +32,11 @@ fn print_numbers(rt: &HostRuntime, refusal: u64, line: usize, column: usize, fil
     let t = t.number(&mut buf, fill as u64);
     let t = t.byte(&mut buf, b'\n');
     let n = programs::filled(t, &buf);
-    rt.write_all(&buf[..n]).is_ok()
+    rt.write_all(&buf[..n])
 }
 
 // Prints the answer to a request over a buffer.
-fn print_answer(rt: &HostRuntime, sheet: &[u8], asked: &[u8], buf: &mut [u8]) -> bool {
+fn print_answer(rt: &HostRuntime, sheet: &[u8], asked: &[u8], buf: &mut [u8]) -> io::Result<()> {
     let mut fill = number(asked, 85) as usize;
     let mut line: usize = 0;
     let mut column: usize = 0;
@@ -49,69 +51,59 @@ fn print_answer(rt: &HostRuntime, sheet: &[u8], asked: &[u8], buf: &mut [u8]) ->
         &mut column,
         buf,
     );
-    if !print_numbers(rt, refusal, line, column, fill) {
-        return false;
-    }
-    if rt.write_all(buf).is_err() {
-        return false;
-    }
-    rt.write_all(b"\n").is_ok()
+    print_numbers(rt, refusal, line, column, fill)?;
+    rt.write_all(buf)?;
+    rt.write_all(b"\n")
 }
 
-// Prints the answer to a request over as much of a buffer as it asks for, where there is so much.
-fn print_part(rt: &HostRuntime, sheet: &[u8], asked: &[u8], buf: &mut [u8]) -> bool {
+// Prints the answer to a request over as much of a buffer as it asks for; it is an error where there is less.
+fn print_part(rt: &HostRuntime, sheet: &[u8], asked: &[u8], buf: &mut [u8]) -> io::Result<()> {
     let size = number(asked, 106) as usize;
     if buf.len() < size {
-        return false;
+        return Err(io::Error::from(ErrorKind::InvalidInput));
     }
     print_answer(rt, sheet, asked, &mut buf[..size])
 }
 
 // Prints the answer to a request over points, at most 4,096.
-fn print_request(rt: &HostRuntime, sheet: &[u8], asked: &[u8]) -> bool {
+fn print_request(rt: &HostRuntime, sheet: &[u8], asked: &[u8]) -> io::Result<()> {
     let mut points = [b'.'; 4096];
     print_part(rt, sheet, asked, &mut points)
 }
 
-// Prints the answers to the requests of a sheet, and tells whether all were written.
-fn replay_requests(rt: &HostRuntime, sheet: &[u8], requests: &[u8]) -> bool {
+// Prints the answers to the requests of a sheet.
+fn replay_requests(rt: &HostRuntime, sheet: &[u8], requests: &[u8]) -> io::Result<()> {
+    // No `split`: after the last byte 10 it has an empty part, which is no request.
     let mut at = 0;
     while at < requests.len() {
         let end = programs::line_end(requests, at);
-        if !print_request(rt, sheet, &requests[at..end]) {
-            return false;
-        }
+        print_request(rt, sheet, &requests[at..end])?;
         at = end + 1;
     }
-    true
+    Ok(())
 }
 
-// Prints the answers for each sheet, and tells whether all were written.
-fn replay(rt: &HostRuntime, input: &[u8]) -> bool {
+// Prints the answers for each sheet.
+fn replay(rt: &HostRuntime, input: &[u8]) -> io::Result<()> {
+    // No iterator of std: where a sheet and its requests end stands in the lines before them.
     let mut at = 0;
     while at < input.len() {
-        let sheet = programs::next_sheet(input, at);
-        let start = sheet.start;
-        let end = sheet.end;
+        let Sheet { start, end } = programs::next_sheet(input, at);
         let requests = programs::next_sheet(input, end);
-        let first = requests.start;
-        let last = requests.end;
-        if !replay_requests(rt, &input[start..end], &input[first..last]) {
-            return false;
-        }
-        at = last;
+        replay_requests(rt, &input[start..end], &input[requests.start..requests.end])?;
+        at = requests.end;
     }
-    true
+    Ok(())
 }
 
 fn main(rt: HostRuntime) -> io::Result<()> {
     let mut input = [0u8; 65536];
-    let Input::Bytes(n) = programs::read_input(&rt, &mut input) else {
+    let Ok(n) = programs::read_input(&rt, &mut input) else {
         return rt
             .stderr()
             .write_all(b"replay_requests: cannot read standard input\n");
     };
-    if !replay(&rt, &input[..n]) {
+    if replay(&rt, &input[..n]).is_err() {
         return rt
             .stderr()
             .write_all(b"replay_requests: not all answers were printed\n");

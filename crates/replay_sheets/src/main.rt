@@ -3,8 +3,7 @@
 // are written by the comparison in oracle/, by its own reader of sheets.
 #![tactic(auto)]
 
-use programs::Input;
-use sheet::Answer;
+use sheet::Refused;
 use std::io::{self, Print};
 use text::Text;
 
@@ -14,6 +13,7 @@ fn put(n: u64, end: u8, t: Text, buf: &mut [u8]) -> Text {
     t.byte(buf, end)
 }
 
+// Prints a sheet's line: its refusal's number, line and column, or zeros.
 fn print_line(
     rt: &HostRuntime,
     number: u64,
@@ -28,37 +28,28 @@ fn print_line(
     rt.write_all(&buf[..n])
 }
 
+// Prints the line of a sheet's bytes.
 fn print_sheet(rt: &HostRuntime, s: &[u8], buf: &mut [u8]) -> io::Result<()> {
     let mut none = [0u64; 0];
     match sheet::admit(s, &mut none) {
-        Answer::Sheet => print_line(rt, 0, 0, 0, buf),
-        Answer::Refused {
-            number,
-            line,
-            column,
-        } => print_line(rt, number, line, column, buf),
+        Ok(()) => print_line(rt, 0, 0, 0, buf),
+        Err(
+            Refused {
+                refusal,
+                line,
+                column,
+            },
+        ) => print_line(rt, refusal.number(), line, column, buf),
     }
-}
-
-fn replay(rt: &HostRuntime, sheets: &[u8], buf: &mut [u8]) -> io::Result<()> {
-    let mut at = 0;
-    while at < sheets.len() {
-        let next = programs::next_sheet(sheets, at);
-        let start = next.start;
-        let end = next.end;
-        print_sheet(rt, &sheets[start..end], buf)?;
-        at = end;
-    }
-    Ok(())
 }
 
 fn main(rt: HostRuntime) -> io::Result<()> {
     let mut sheets = [0u8; 65536];
-    let Input::Bytes(n) = programs::read_input(&rt, &mut sheets) else {
+    let Ok(n) = programs::read_input(&rt, &mut sheets) else {
         return rt
             .stderr()
             .write_all(b"replay_sheets: cannot read standard input\n");
     };
     let mut buf = [0u8; 4096];
-    replay(&rt, &sheets[..n], &mut buf)
+    programs::each_sheet(&sheets[..n], |s| print_sheet(&rt, s, &mut buf))
 }

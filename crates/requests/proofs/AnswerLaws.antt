@@ -1,6 +1,7 @@
--- Laws of the answer: each way in which a request ends. The fill count is within the buffer, but for 21. Assumes nothing.
+-- Laws of the answer: what is measured, and each way in which a request ends. The fill count is within the buffer, but for 21.
+-- Assumes nothing.
 use mathlib.Core.Path.{◌≡◌, refl, ap, ◌∙◌}
-use Rattle.std.specs.Prelude.{None, Some}
+use Rattle.std.specs.Prelude.{Result, Ok, Err}
 use Prim.Native.Nat.{ℕ, ◌+◌, ◌-◌, ◌^◌, ◌≤◌, ◌<◌, min}
 use native.Mathlib.Omega.{arith}
 use borrow.Author.Tests.{lt-ltb, le-ltb}
@@ -10,26 +11,33 @@ use Rattle.text.specs.Text.{put, adv, state_at, Wrote}
 use Rattle.text.specs.declared.Text.{Text}
 use Rattle.text.proofs.AnswerLaws as text-laws
 use Rattle.text.proofs.Places.{adv-at}
+use Rattle.terms.specs.Refusals.{number}
+use Rattle.terms.specs.declared.refusals.Refusal.{Refusal}
+use Rattle.terms.specs.declared.refusals.Refusal.TheVariants.{FillPastEnd, NoRoom}
 use Rattle.tree.proofs.OtherLines.{never}
-use Rattle.codegen_types.specs.Out.{Out, ok, refused, ◌then◌, refusal_of}
-use Rattle.codegen_types.specs.declared.Refusal.TheVariants.{None, Number}
-use Rattle.codegen_types.specs.Written.{Writes, refusal_number}
-use Rattle.codegen_types.specs.declared.Written.{Written}
-use Rattle.codegen_types.proofs.WrittenLaws.{text_of, refused-text}
+use Rattle.codegen_types.specs.Out.{Out, ok, refused}
+use Rattle.codegen_types.specs.Written.{Writes}
+use Rattle.codegen_types.proofs.WrittenLaws.{refusal-is}
+use Rattle.sheet.specs.declared.Refused.{Refused}
 use Rattle.requests.specs.Requests.{Outcome, gives, refuses, outcome}
-use Rattle.requests.specs.Told.{Answered}
-use Rattle.requests.specs.Parts.{Locates}
-use Rattle.requests.specs.declared.Located.{Located}
-use Rattle.tree.specs.Tree as tree
-use Rattle.tree.specs.Tree.{Node}
-use Rattle.field.specs.Field.{FieldIs}
-use Rattle.field.specs.declared.Field.TheVariants as field
-use Rattle.requests.specs.declared.Answer.{Answer}
-use Rattle.requests.specs.declared.Answer.TheVariants.{Done, Refused}
+use Rattle.requests.specs.Told.{Answered, unplaced, length_of, length_said}
 use Rattle.requests.proofs.LentLaws.{text-end, lent, back, lent-wrote}
 
+-- ---- what is measured: the length of a text that is written from the start on, or its refusal
+
+pub measured-text : {l : Str} {t : Text} {l' : Str} {u : Text} (o : Out Str) → t ≡ state_at 0 → Writes o l t l' (Ok u) → (n : ℕ)
+    → n ≡ u.at → length_said (Ok n) ≡ length_of o
+measured-text (ok w) z h n e = ap Ok (e ∙ text-end z (h.text w _ refl refl))
+measured-text (refused k) z h n e = let f = h.refusal in never cc
+
+pub measured-refusal : {l : Str} {t : Text} {l' : Str} {e : Refusal} (o : Out Str) → Writes o l t l' (Err e)
+    → length_said (Err e) ≡ length_of o
+measured-refusal o h = rw (refusal-is o h) refl
+
+-- ---- the ends of a request
+
 -- a fill count past the end is refused whatever is asked
-pub past_end : (l : Str) (t : Text) (o : Outcome) → length l < t.at → Answered l t o l (Refused 21 0 0)
+pub past_end : (l : Str) (t : Text) (o : Outcome) → length l < t.at → Answered l t o l (Err (unplaced FillPastEnd))
 past_end l t (gives w) h =
     let a = text-laws.refused_21 l t.at w h in
     record { answer = a.answer; buffer = a.buffer }
@@ -37,21 +45,21 @@ past_end l t (refuses k line column) h = record { answer = rw (lt-ltb _ _ h); bu
 
 module _ (l : Str) (t : Text) (within : t.at ≤ length l) where
   -- a refusal changes nothing
-  pub refuses_so : (k line column : ℕ) → Answered l t (refuses k line column) l (Refused k line column)
-  refuses_so k line column = record { answer = rw (le-ltb _ _ within); buffer = refl }
+  pub refuses_so : (r : Refused) → Answered l t (refuses (number r.refusal) r.line r.column) l (Err r)
+  refuses_so r = record { answer = rw (le-ltb _ _ within); buffer = refl }
 
   -- a request whose text is w, which does not fit, or fits
   module _ (w : Str) (b : length l < 2 ^ 64 - 1) where
     end : (adv t w).at ≡ min (t.at + length w) (2 ^ 64 - 1)
     end = ap (λ (u : Text). u.at) (adv-at t w (omega arith))
 
-    pub too_long : length l < t.at + length w → Answered l t (gives w) l (Refused 22 0 0)
+    too_long : length l < t.at + length w → Answered l t (gives w) l (Err (unplaced NoRoom))
     too_long h =
         let m : Wrote l t w (put l t w) (adv t w) = record { bytes = refl; state = refl } in
         let a = text-laws.refused_22 l t.at w l (put l t w) (adv t w) within (omega arith) m (omega (arith, end)) in
         record { answer = a.answer; buffer = a.buffer }
 
-    pub fits : (l₂ : Str) (t₂ : Text) → t.at + length w ≤ length l → Wrote l t w l₂ t₂ → Answered l t (gives w) l₂ (Done t₂)
+    fits : (l₂ : Str) (t₂ : Text) → t.at + length w ≤ length l → Wrote l t w l₂ t₂ → Answered l t (gives w) l₂ (Ok t₂)
     fits l₂ t₂ h written =
         let a = text-laws.done-placed l t.at w l l₂ t₂ l₂ t₂ within b written (omega (arith, count)) written in
         record { answer = a.answer; buffer = a.buffer }
@@ -59,59 +67,22 @@ module _ (l : Str) (t : Text) (within : t.at ≤ length l) where
         count : t₂.at ≡ min (t.at + length w) (2 ^ 64 - 1)
         count = ap (λ (u : Text). u.at) written.state ∙ end
 
--- what is refused where it is measured is refused wherever it would be written
-pub refused_so : (o : Out Str) {l₀ : Str} {t₀ : Text} {l₁ : Str} {r : Written} {l : Str} {t : Text} {l' : Str} {q : Written}
-    → Writes o l₀ t₀ l₁ r → (k : ℕ) → r.refusal ≡ Number k → refusal_number q.refusal ≡ Some k → Writes o l t l' q
-refused_so o {l = l} {t = t} {l' = l'} {q = q} w k e n = go o (rw e at w.refusal)
-  where
-    go : (o : Out Str) → Some k ≡ refusal_of o → Writes o l t l' q
-    go (ok w) e = never cc
-    go (refused j) e = let z : j ≡ k = cc in rw z (refused-text n)
+  -- a request that comes to o, which was measured: a text that is too long, or a text that fits
+  module _ (n : ℕ) (b : length l < 2 ^ 64 - 1) where
+    pub own-long : (o : Out Str) → length_said (Ok n) ≡ length_of o → length l - t.at < n
+        → Answered l t (outcome o) l (Err (unplaced NoRoom))
+    own-long (ok w) m h = let z : n ≡ min (length w) (2 ^ 64 - 1) = cc in too_long w b (omega arith)
+    own-long (refused k) m h = never cc
 
--- a request that comes to o, measured from the start of l₀ on: its refusal, a text that is too long, or a text that fits
-module _
-    (o : Out Str) (l : Str) (t : Text) (within : t.at ≤ length l) {t₀ : Text} (z : t₀ ≡ state_at 0) (l₀ l₁ : Str) (r : Written)
-    (measured : Writes o l₀ t₀ l₁ r)
-  where
-    pub own-refusal : (k : ℕ) → r.refusal ≡ Number k → Answered l t (outcome o) l (Refused k 0 0)
-    own-refusal k e = go o (rw e at measured.refusal)
-      where
-        go : (o : Out Str) → Some k ≡ refusal_of o → Answered l t (outcome o) l (Refused k 0 0)
-        go (ok w) e = never cc
-        go (refused j) e = let z : j ≡ k = cc in rw z (refuses_so l t within k 0 0)
-
-    -- n is the text's length, and fill the state's count
-    module _ (n fill : ℕ) (b : length l < 2 ^ 64 - 1) (whole : r.refusal ≡ None) (long : n ≡ r.text.at)
-        (f : fill ≡ t.at) where
-      pub own-long : length l - fill < n → Answered l t (outcome o) l (Refused 22 0 0)
-      own-long h = go o (rw whole at measured.refusal) measured
-        where
-          go : (o : Out Str) → None ≡ refusal_of o → Writes o l₀ t₀ l₁ r → Answered l t (outcome o) l (Refused 22 0 0)
-          go (ok w) e m = too_long l t within w b (omega (arith, text-end z (text_of m), long, f))
-          go (refused j) e m = never cc
-
-      -- the text is written from the start of the free part on
-      pub own-text : (l₂ : Str) (q : Written) (u : Text) → n ≤ length l - fill → Writes o (lent l fill) t₀ l₂ q
-          → u ≡ state_at (fill + n) → Answered l t (outcome o) (back l fill l₂) (Done u)
-      own-text l₂ q u h written d = go o (rw whole at measured.refusal) measured (rw f at written)
-        where
-          go : (o : Out Str) → None ≡ refusal_of o → Writes o l₀ t₀ l₁ r → Writes o (lent l t.at) t₀ l₂ q
-              → Answered l t (outcome o) (back l fill l₂) (Done u)
-          go (ok w) e m v =
-              let k : n ≡ length w = omega (arith, text-end z (text_of m), long, f) in
-              let s : t.at + length w ≤ length l = omega (arith, k, f) in
-              rw (d, f, k) (fits l t within w b _ _ s (lent-wrote l t.at w s b z (text_of v)))
-          go (refused j) e m v = never cc
-
--- a field that was looked for: 15 where there is none, else what its request comes to
-module _ (s : Str) (q : Located) (g : Node × tree.Field → Out Str) (l : Str) (t : Text) where
-  pub nowhere : (o : Out (Node × tree.Field)) → Locates s q o → q.field ≡ field.Nothing → t.at ≤ length l
-      → Answered l t (outcome (o then g)) l (Refused 15 0 0)
-  nowhere (ok at) h e within = absurd (rw e at h.1)
-  nowhere (refused k) h e within = rw h.0 (refuses_so l t within 15 0 0)
-
-  pub somewhere : (l' : Str) (a : Answer) (o : Out (Node × tree.Field)) → Locates s q o → (q.field ≡ field.Nothing → ⊥)
-      → ((at : Node × tree.Field) → at.0.tag_offset ≡ q.tag → FieldIs s q.field at.1 → Answered l t (outcome (g at)) l' a)
-      → Answered l t (outcome (o then g)) l' a
-  somewhere l' a (ok at) h n f = f at h.0 h.1
-  somewhere l' a (refused k) h n f = absurd (n h.1)
+    -- the text is written from the start of the free part on
+    pub own-text : (o : Out Str) → length_said (Ok n) ≡ length_of o → n ≤ length l - t.at → {t₀ : Text} → t₀ ≡ state_at 0
+        → (fill : ℕ) → fill ≡ t.at → (l₂ : Str) (q : Result Text Refusal) → Writes o (lent l fill) t₀ l₂ q
+        → (u : Text) → u ≡ state_at (fill + n) → Answered l t (outcome o) (back l fill l₂) (Ok u)
+    own-text (refused k) m h z fill f l₂ q v u d = never cc
+    own-text (ok w) m h {t₀} z fill f l₂ (Ok x) v u d =
+        let k : n ≡ min (length w) (2 ^ 64 - 1) = cc in
+        let k₂ : n ≡ length w = omega arith in
+        let s : t.at + length w ≤ length l = omega (arith, k₂) in
+        let v' = rw f at v in
+        rw (d, f, k₂) (fits w b _ _ s (lent-wrote l t.at w s b z (v'.text w x refl refl)))
+    own-text (ok w) m h z fill f l₂ (Err e) v u d = let g = v.refusal in never cc

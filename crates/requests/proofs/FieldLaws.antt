@@ -2,12 +2,8 @@
 -- arm. Assumes nothing.
 use mathlib.Core.Path.{◌≡◌, refl, sym}
 use mathlib.Core.List.{List}
-use Rattle.std.specs.Prelude.{Option, None, Some}
-use mathlib.Core.Bool.{true, false, not}
-use Prim.Native.Nat.{ℕ, ◌-◌, ◌<◌}
-use native.Mathlib.Omega.{arith}
-use borrow.Author.Tests.{ne_eqb}
-use lib.Dec.{eqb}
+use Rattle.std.specs.Prelude.{Option, None, Some, Result, Ok, Err}
+use Prim.Native.Nat.{ℕ}
 use lib.ListN.{drop}
 use Rattle.text.specs.Bytes.{Str}
 use Rattle.text.specs.Lines.{Branch, stringify}
@@ -22,11 +18,10 @@ use Rattle.codegen_types.specs.Out.{Out, ok, refused, ◌then◌}
 use Rattle.codegen_types.specs.TypeString.{type_string}
 use Rattle.codegen_types.specs.Written.{Writes}
 use Rattle.codegen_types.specs.declared.Leaf.{Leaf}
-use Rattle.codegen_types.specs.declared.Written.{Written}
+use Rattle.terms.specs.declared.refusals.Refusal.{Refusal}
 use Rattle.codegen_types.proofs.WrittenLaws as written
 use Rattle.nodes.specs.Index.{by_id, nth, Indexed, Finds, lookup}
 use Rattle.nodes.specs.declared.Entry.{Entry}
-use Rattle.nodes.specs.declared.Found.TheVariants as found
 use Rattle.nodes.proofs.Laws.{found-is}
 use Rattle.field.specs.Slot.{SlotField, SlotHere}
 use Rattle.field.specs.Field.{SlotIn, GroupIn, FieldIs, FindsField}
@@ -34,59 +29,59 @@ use Rattle.field.specs.declared.Slot as code
 use Rattle.field.specs.declared.Group.{Group}
 use Rattle.field.specs.declared.Field.{Field}
 use Rattle.field.specs.declared.Field.TheVariants as field
-use Rattle.requests.specs.Parts.{may_have_scopes}
-use Rattle.codegen.specs.Zeroing.{Zeroing, zero_fields_of_group, zeroing_request}
+use Rattle.codegen.specs.Zeroing as zero
+use Rattle.codegen.specs.Zeroing.{zero_fields_of_group, zeroing_request}
 use Rattle.zeroing.specs.Told.{Zeroes}
 use Rattle.zeroing.specs.declared.Zeroed.{Zeroed}
-use Rattle.requests.specs.Requests.{there, leaf_of, field_at, type_text, slot_named, slot_field, group_of}
+use Rattle.requests.specs.Requests.{there, leaf_of, field_at, type_text, slot_named, slot_field, group_of, accessor_text}
+use Rattle.requests.specs.declared.Accessor.{Accessor}
+use Rattle.requests.specs.declared.Accessor.TheVariants.{TypeText, Getter, Setter, Haser, Zeroing}
 use Rattle.requests.specs.Parts.{Locates}
+use Rattle.requests.specs.declared.Located.{Located}
 
 -- ---- where a field is
 
-module _ (s : Str) (index : List ℕ) (nodes : List Node) (id place : ℕ) where
-  pub located : (e : Entry) (f : Field) → Indexed s nodes index → found.At e ≡ lookup index id
-      → ((fs : List tree.Field) → FieldsHere (rows (drop e.fields s)) fs → FindsField s f (nth place fs))
-      → Locates s (record { tag = e.tag_offset; field = f }) (field_at nodes id place)
+module _ (s : Str) (index : List ℕ) (nodes : List Node) (id place : ℕ) (x : Indexed s nodes index) where
+  -- in the node whose entry this is, whatever is found at the place
+  in-entry : (e : Entry) (r : Option Located) → Some e ≡ lookup index id
+      → ((n : Node) → n.tag_offset ≡ e.tag_offset → FieldsHere (rows (drop e.fields s)) n.fields
+      → Locates s r (there (nth place n.fields) then λ g. ok (n, g))) → Locates s r (field_at nodes id place)
   unfolding field_at
-  located e f x i at_place = go (by_id id nodes) (rw (← i) at (found-is s nodes index id x))
+  in-entry e r i f = go (by_id id nodes) (rw (← i) at (found-is s nodes index id x))
     where
-      by_field : (n : Node) (o : Option tree.Field) → n.tag_offset ≡ e.tag_offset → FindsField s f o
-          → Locates s (record { tag = e.tag_offset; field = f }) (there o then λ g. ok (n, g))
-      by_field n (Some g) t h = (t, h)
-      by_field n None t h = (refl, h)
-
-      go : (o : Option Node) → Finds s index (found.At e) o
-          → Locates s (record { tag = e.tag_offset; field = f })
-          (there o then λ n. there (nth place n.fields) then λ g. ok (n, g))
-      go (Some n) h = by_field n (nth place n.fields) (sym h.tag-offset) (at_place n.fields h.fields)
+      go : (o : Option Node) → Finds s index (Some e) o
+          → Locates s r (there o then λ n. there (nth place n.fields) then λ g. ok (n, g))
+      go (Some n) h = f n (sym h.tag-offset) h.fields
       go None h = absurd h
 
-  pub unlocated : Indexed s nodes index → found.Nothing ≡ lookup index id
-      → Locates s (record { tag = 0; field = field.Nothing }) (field_at nodes id place)
-  unfolding field_at
-  unlocated x i = go (by_id id nodes) (rw (← i) at (found-is s nodes index id x))
+  pub located : (e : Entry) (f : Field) → Some e ≡ lookup index id
+      → ((fs : List tree.Field) → FieldsHere (rows (drop e.fields s)) fs → FindsField s (Some f) (nth place fs))
+      → Locates s (Some (record { tag = e.tag_offset; field = f })) (field_at nodes id place)
+  located e f i found = in-entry e (Some (record { tag = e.tag_offset; field = f })) i
+      (λ n t h. go n (nth place n.fields) t (found n.fields h))
     where
-      go : (o : Option Node) → Finds s index found.Nothing o
-          → Locates s (record { tag = 0; field = field.Nothing })
-          (there o then λ n. there (nth place n.fields) then λ g. ok (n, g))
+      go : (n : Node) (o : Option tree.Field) → n.tag_offset ≡ e.tag_offset → FindsField s (Some f) o
+          → Locates s (Some (record { tag = e.tag_offset; field = f })) (there o then λ g. ok (n, g))
+      go n (Some g) t h = (t, h)
+      go n None t h = absurd h
+
+  pub no-field : (e : Entry) → Some e ≡ lookup index id
+      → ((fs : List tree.Field) → FieldsHere (rows (drop e.fields s)) fs → FindsField s None (nth place fs))
+      → Locates s None (field_at nodes id place)
+  no-field e i found = in-entry e None i (λ n t h. go n (nth place n.fields) (found n.fields h))
+    where
+      go : (n : Node) (o : Option tree.Field) → FindsField s None o → Locates s None (there o then λ g. ok (n, g))
+      go n (Some g) h = absurd h
+      go n None h = refl
+
+  pub no-node : None ≡ lookup index id → Locates s None (field_at nodes id place)
+  unfolding field_at
+  no-node i = go (by_id id nodes) (rw (← i) at (found-is s nodes index id x))
+    where
+      go : (o : Option Node) → Finds s index None o
+          → Locates s None (there o then λ n. there (nth place n.fields) then λ g. ok (n, g))
       go (Some n) h = absurd h
-      go None h = (refl, refl)
-
--- whether it may have scopes: nothing but a slot, by the bytes between its type and its words
-pub scopes-none : (f : Field) → ((r : code.Slot) → f ≡ field.Slot r → ⊥) → false ≡ may_have_scopes f
-scopes-none (field.Slot r) o = absurd (o r refl)
-scopes-none (field.Group g) o = refl
-scopes-none field.Nothing o = refl
-
-module _ (f : Field) (r : code.Slot) (is : f ≡ field.Slot r) where
-  pub scopes-back : r.words < r.typ → true ≡ may_have_scopes f
-  scopes-back h = let z : r.words - r.typ ≡ 0 = omega arith in rw (is, z) refl
-
-  pub scopes-one : r.words - r.typ ≡ 130 → false ≡ may_have_scopes f
-  scopes-one e = rw (is, e) refl
-
-  pub scopes-more : (r.words - r.typ ≡ 130 → ⊥) → not (eqb (r.words - r.typ) 216) ≡ may_have_scopes f
-  scopes-more e = rw (is, ne_eqb (r.words - r.typ) 130 e) refl
+      go None h = refl
 
 -- ---- what its requests come to
 
@@ -96,7 +91,7 @@ on-has P (got b q) a h e = rw e at h
 on-has P (no k q) a h e = absurd e
 
 -- of the field f, which was read from s
-module _ (s : Str) (f : tree.Field) {l : List ℕ} {t : Text} {l' : List ℕ} {q : Written} where
+module _ (s : Str) (f : tree.Field) {l : List ℕ} {t : Text} {l' : List ℕ} {q : Result Text Refusal} where
   pub slot_accessor : (r : code.Slot) (g : SlotField → Out Str) → FieldIs s (field.Slot r) f
       → ((a : SlotField) → SlotHere s r a → Writes (g a) l t l' q) → Writes (slot_field f then g) l t l' q
   slot_accessor r g h k = go f.arm h
@@ -161,13 +156,33 @@ module _ (s : Str) (f : tree.Field) {l : List ℕ} {t : Text} {l' : List ℕ} {q
       go (slot sl) h = absurd h
       go (group id) h = k
 
--- a zeroing as a request
-pub zeroes : (sheet : Sheet) (id : ℕ) {l : List ℕ} {t : Text} {l' : List ℕ} (z : Zeroed) (r : Written)
-    → Zeroes (zero_fields_of_group sheet 16 id) l t l' z → r.text ≡ z.text → r.refusal ≡ z.refusal
-    → Writes (zeroing_request sheet id) l t l' r
+-- a zeroing as a request: its text, or its refusal
+pub zeroed-text : (sheet : Sheet) (id : ℕ) {l : List ℕ} {t : Text} {l' : List ℕ} (z : Zeroed)
+    → Zeroes (zero_fields_of_group sheet 16 id) l t l' (Ok z) → Writes (zeroing_request sheet id) l t l' (Ok z.text)
 unfolding zeroing_request
-zeroes sheet id {l} {t} {l'} z r h i n = go (zero_fields_of_group sheet 16 id) h
+zeroed-text sheet id {l} {t} {l'} z h = go (zero_fields_of_group sheet 16 id) h
   where
-    go : (o : Out Zeroing) → Zeroes o l t l' z → Writes (o then λ y. ok (stringify (Branch y.result))) l t l' r
-    go (ok y) h = written.whole (rw i h.text) (rw n h.refusal)
-    go (refused k) h = written.refused-text (rw n h)
+    go : (o : Out zero.Zeroing) → Zeroes o l t l' (Ok z)
+        → Writes (o then λ y. ok (stringify (Branch y.result))) l t l' (Ok z.text)
+    go (ok y) h = written.whole h.text
+    go (refused k) h = absurd h
+
+pub zeroed-refusal : (sheet : Sheet) (id : ℕ) {l : List ℕ} {t : Text} {l' : List ℕ} (e : Refusal)
+    → Zeroes (zero_fields_of_group sheet 16 id) l t l' (Err e) → Writes (zeroing_request sheet id) l t l' (Err e)
+unfolding zeroing_request
+zeroed-refusal sheet id {l} {t} {l'} e h = go (zero_fields_of_group sheet 16 id) h
+  where
+    go : (o : Out zero.Zeroing) → Zeroes o l t l' (Err e) → Writes (o then λ y. ok (stringify (Branch y.result))) l t l' (Err e)
+    go (ok y) h = absurd h
+    go (refused k) h = written.refused-text h
+
+-- a group has no other accessor
+pub group-alone : (s : Str) (sheet : Sheet) (at : Node × tree.Field) (r : Group) (a : Accessor) → (a ≡ Zeroing → ⊥)
+    → FieldIs s (field.Group r) at.1 → {l : List ℕ} {t : Text} {l' : List ℕ} {q : Result Text Refusal}
+    → Writes (refused 15) l t l' q → Writes (accessor_text sheet at a) l t l' q
+unfolding accessor_text
+group-alone s sheet at r (TypeText leaf) n h w = group-no-type s at.1 sheet r leaf h w
+group-alone s sheet at r (Getter b f) n h w = group-no_accessor s at.1 r _ h w
+group-alone s sheet at r Setter n h w = group-no_accessor s at.1 r _ h w
+group-alone s sheet at r (Haser b) n h w = group-no_accessor s at.1 r _ h w
+group-alone s sheet at r Zeroing n h w = absurd (n refl)

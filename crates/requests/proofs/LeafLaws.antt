@@ -2,10 +2,9 @@
 use mathlib.Core.Path.{◌≡◌, refl, ap, ◌∙◌}
 use mathlib.Core.Bool.{Bool, true, false}
 use Rattle.std.specs.Prelude.{Option, None, Some}
-use Prim.Native.Nat.{ℕ, suc, ◌≤◌}
+use Prim.Native.Nat.{ℕ}
 use lib.Dec.{ltb}
-use native.Mathlib.Omega.{arith}
-use borrow.Author.Tests.{le-ltb, ltb-false}
+use borrow.Author.Tests.{ltb-false}
 use Rattle.text.specs.Bytes.{cond}
 use Rattle.tree.proofs.OtherLines.{never}
 use Rattle.codegen_types.specs.Out.{ok, refused}
@@ -17,19 +16,6 @@ use Rattle.nodes.specs.Index.{nth}
 use Rattle.nodes.proofs.NameLaws.{names_out}
 use Rattle.requests.specs.Requests.{there, leaf_number, leaf_numbers, leaf_of}
 use Rattle.requests.specs.Parts.{leaf_asked}
-
--- n is past k, where it is not below it and not k
-pub more : (n k : ℕ) → k ≤ n → (n ≡ k → ⊥) → suc k ≤ n
-more n k h e = omega arith
-
--- a number that is none of the ten
-pub no-leaf :
-    (n : ℕ) → (n ≡ 0 → ⊥) → (n ≡ 1 → ⊥) → (n ≡ 2 → ⊥) → (n ≡ 3 → ⊥) → (n ≡ 4 → ⊥) → (n ≡ 5 → ⊥) → (n ≡ 6 → ⊥) → (n ≡ 7 → ⊥)
-    → (n ≡ 8 → ⊥) → (n ≡ 9 → ⊥) → None ≡ leaf_asked n
-no-leaf n a b c d e f g h i j =
-    let z : 10 ≤ n = more n 9 (more n 8 (more n 7 (more n 6 (more n 5 (more n 4 (more n 3 (more n 2 (more n 1 (more n 0
-    (omega arith) a) b) c) d) e) f) g) h) i) j in
-    rw (le-ltb n 10 z)
 
 -- each leaf stands at its number
 leaf-at : (leaf : Leaf) → leaf_of (leaf_number leaf) ≡ ok leaf

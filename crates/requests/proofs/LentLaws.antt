@@ -4,8 +4,8 @@ use mathlib.Core.Path.{◌≡◌, sym, ap, ◌∙◌}
 use mathlib.Core.List.{◌++◌, append_assoc, append-nil}
 use Prim.Native.Nat.{ℕ, ◌+◌, ◌-◌, ◌^◌, ◌≤◌, ◌<◌, min}
 use native.Mathlib.Omega.{arith}
-use lib.ListN.{length, take, drop, length-take, length-drop, drop_of_length-le}
-use lib.Seq.{take_all, take_at, drop-drop, length-take-le}
+use lib.ListN.{length, take, drop, length-drop, drop_of_length-le}
+use lib.Seq.{take_all, drop-drop}
 use Rattle.text.specs.Answer.{placed}
 use Rattle.text.specs.Bytes.{Str}
 use Rattle.text.specs.Text.{put, state_at, Wrote}
@@ -25,12 +25,6 @@ lent l n = take (length l - n) (drop n l)
 
 abbrev pub back : Str → ℕ → Str → Str
 back l n l' = take n l ++ (l' ++ drop (length l - n) (drop n l))
-
-pub lent_length : (l : Str) (n : ℕ) → length (lent l n) ≡ length l - n
-lent_length l n = length-take (length l - n) (drop n l) ∙ rw (length-drop n l) (omega arith)
-
-pub before-kept : (l l' : Str) (n : ℕ) → n ≤ length l → take n (back l n l') ≡ take n l
-before-kept l l' n h = take_at (take n l) _ n (length-take-le n l h)
 
 lent_is : (l : Str) (n : ℕ) → lent l n ≡ drop n l
 lent_is l n = take_all (length l - n) (drop n l) (omega (arith, length-drop n l))

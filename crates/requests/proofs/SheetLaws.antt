@@ -2,7 +2,7 @@
 use mathlib.Core.Path.{◌≡◌, refl, sym, ap}
 use mathlib.Core.Bool.{Bool, true, false}
 use mathlib.Core.List.{List, []}
-use Prim.Native.Nat.{ℕ, ◌≤◌}
+use Prim.Native.Nat.{ℕ}
 use lib.Dec.{eqb, ltb}
 use lib.ListN.{length}
 use Rattle.text.specs.Bytes.{Str}
@@ -15,17 +15,14 @@ use Rattle.tree.specs.Reader.{Rows, Reading, got, no, ◌then◌, On}
 use Rattle.tree.specs.Read.{read_nodes, Admitted, sheet, refused, numbered, admitted}
 use Rattle.tree.specs.Read as read
 use Rattle.tree.proofs.OtherLines.{never}
-use Rattle.nodes.specs.Index.{Indexed, sheet_of}
+use Rattle.std.specs.Prelude.{Result, Ok, ⊤}
+use Rattle.nodes.specs.Index.{Indexed, sheet_of, IsSource}
+use Rattle.nodes.specs.declared.Source.{Source}
+use Rattle.sheet.specs.declared.Refused.{Refused}
 use Rattle.sheet.specs.Admission.{answer_numbers, refusal_in, IndexOf}
-use Rattle.sheet.proofs.VerdictLaws.{verdict, verdict-is}
-use Rattle.sheet.specs.declared.Answer as verdicts
-use Rattle.sheet.specs.declared.Answer.TheVariants as answer
 use Rattle.requests.specs.Requests.{outcome_of}
 use Rattle.requests.specs.Told.{Answered, RequestAnswered}
 use Rattle.requests.specs.declared.Request.{Request}
-use Rattle.requests.specs.declared.Answer.{Answer}
-use Rattle.requests.specs.declared.Answer.TheVariants.{Refused}
-use Rattle.requests.proofs.AnswerLaws.{refuses_so}
 
 root-read : (rs : Rows) → On (read.read_sheet rs) (λ sh. sh.root ≡ text_at rs)
 unfolding read.read_sheet
@@ -70,42 +67,23 @@ admitted-root s = by_length (ltb 65536 (length s))
     by_length true = tt
     by_length false = by-reading (read.read_sheet (rows s)) (root-read (rows s))
 
--- the answer r and the index x of the sheet s
-module _ (s : Str) (r : verdicts.Answer) (x : List ℕ) (told : answer_numbers r ≡ refusal_in (admitted s)) where
-  -- what holds of every sheet with its index, and of its refusal, holds of what is admitted
-  pub of_sheet :
-      (P : Admitted → Type 0) → r ≡ answer.Sheet → IndexOf s (admitted s) x
-      → ((nodes : List Node) → Indexed s nodes x → P (sheet (sheet_of (text_at (rows s)) nodes))) → P (admitted s)
-  of_sheet P e index h = go (admitted s) (admitted-root s) (rw e at (verdict-is (admitted s) r told)) index
-    where
-      go : (a : Admitted) → HasRoot (text_at (rows s)) a → answer.Sheet ≡ verdict a → IndexOf s a x → P a
-      go (sheet sh) root e d =
-          let z : sheet_of (text_at (rows s)) sh.nodes ≡ sh = ap (λ (w : Str). sheet_of w sh.nodes) (sym root) in
-          rw z at (h sh.nodes d)
-      go (refused k line column) root e d = never cc
+-- what holds of every sheet with its index holds of what is admitted
+pub of_sheet : (s : Str) (x : List ℕ) (P : Admitted → Type 0) (u : ⊤) → answer_numbers (Ok u) ≡ refusal_in (admitted s)
+    → IndexOf s (admitted s) x
+    → ((nodes : List Node) → Indexed s nodes x → P (sheet (sheet_of (text_at (rows s)) nodes))) → P (admitted s)
+of_sheet s x P u e d h = go (admitted s) (admitted-root s) e d
+  where
+    go : (a : Admitted) → HasRoot (text_at (rows s)) a → answer_numbers (Ok u) ≡ refusal_in a → IndexOf s a x → P a
+    go (sheet sh) root e d =
+        let z : sheet_of (text_at (rows s)) sh.nodes ≡ sh = ap (λ (w : Str). sheet_of w sh.nodes) (sym root) in
+        rw z at (h sh.nodes d)
+    go (refused k line column) root e d = never cc
 
-  pub of_refusal :
-      (P : Admitted → Type 0) (k line column : ℕ) → r ≡ answer.Refused k line column → P (refused k line column)
-      → P (admitted s)
-  of_refusal P k line column e h = go (admitted s) (rw e at (verdict-is (admitted s) r told))
-    where
-      go : (a : Admitted) → answer.Refused k line column ≡ verdict a → P a
-      go (sheet sh) e = never cc
-      go (refused j m d) e =
-          let a : j ≡ k = cc in
-          let b : m ≡ line = cc in
-          let f : d ≡ column = cc in
-          rw (a, b, f) h
-
-  module _ (id : ℕ) (request : Request) (l : Str) (t : Text) where
-    pub sheet-answered :
-        (l' : Str) (a : Answer) → r ≡ answer.Sheet → IndexOf s (admitted s) x → RequestAnswered s x id request l t l' a
-        → Answered l t (outcome_of (admitted s) id request) l' a
-    sheet-answered l' a e index h = of_sheet (λ b. Answered l t (outcome_of b id request) l' a) e index (λ nodes d. h nodes d)
-
-    pub sheet-refused :
-        (k line column : ℕ) → t.at ≤ length l → r ≡ answer.Refused k line column
-        → Answered l t (outcome_of (admitted s) id request) l (Refused k line column)
-    sheet-refused k line column within e =
-        of_refusal (λ b. Answered l t (outcome_of b id request) l (Refused k line column)) k line column e
-        (refuses_so l t within k line column)
+module _ (s : Str) (x : List ℕ) (id : ℕ) (request : Request) (l : Str) (t : Text) where
+  pub sheet-answered :
+      (l' : Str) (a : Result Text Refused) (u : ⊤) → answer_numbers (Ok u) ≡ refusal_in (admitted s)
+      → IndexOf s (admitted s) x → (y : Source) → IsSource s x y → RequestAnswered y id request l t l' a
+      → Answered l t (outcome_of (admitted s) id request) l' a
+  sheet-answered l' a u e index y is h =
+      of_sheet s x (λ b. Answered l t (outcome_of b id request) l' a) u e index
+      (λ nodes d. rw is.root-is at (h nodes (rw (is.bytes-are, is.index-is) d)))

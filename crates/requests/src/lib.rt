@@ -4,25 +4,22 @@
 // was read from the start of a buffer on.
 #![tactic(auto)]
 
-ghost use Rattle.std.specs.Prelude.{◌≡◌, List, ℕ, ◌≤◌, length};
-ghost use Rattle.text.specs.Bytes.{Str};
-ghost use Rattle.text.specs.Text.{WroteSome};
+ghost use Rattle.std.specs.Prelude.{◌≡◌, ℕ, ◌^◌, ◌≤◌, ◌<◌, length};
 ghost use Rattle.tree.specs.Read.{admitted};
 ghost use Rattle.nodes.specs.Index.{index_size};
+ghost use Rattle.codegen_types.specs.Written.{Within};
 ghost use Rattle.field.specs.declared.Field.TheVariants as field_is;
-ghost use Rattle.requests.specs.Requests.{outcome_of};
-ghost use Rattle.requests.specs.Parts.{leaf_said, leaf_asked, may_have_scopes};
-ghost use Rattle.requests.specs.Told.{AccessorWritten, RequestAnswered, Answered};
-ghost use Rattle.requests.specs.Parts.{LocatedIn, FieldAnswered, PlaceAnswered};
-ghost use Rattle.requests.specs.Told.{AnswerWithin, TextPassed, PassWithin};
-ghost use Rattle.requests.specs.Parts.{FieldPassed};
-ghost use Rattle.requests.specs.declared.Accessor.TheVariants.{TypeText, Haser};
-ghost use Rattle.requests.specs.declared.Answer.TheVariants.{Refused};
+ghost use Rattle.requests.specs.Requests.{of_field, outcome_of};
+ghost use Rattle.requests.specs.Parts.{leaf_said, leaf_asked, may_have_scopes, LocatedIn, FieldAnswered, RequestAsked};
+ghost use Rattle.requests.specs.Told.{AccessorWritten, AccessorMeasured, RequestAnswered, Answered, AnswerWithin};
+ghost use Rattle.requests.specs.Told.{TextPassed, unplaced};
+ghost use Rattle.requests.specs.declared.Accessor.TheVariants.{TypeText};
 
-use codegen_types::{Leaf, Lifetime, Refusal, Written};
+use codegen_types::{Leaf, Lifetime};
 use field::{Field, Group, Slot};
-use nodes::Found;
-use terms::{leaves, limits, refusals};
+use nodes::Source;
+use sheet::Refused;
+use terms::{Refusal, leaves, limits};
 use text::Text;
 
 // The bytes from a type to its slot's words where the type is one row of T, and where it is two. A T row has 86, a V row 44.
@@ -30,7 +27,9 @@ const ONE_ROW: usize = 130;
 
 const TWO_ROWS: usize = 216;
 
-// How many numbers are room enough for the index of a sheet of at most 3,072 bytes.
+// A sheet of so many bytes at most is short, and how many numbers are room enough for its index.
+const SHORT_SHEET: usize = 3072;
+
 const SHORT_INDEX: usize = 289;
 
 // A text of a field: of a slot its type's text for a leaf, by document 01's number, its getters, its setter and its hasers; of a
@@ -52,26 +51,6 @@ pub enum Request {
     Unknown,
 }
 
-// The state past the text, or document 01's number of a refusal and its line, 0 where it names none.
-#[derive(Clone, Copy)]
-pub enum Answer {
-    Done(Text),
-    Refused {
-        number: u64,
-        line: usize,
-        column: usize,
-    },
-}
-
-// What one pass over a text says: the whole text is there, and so long; it is longer than the buffer, and so long; or it is
-// refused with a number of document 01.
-#[derive(Clone, Copy)]
-pub enum Pass {
-    Whole(usize),
-    Longer(usize),
-    Refused(u64),
-}
-
 // A field that was found, and the offset of its node's tag.
 #[derive(Clone, Copy)]
 struct Located {
@@ -79,164 +58,128 @@ struct Located {
     field: Field,
 }
 
-// What a leaf's number says.
-#[derive(Clone, Copy)]
-enum LeafNumber {
-    Is(Leaf),
-    Nothing,
-}
-
-// The refusal with a number, which names no line: it is no refusal of the sheet.
-fn refused(number: u64) -> Answer
-    ensures { result ≡ Refused number 0 0 }
+// A refusal that names no line: it is none of the sheet's.
+fn unplaced(refusal: Refusal) -> Refused
+    ensures { result ≡ unplaced refusal }
 {
-    Answer::Refused {
-        number,
+    Refused {
+        refusal,
         line: 0,
         column: 0,
     }
 }
 
 // The leaf with a number: 0 to 3 are Reader and Builder, first with 'a, then with '_.
-fn leaf_of(number: u64) -> LeafNumber
+fn leaf_of(number: u64) -> Option<Leaf>
     ensures { leaf_said result ≡ leaf_asked number }
 {
     match number {
-        leaves::READER_A => LeafNumber::Is(Leaf::Reader(Lifetime::A)),
-        leaves::BUILDER_A => LeafNumber::Is(Leaf::Builder(Lifetime::A)),
-        leaves::READER_ANONYMOUS => LeafNumber::Is(Leaf::Reader(Lifetime::Anonymous)),
-        leaves::BUILDER_ANONYMOUS => LeafNumber::Is(Leaf::Builder(Lifetime::Anonymous)),
-        leaves::OWNED => LeafNumber::Is(Leaf::Owned),
-        leaves::CLIENT => LeafNumber::Is(Leaf::Client),
-        leaves::SERVER => LeafNumber::Is(Leaf::Server),
-        leaves::SERVER_DISPATCH => LeafNumber::Is(Leaf::ServerDispatch),
-        leaves::PIPELINE => LeafNumber::Is(Leaf::Pipeline),
-        leaves::GET_TYPE => LeafNumber::Is(Leaf::GetType),
-        _ => LeafNumber::Nothing,
+        leaves::READER_A => Some(Leaf::Reader(Lifetime::A)),
+        leaves::BUILDER_A => Some(Leaf::Builder(Lifetime::A)),
+        leaves::READER_ANONYMOUS => Some(Leaf::Reader(Lifetime::Anonymous)),
+        leaves::BUILDER_ANONYMOUS => Some(Leaf::Builder(Lifetime::Anonymous)),
+        leaves::OWNED => Some(Leaf::Owned),
+        leaves::CLIENT => Some(Leaf::Client),
+        leaves::SERVER => Some(Leaf::Server),
+        leaves::SERVER_DISPATCH => Some(Leaf::ServerDispatch),
+        leaves::PIPELINE => Some(Leaf::Pipeline),
+        leaves::GET_TYPE => Some(Leaf::GetType),
+        _ => None,
     }
 }
 
 // The field at a place, from 0, of the node with an id.
-fn locate(s: &[u8], index: &[u64], id: u64, place: u64) -> Located
-    ensures { LocatedIn s.now index.now id place result }
+fn locate(source: &Source<'_>, id: u64, place: u64) -> Option<Located>
+    ensures { LocatedIn source.now id place result }
 {
-    match nodes::find(index, id) {
-        Found::At(node) => Located {
-            tag: node.tag_offset,
-            field: field::at_place(s, node.fields, place),
-        },
-        Found::Nothing => Located {
-            tag: 0,
-            field: Field::Nothing,
-        },
-    }
+    let node = source.find(id)?;
+    let field = field::at_place(source.bytes, node.fields, place)?;
+    Some(Located {
+        tag: node.tag_offset,
+        field,
+    })
 }
 
 // The text of a slot's type for the leaf with a number.
 fn type_text(
-    root: &[u8],
-    s: &[u8],
-    index: &[u64],
+    source: &Source<'_>,
     slot: Slot,
     leaf: u64,
     t: Text,
     buf: &mut [u8],
-) -> Written
-    ensures text { (tag : ℕ) → AccessorWritten s.now index.now root.now tag
-        (field_is.Slot slot) (TypeText leaf) buf.old t buf.new result }
-    ensures some { WroteSome buf.old t buf.new result.text }
+) -> Result<Text, Refusal>
+    ensures text { (tag : ℕ) → AccessorWritten source.now tag (field_is.Slot slot)
+        (TypeText leaf) buf.old t buf.new result }
+    ensures within { Within buf.old t buf.new result }
 {
-    match leaf_of(leaf) {
-        LeafNumber::Is(leaf) => type_string::type_string(root, s, index, slot.typ, leaf, t, buf),
-        LeafNumber::Nothing => codegen_types::refused(refusals::NOT_THERE, t),
-    }
-}
-
-// A haser's text: it refuses nothing.
-fn haser(s: &[u8], slot: Slot, tag: u64, is_reader: bool, t: Text, buf: &mut [u8]) -> Written
-    ensures text { (root : Str) (index : List ℕ) → AccessorWritten s.now index root tag (field_is.Slot slot)
-        (Haser is_reader) buf.old t buf.new result }
-    ensures some { WroteSome buf.old t buf.new result.text }
-{
-    let name = slot.name(s);
-    codegen_types::whole(codegen::haser(name, slot, tag, is_reader, t, buf))
+    let Some(leaf) = leaf_of(leaf) else {
+        return Err(Refusal::NotThere);
+    };
+    type_string::type_string(source, slot.typ, leaf, t, buf)
 }
 
 // An accessor of a slot, whose node's tag is at this offset; its zeroing is 15.
 fn slot_accessor(
-    root: &[u8],
-    s: &[u8],
-    index: &[u64],
+    source: &Source<'_>,
     slot: Slot,
     tag: u64,
     accessor: Accessor,
     t: Text,
     buf: &mut [u8],
-) -> Written
-    ensures text { AccessorWritten s.now index.now root.now tag (field_is.Slot slot)
-        accessor buf.old t buf.new result }
-    ensures some { WroteSome buf.old t buf.new result.text }
+) -> Result<Text, Refusal>
+    ensures text { AccessorWritten source.now tag (field_is.Slot slot) accessor
+        buf.old t buf.new result }
+    ensures within { Within buf.old t buf.new result }
 {
     match accessor {
-        Accessor::TypeText { leaf } => type_text(root, s, index, slot, leaf, t, buf),
+        Accessor::TypeText { leaf } => type_text(source, slot, leaf, t, buf),
         Accessor::Getter { is_reader, is_fn } => {
-            getter::getter(root, s, index, slot, is_reader, is_fn, t, buf)
+            getter::getter(source, slot, is_reader, is_fn, t, buf)
         }
-        Accessor::Setter => setter::setter(root, s, index, slot, tag, t, buf),
-        Accessor::Haser { is_reader } => haser(s, slot, tag, is_reader, t, buf),
-        Accessor::Zeroing => codegen_types::refused(refusals::NOT_THERE, t),
+        Accessor::Setter => setter::setter(source, slot, tag, t, buf),
+        Accessor::Haser { is_reader } => {
+            let name = slot.name(source.bytes);
+            Ok(codegen::haser(name, slot, tag, is_reader, t, buf))
+        }
+        Accessor::Zeroing => Err(Refusal::NotThere),
     }
 }
 
 // An accessor of a group: all but its zeroing are 15.
 fn group_accessor(
-    s: &[u8],
-    index: &[u64],
+    source: &Source<'_>,
     group: Group,
     accessor: Accessor,
     t: Text,
     buf: &mut [u8],
-) -> Written
-    ensures text { (root : Str) (tag : ℕ) → AccessorWritten s.now index.now root tag
-        (field_is.Group group) accessor buf.old t buf.new result }
-    ensures some { WroteSome buf.old t buf.new result.text }
+) -> Result<Text, Refusal>
+    ensures text { (tag : ℕ) → AccessorWritten source.now tag (field_is.Group group)
+        accessor buf.old t buf.new result }
+    ensures within { Within buf.old t buf.new result }
 {
-    match accessor {
-        Accessor::TypeText { leaf: _ } => codegen_types::refused(refusals::NOT_THERE, t),
-        Accessor::Getter {
-            is_reader: _,
-            is_fn: _,
-        } => codegen_types::refused(refusals::NOT_THERE, t),
-        Accessor::Setter => codegen_types::refused(refusals::NOT_THERE, t),
-        Accessor::Haser { is_reader: _ } => codegen_types::refused(refusals::NOT_THERE, t),
-        Accessor::Zeroing => {
-            let z = zeroing::zeroing(s, index, group.id, t, buf);
-            let text = z.text;
-            let refusal = z.refusal;
-            Written { text, refusal }
-        }
-    }
+    let Accessor::Zeroing = accessor else {
+        return Err(Refusal::NotThere);
+    };
+    let zeroed = zeroing::zeroing(source, group.id, t, buf)?;
+    Ok(zeroed.text)
 }
 
 // An accessor of a field that was read, whose node's tag is at this offset: its text, or its refusal.
 pub fn field_accessor(
-    root: &[u8],
-    s: &[u8],
-    index: &[u64],
+    source: &Source<'_>,
     field: Field,
     tag: u64,
     accessor: Accessor,
     t: Text,
     buf: &mut [u8],
-) -> Written
-    ensures text { AccessorWritten s.now index.now root.now tag field accessor
+) -> Result<Text, Refusal>
+    ensures text { AccessorWritten source.now tag field accessor
         buf.old t buf.new result }
-    ensures some { WroteSome buf.old t buf.new result.text }
+    ensures within { Within buf.old t buf.new result }
 {
     match field {
-        Field::Slot(slot) => slot_accessor(root, s, index, slot, tag, accessor, t, buf),
-        Field::Group(group) => group_accessor(s, index, group, accessor, t, buf),
-        Field::Nothing => codegen_types::refused(refusals::NOT_THERE, t),
+        Field::Slot(slot) => slot_accessor(source, slot, tag, accessor, t, buf),
+        Field::Group(group) => group_accessor(source, group, accessor, t, buf),
     }
 }
 
@@ -252,244 +195,189 @@ pub fn may_have_scopes(field: Field) -> bool
         return true;
     }
     let size = slot.words - slot.typ;
-    if size == ONE_ROW {
-        return false;
-    }
-    size != TWO_ROWS
+    size != ONE_ROW && size != TWO_ROWS
+}
+
+// The refusal of an accessor of a field that was read, or the length of its text: it is written over an empty buffer.
+fn measure(
+    source: &Source<'_>,
+    field: Field,
+    tag: u64,
+    accessor: Accessor,
+) -> Result<usize, Refusal>
+    ensures { AccessorMeasured source.now tag field accessor result }
+{
+    let mut empty = [0u8; 0];
+    let measured = field_accessor(source, field, tag, accessor, Text::at(0), &mut empty)?;
+    Ok(measured.fill())
 }
 
 // An accessor of a field that was read, as `field_accessor` writes it. A brand is written outermost node first, while the Rust
 // meets the innermost one's refusal first: where its scopes may be refused, the text is measured before it is written, so that
 // what the Rust never comes to is not written either.
 pub fn write_accessor(
-    root: &[u8],
-    s: &[u8],
-    index: &[u64],
+    source: &Source<'_>,
     field: Field,
     tag: u64,
     accessor: Accessor,
     t: Text,
     buf: &mut [u8],
-) -> Written
-    ensures text { AccessorWritten s.now index.now root.now tag field accessor
+) -> Result<Text, Refusal>
+    ensures text { AccessorWritten source.now tag field accessor
         buf.old t buf.new result }
-    ensures some { WroteSome buf.old t buf.new result.text }
+    ensures within { Within buf.old t buf.new result }
 {
     if may_have_scopes(field) {
-        let mut empty = [0u8; 0];
-        let measured = field_accessor(root, s, index, field, tag, accessor, t, &mut empty);
-        let refusal = measured.refusal;
-        if let Refusal::Number(number) = refusal {
-            return codegen_types::refused(number, t);
-        }
+        measure(source, field, tag, accessor)?;
     }
-    field_accessor(root, s, index, field, tag, accessor, t, buf)
+    field_accessor(source, field, tag, accessor, t, buf)
 }
 
 // The answer for a field that was found: its refusal, 22, or its text. What is written is written into the free part of the
 // buffer, so that no byte before the fill count can change.
 fn answer_found(
-    s: &[u8],
-    index: &[u64],
-    field: Field,
-    tag: u64,
+    source: &Source<'_>,
+    located: Located,
     accessor: Accessor,
     t: Text,
     buf: &mut [u8],
-) -> Answer
+) -> Result<Text, Refusal>
     requires { t.at ≤ length buf.old }
-    ensures indexed { FieldAnswered s.now index.now tag field accessor
+    ensures indexed { FieldAnswered source.now located.tag located.field accessor
         buf.old t buf.new result }
     ensures within { AnswerWithin buf.old t buf.new result }
 {
-    let root = row::text(s, 0);
-    let start = Text::at(0);
-    let mut empty = [0u8; 0];
-    let measured = field_accessor(root, s, index, field, tag, accessor, start, &mut empty);
-    let refusal = measured.refusal;
-    if let Refusal::Number(number) = refusal {
-        return refused(number);
-    }
-    let end = measured.text;
-    let n = end.fill();
+    let n = measure(source, located.field, located.tag, accessor)?;
     let fill = t.fill();
     if buf.len() - fill < n {
-        return refused(refusals::NO_ROOM);
+        return Err(Refusal::NoRoom);
     }
-    field_accessor(
-        root,
-        s,
-        index,
-        field,
-        tag,
+    let free = &mut buf[fill..];
+    // What was measured is not refused now.
+    let _ = field_accessor(
+        source,
+        located.field,
+        located.tag,
         accessor,
-        start,
-        &mut buf[fill..],
+        Text::at(0),
+        free,
     );
-    Answer::Done(Text::at(fill + n))
+    Ok(Text::at(fill + n))
 }
 
 // The answer for the field at a place of the node with an id: 15 where there is none.
 fn answer_field(
-    s: &[u8],
-    index: &[u64],
+    source: &Source<'_>,
     id: u64,
     place: u64,
     accessor: Accessor,
     t: Text,
     buf: &mut [u8],
-) -> Answer
+) -> Result<Text, Refusal>
     requires { t.at ≤ length buf.old }
-    ensures indexed { PlaceAnswered s.now index.now id place accessor
-        buf.old t buf.new result }
+    ensures indexed { RequestAsked source.now id (of_field place accessor) buf.old t buf.new result }
     ensures within { AnswerWithin buf.old t buf.new result }
 {
-    let located = locate(s, index, id, place);
-    let field = located.field;
-    match field {
-        Field::Nothing => refused(refusals::NOT_THERE),
-        _ => answer_found(s, index, field, located.tag, accessor, t, buf),
-    }
+    let Some(located) = locate(source, id, place) else {
+        return Err(Refusal::NotThere);
+    };
+    answer_found(source, located, accessor, t, buf)
 }
 
-// The answer to a request of the node with an id, in the sheet with this index: 21 before anything is looked at. Over any bytes
-// and any index a refusal changes no byte, and a text none before the fill count, which does not fall.
-pub fn answer_in(
-    s: &[u8],
-    index: &[u64],
+// The answer to a request of the node with an id: 21 before anything is looked at.
+fn answer_asked(
+    source: &Source<'_>,
     id: u64,
     request: Request,
     t: Text,
     buf: &mut [u8],
-) -> Answer
-    ensures indexed { RequestAnswered s.now index.now id request
-        buf.old t buf.new result }
+) -> Result<Text, Refusal>
+    ensures indexed { RequestAsked source.now id request buf.old t buf.new result }
     ensures within { AnswerWithin buf.old t buf.new result }
 {
     if buf.len() < t.fill() {
-        return refused(refusals::FILL_PAST_END);
+        return Err(Refusal::FillPastEnd);
     }
     match request {
-        Request::Field { place, accessor } => {
-            answer_field(s, index, id, place, accessor, t, buf)
-        }
-        Request::Unknown => refused(refusals::NOT_THERE),
+        Request::Field { place, accessor } => answer_field(source, id, place, accessor, t, buf),
+        Request::Unknown => Err(Refusal::NotThere),
+    }
+}
+
+// The same, with the line of the refusal, which is none of the sheet's. Over any bytes and any index a refusal changes no byte,
+// and a text none before the fill count, which does not fall.
+pub fn answer_in(
+    source: &Source<'_>,
+    id: u64,
+    request: Request,
+    t: Text,
+    buf: &mut [u8],
+) -> Result<Text, Refused>
+    ensures indexed { RequestAnswered source.now id request buf.old t buf.new result }
+    ensures within { AnswerWithin buf.old t buf.new result }
+{
+    match answer_asked(source, id, request, t, buf) {
+        Ok(end) => Ok(end),
+        Err(refusal) => Err(unplaced(refusal)),
     }
 }
 
 // The answer to a request of the node with an id, over an index that has room for the sheet's nodes: the sheet's own refusal,
 // or the answer in its index.
-fn answer_over(
+fn answer_over<const N: usize>(
     s: &[u8],
-    index: &mut [u64],
     id: u64,
     request: Request,
     t: Text,
     buf: &mut [u8],
-) -> Answer
-    requires { (t.at ≤ length buf.old) × (index_size (length s.now) ≤ length index.old) }
+) -> Result<Text, Refused>
+    requires { (t.at ≤ length buf.old) × (index_size (length s.now) ≤ N) × (N < 2 ^ 60) }
     ensures { Answered buf.old t (outcome_of (admitted s.now) id request)
         buf.new result }
 {
-    let verdict = sheet::admit(s, index);
-    match verdict {
-        sheet::Answer::Sheet => answer_in(s, index, id, request, t, buf),
-        sheet::Answer::Refused {
-            number,
-            line,
-            column,
-        } => Answer::Refused {
-            number,
-            line,
-            column,
-        },
-    }
-}
-
-// The answer for a sheet of at most 3,072 bytes, over an index of which no more is cleared than such a sheet needs.
-fn answer_short(s: &[u8], id: u64, request: Request, t: Text, buf: &mut [u8]) -> Answer
-    requires { (t.at ≤ length buf.old) × (length s.now ≤ 3072) }
-    ensures { Answered buf.old t (outcome_of (admitted s.now) id request)
-        buf.new result }
-{
-    let mut index = [0u64; SHORT_INDEX];
-    answer_over(s, &mut index, id, request, t, buf)
-}
-
-// The answer for any sheet.
-fn answer_long(s: &[u8], id: u64, request: Request, t: Text, buf: &mut [u8]) -> Answer
-    requires { t.at ≤ length buf.old }
-    ensures { Answered buf.old t (outcome_of (admitted s.now) id request)
-        buf.new result }
-{
-    let mut index = [0u64; nodes::INDEX_SIZE];
-    answer_over(s, &mut index, id, request, t, buf)
+    let mut index = [0u64; N];
+    sheet::admit(s, &mut index)?;
+    let source = Source::new(s, &index);
+    answer_in(&source, id, request, t, buf)
 }
 
 // The answer to a request of the node with an id: 21 before the sheet is looked at, the sheet's own refusal, 15, the request's
-// own, 22.
-pub fn answer_request(s: &[u8], id: u64, request: Request, t: Text, buf: &mut [u8]) -> Answer
+// own, 22. Of the index no more is cleared than a sheet of this length may need.
+pub fn answer_request(
+    s: &[u8],
+    id: u64,
+    request: Request,
+    t: Text,
+    buf: &mut [u8],
+) -> Result<Text, Refused>
     ensures { Answered buf.old t (outcome_of (admitted s.now) id request)
         buf.new result }
 {
     if buf.len() < t.fill() {
-        return refused(refusals::FILL_PAST_END);
+        return Err(unplaced(Refusal::FillPastEnd));
     }
-    if s.len() <= 3072 {
-        return answer_short(s, id, request, t, buf);
+    if s.len() <= SHORT_SHEET {
+        return answer_over::<SHORT_INDEX>(s, id, request, t, buf);
     }
-    answer_long(s, id, request, t, buf)
+    answer_over::<{ nodes::INDEX_SIZE }>(s, id, request, t, buf)
 }
 
-// The text of a field that was read, whose node's tag is at this offset, from the start of the buffer on.
-fn pass_field(
-    s: &[u8],
-    index: &[u64],
-    field: Field,
-    tag: u64,
-    accessor: Accessor,
-    buf: &mut [u8],
-) -> Pass
-    ensures passed { FieldPassed s.now index.now tag field accessor
-        buf.old buf.new result }
-    ensures within { PassWithin buf.old result }
-{
-    let root = row::text(s, 0);
-    let written = write_accessor(root, s, index, field, tag, accessor, Text::at(0), buf);
-    let refusal = written.refusal;
-    if let Refusal::Number(number) = refusal {
-        return Pass::Refused(number);
-    }
-    let end = written.text;
-    let n = end.fill();
-    if buf.len() < n {
-        return Pass::Longer(n);
-    }
-    Pass::Whole(n)
-}
-
-// The text of a field that was read, in the node with a number, from 0, from the start of the buffer on: 15 where
-// there is no such node or no field. There are at most 64 nodes.
+// The length of the text of a field that was read, in the node with a number, from 0, which is written from the start of the
+// buffer on: it is whole where the buffer has so many bytes. 15 where there is no such node or no field. There are at most 64
+// nodes.
 pub fn text(
-    s: &[u8],
-    index: &[u64],
+    source: &Source<'_>,
     node: usize,
-    field: Field,
+    field: Option<Field>,
     accessor: Accessor,
     buf: &mut [u8],
-) -> Pass
-    ensures passed { TextPassed s.now index.now node field accessor
+) -> Result<usize, Refusal>
+    ensures passed { TextPassed source.now node field accessor
         buf.old buf.new result }
-    ensures within { PassWithin buf.old result }
 {
-    if limits::NODES <= node {
-        return Pass::Refused(refusals::NOT_THERE);
-    }
-    let Found::At(entry) = nodes::nth(index, node) else {
-        return Pass::Refused(refusals::NOT_THERE);
+    let (Some(entry), Some(field)) = (source.nth(node), field) else {
+        return Err(Refusal::NotThere);
     };
-    match field {
-        Field::Nothing => Pass::Refused(refusals::NOT_THERE),
-        _ => pass_field(s, index, field, entry.tag_offset, accessor, buf),
-    }
+    let end = write_accessor(source, field, entry.tag_offset, accessor, Text::at(0), buf)?;
+    Ok(end.fill())
 }

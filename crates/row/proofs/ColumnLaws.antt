@@ -6,9 +6,6 @@ use mathlib.Core.Bool.{Bool, true, false}
 use Rattle.std.specs.Prelude.{Option, None, Some}
 use Prim.Native.Nat.{ℕ, ◌+◌}
 use Rattle.text.specs.Bytes.{Str}
-use Rattle.column.specs.Number.{number_said}
-use Rattle.column.specs.declared.Number.{Number}
-use Rattle.column.specs.declared.Number.TheVariants.{Is, Not}
 use Rattle.row.specs.Line.{Content, Bad, fault, letter_of, given}
 
 -- a line that goes on with a number has what a line with a bad number has, and each line that it goes on with
@@ -19,11 +16,11 @@ by_number P t a (Some v) f b g = g v refl
 by_number P t a None f b g = b
 
 -- what the call says of a number that stands in its columns, and where none does
-pub is-there : {n : Number} {x : Option ℕ} {v : ℕ} → number_said n ≡ x → n ≡ Is v → x ≡ Some v
-is-there e h = sym e ∙ ap number_said h
+pub is-there : {n : Option ℕ} {x : Option ℕ} {v : ℕ} → n ≡ x → n ≡ Some v → x ≡ Some v
+is-there e h = sym e ∙ h
 
-pub not-there : {n : Number} {x : Option ℕ} → number_said n ≡ x → n ≡ Not → x ≡ None
-not-there e h = sym e ∙ ap number_said h
+pub not-there : {n : Option ℕ} {x : Option ℕ} → n ≡ x → n ≡ None → x ≡ None
+not-there e h = sym e ∙ h
 
 -- a line's bytes, and what the line is by what is left to read of it
 pub record Left (line : Str → Content) : Type 0 where
@@ -35,9 +32,9 @@ pub record Left (line : Str → Content) : Type 0 where
 pub record Column (line : Str → Content) : Type 0 where
   pub bytes : Str
   pub place : ℕ
-  pub got : Number
+  pub got : Option ℕ
   pub on : ℕ → Content
-  pub is : given bytes place (number_said got) on ≡ line bytes
+  pub is : given bytes place got on ≡ line bytes
 
 -- nothing was read
 abbrev pub unread : (line : Str → Content) (t : Str) → Left line
@@ -46,7 +43,7 @@ unread line t = record { bytes = t; rest = line t; is = refl }
 -- a number is looked at: `column w a _ refl n e`, where e is what the call says of n
 abbrev pub column :
     {line : Str → Content} (w : Left line) (a : ℕ) {x : Option ℕ} (f : ℕ → Content) → w.rest ≡ given w.bytes a x f
-    → (n : Number) → number_said n ≡ x → Column line
+    → (n : Option ℕ) → n ≡ x → Column line
 column w a f k n e = record {
   bytes = w.bytes;
   place = a;
@@ -56,15 +53,15 @@ column w a f k n e = record {
 }
 
 -- one stands there: the line is what it goes on with
-pub on-with : {line : Str → Content} (r : Column line) {v : ℕ} → r.got ≡ Is v → r.on v ≡ line r.bytes
+pub on-with : {line : Str → Content} (r : Column line) {v : ℕ} → r.got ≡ Some v → r.on v ≡ line r.bytes
 on-with r h = rw h at r.is
 
-abbrev pub past : {line : Str → Content} (r : Column line) {v : ℕ} → r.got ≡ Is v → Left line
+abbrev pub past : {line : Str → Content} (r : Column line) {v : ℕ} → r.got ≡ Some v → Left line
 past r {v} h = record { bytes = r.bytes; rest = r.on v; is = on-with r h }
 
 -- none stands there: the line is bad
 pub none-there :
-    {line : Str → Content} (r : Column line) {l : Content} → r.got ≡ Not
+    {line : Str → Content} (r : Column line) {l : Content} → r.got ≡ None
     → l ≡ Bad (letter_of r.bytes) (fault 16 (r.place + 1)) → l ≡ line r.bytes
 none-there r h z = z ∙ rw h at r.is
 

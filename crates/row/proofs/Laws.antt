@@ -2,7 +2,7 @@
 use mathlib.Core.Path.{◌≡◌, refl, sym, ap, ◌∙◌}
 use mathlib.Core.Bool.{Bool, true, false}
 use mathlib.Core.List.{List, [], ◌∷◌, ◌++◌}
-use Prim.Native.Nat.{ℕ, zero, suc, ◌+◌, ◌-◌, ◌<◌, ◌≤◌}
+use Prim.Native.Nat.{ℕ, zero, suc, ◌+◌, ◌-◌, ◌<◌, ◌≤◌, min}
 use native.Mathlib.Decide.{dec_le}
 use native.Mathlib.Omega.{arith}
 use native.Mathlib.Numerals.{add-one}
@@ -208,6 +208,18 @@ unfolding newlines
 newline_not s i h e =
     rw (add-one, take-suc s i 0 h, newlines_append (take i s) (unit (get_or s i 0)), newlines, ne_eqb (get_or s i 0) 10 e)
     (omega arith)
+
+-- one byte more in front of a row
+pub ruleset newline_steps = (newline_here, newline_not)
+
+-- the number of the row at a position, by the bytes in front of it
+pub line_no_counted :
+    (s : Str) (at k n : ℕ) → k ≡ min at (length s) → n ≡ suc (newlines (take k s)) → n ≡ line_no s (rows (drop at s))
+line_no_counted s at k n e is = is ∙ ap (λ (t : Str). suc (newlines t)) (same (dec_le at (length s))) ∙ sym (line_no-at s at)
+  where
+    same : Dec (at ≤ length s) → take k s ≡ take at s
+    same (yes l) = let m : k ≡ at = omega arith in rw m
+    same (no l) = take_all k s (omega arith) ∙ sym (take_all at s (omega arith))
 
 drop-take : (m n : ℕ) (l : Str) → drop m (take n l) ≡ take (n - m) (drop m l)
 drop-take zero n l = rw (sub-zero n)

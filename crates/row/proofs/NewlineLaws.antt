@@ -25,13 +25,16 @@ pub found_here : (s : Str) (i : ℕ) → i < length s → get_or s i 0 ≡ 10 �
 unfolding newline_from first_newline
 found_here s i h e = rw (drop-cons s i 0 h, first_newline, eq-eqb (get_or s i 0) 10 e)
 
-pub found-later : (s : Str) (i : ℕ) → i < length s → (get_or s i 0 ≡ 10 → ⊥) → newline_from s (i + 1) ≡ newline_from s i
+pub found_later : (s : Str) (i : ℕ) → i < length s → (get_or s i 0 ≡ 10 → ⊥) → newline_from s (i + 1) ≡ newline_from s i
 unfolding newline_from first_newline
-found-later s i h e = rw (add-one, drop-cons s i 0 h, first_newline, ne_eqb (get_or s i 0) 10 e)
+found_later s i h e = rw (add-one, drop-cons s i 0 h, first_newline, ne_eqb (get_or s i 0) 10 e)
 
 pub found_none : (s : Str) (i : ℕ) → length s ≤ i → newline_from s i ≡ None
 unfolding newline_from first_newline
 found_none s i h = rw (drop_of_length-le s h)
+
+-- each step of a search byte by byte
+pub ruleset steps = (found_here, found_later, found_none)
 
 -- what is found is the first at or after the start: a byte that is passed is none, and the rest goes by how much is left
 module _ (s : Str) (from : ℕ) (other : get_or s from 0 ≡ 10 → ⊥) where
@@ -60,7 +63,7 @@ first-within (suc k) s from h =
         rw (found_here s from (omega arith) byte) (omega arith, omega arith, byte, λ j a b byte10. let z : ⊥ = omega arith in z)
     go f (no l) false e =
         let other = eqb-false (get_or s from 0) 10 e in
-        rw (← found-later s from (omega arith) other) (first-before s from other (newline_from s (from + 1)) f)
+        rw (← found_later s from (omega arith) other) (first-before s from other (newline_from s (from + 1)) f)
 
 pub found_first : (s : Str) (from : ℕ) (o : Option ℕ) → o ≡ newline_from s from → FirstAtOrAfter s from o
 found_first s from o e = rw e (first-within (length s) s from (omega arith))
@@ -153,6 +156,6 @@ pub ends_found : (s : Str) (from i : ℕ) → Some i ≡ newline_from s from →
 unfolding newline_from
 ends_found s from i e = sym (first_ends (drop from s) from i (sym e))
 
-pub ends-none : (s : Str) (from : ℕ) → from < length s → None ≡ newline_from s from → length s ≡ from + row_len (drop from s)
+pub ends_none : (s : Str) (from : ℕ) → from < length s → None ≡ newline_from s from → length s ≡ from + row_len (drop from s)
 unfolding newline_from
-ends-none s from h e = omega (arith, first-none (drop from s) from (sym e), length-drop from s)
+ends_none s from h e = omega (arith, first-none (drop from s) from (sym e), length-drop from s)

@@ -249,3 +249,9 @@ module _ (s : Str) (at : ℕ) (h : at < length s) where
     unbound-out l =
         part-is 0 (length s) h (λ k a b c e. absurd (x (letter-is (type-here k a b c e))))
         (λ i b n e. absurd (y (letter-is (scope-here i b n e)))) (λ e. no_room (unbound-here e) l)
+
+-- what is promised of a part, by its letter and by how much is left
+pub ruleset parts = (part_none, part_type, type-out, part-scope, scope-out, part-unbound, unbound-out)
+
+-- what is owed by a T row, by its kind
+pub ruleset owing = (type-kind, type-scopes, owed-plain, owed-list, owed_brand, owed-pointer)

@@ -8,7 +8,7 @@ use Prim.Native.Nat.{ℕ, ◌+◌, ◌-◌, ◌≤◌, ◌<◌, min}
 use native.Mathlib.Omega.{arith}
 use lib.Dec.{eqb, ltb}
 use lib.ListN.{length, get_or, drop}
-use borrow.Author.Tests.{eq-eqb, ne_eqb, lt-ltb, le-ltb, eqb-true, eqb-false, ltb-true, ltb-false}
+use borrow.Author.Tests.{lt-ltb, le-ltb, eqb-true, eqb-false, ltb-true, ltb-false}
 use Rattle.text.specs.Bytes.{Str, cond, either}
 use Rattle.row.specs.Rows.{row_len, rows, rest_of}
 use Rattle.row.specs.Line.{text_start, text_at}
@@ -17,20 +17,6 @@ use Rattle.row.specs.declared.Span.{Span}
 use Rattle.row.proofs.Laws.{text-none, text-short, text-part, text_out, next-after, next-ends, last-ends}
 
 -- ---- a part that is taken as a row
-
-module _ (s : Str) (at e k : ℕ) (start : k ≡ text_start (get_or s at 0)) where
-  pub to_none : k ≡ 0 → span 0 0 ≡ span_to s at e
-  unfolding span_to
-  to_none z = rw (← start, eq-eqb k 0 z)
-
-  module _ (some : k ≡ 0 → ⊥) where
-    pub to-short : e - 1 - at < k → span 0 0 ≡ span_to s at e
-    unfolding span_to
-    to-short l = rw (← start, ne_eqb k 0 some, lt-ltb (e - 1 - at) k l)
-
-    pub to_part : k ≤ e - 1 - at → span (at + k) (e - 1) ≡ span_to s at e
-    unfolding span_to
-    to_part l = rw (← start, ne_eqb k 0 some, le-ltb (e - 1 - at) k l)
 
 module _ (s : Str) (at e : ℕ) (lo : at < e) (hi : e ≤ length s) where
   pub to_within : SpanWithin s (span_to s at e)
@@ -65,26 +51,16 @@ module _ (s : Str) (at e : ℕ) (lo : at < e) (hi : e ≤ length s) where
 -- ---- a row whose next row is said to begin at `next`
 
 module _ (s : Str) (at next : ℕ) where
-  pub between_out : length s ≤ at → span 0 0 ≡ span_between s at next
-  unfolding span_between
-  between_out h = rw (le-ltb at (min (length s) next) (omega arith))
-
-  pub between-back : next ≤ at → span 0 0 ≡ span_between s at next
-  unfolding span_between
-  between-back h = rw (le-ltb at (min (length s) next) (omega arith))
-
-  module _ (p : Span) (inside : at < length s) (after : at < next) where
-    pub between-last : length s < next → p ≡ span_to s at (length s) → p ≡ span_between s at next
+  module _ (e : ℕ) (least : e ≡ min next (length s)) where
+    pub between_none : e ≤ at → span 0 0 ≡ span_between s at next
     unfolding span_between
-    between-last l e =
-        let m : min (length s) next ≡ length s = omega arith in
-        rw (m, lt-ltb at (length s) inside) e
+    between_none h = rw (le-ltb at (min (length s) next) (omega arith))
 
-    pub between_next : next ≤ length s → p ≡ span_to s at next → p ≡ span_between s at next
+    pub between_some : (p : Span) → at < e → p ≡ span_to s at e → p ≡ span_between s at next
     unfolding span_between
-    between_next l e =
-        let m : min (length s) next ≡ next = omega arith in
-        rw (m, lt-ltb at next after) e
+    between_some p h is =
+        let m : min (length s) next ≡ e = omega arith in
+        rw (m, lt-ltb at e h) is
 
   between-within : SpanWithin s (span_between s at next)
   unfolding span_between
@@ -121,9 +97,12 @@ module _ (s : Str) (at next : ℕ) where
           out false i l = text_out s at (ltb-false at (length s) i)
 
   -- what `text_span` promises of its span
-  pub between-told :
+  pub between_told :
       (p : Span) → p ≡ span_between s at next
       → SpanWithin s p
       × ((rows (drop next s) ≡ rest_of (rows (drop at s)) → spanned s p ≡ text_at (rows (drop at s)))
       × (p ≡ span_between s at next))
-  between-told p e = rw e (between-within, (between-text, refl))
+  between_told p e = rw e (between-within, (between-text, refl))
+
+-- the span between two rows, where there is none and where there is one
+pub ruleset between = (between_told, between_none, between_some)

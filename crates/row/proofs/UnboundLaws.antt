@@ -6,9 +6,9 @@ use native.Mathlib.Omega.{arith}
 use native.Mathlib.Nat.{add-zero}
 use native.Mathlib.Numerals.{add-one}
 use lib.ListN.{length, get_or, drop, take, take-append-drop, length-take, length-drop}
-use lib.Seq.{drop-drop, take-suc, take-take}
+use lib.Seq.{drop-drop, get_or-drop, take-suc, take-take}
 use Rattle.text.specs.Bytes.{Str, unit}
-use Rattle.column.proofs.Laws.{Four}
+use Rattle.column.proofs.Laws.{Four, rest-is}
 use Rattle.row.specs.Rows.{onto, rows, joined, rest_of, unbound_rows}
 use Rattle.row.specs.Line.{unbound_line, reader, line_of, line_at}
 use Rattle.row.specs.Line.{Unbound}
@@ -42,6 +42,19 @@ front-more t n e h a b =
     let m : suc (2 * n) ≡ 2 * n + 1 = omega arith in
     rw (k, take-suc t (suc (2 * n)) 0 (omega arith), take-suc t (2 * n) 0 (omega arith), m, b, a, e, add-one)
     (sym (joined-more n))
+
+-- the same by the bytes that are left
+pub front-rest :
+    (t : Str) (n : ℕ) → take (2 * n) t ≡ joined (unbound_rows n) → 2 ≤ length (take (length t - 2 * n) (drop (2 * n) t))
+    → get_or (take (length t - 2 * n) (drop (2 * n) t)) 0 0 ≡ 85
+    → get_or (take (length t - 2 * n) (drop (2 * n) t)) 1 0 ≡ 10
+    → take (2 * (n + 1)) t ≡ joined (unbound_rows (n + 1))
+front-rest t n e h a b =
+    let l = length-drop (2 * n) t in
+    let two = rw (rest-is t (2 * n)) at h in
+    let first = rw (rest-is t (2 * n), get_or-drop (2 * n) t 0 0, add-zero (2 * n)) at a in
+    let second = rw (rest-is t (2 * n), get_or-drop (2 * n) t 1 0) at b in
+    front-more t n e (omega arith) first second
 
 -- two more, of which the four bytes are known
 pub front-two :

@@ -1,10 +1,8 @@
 -- Bytes as one number, by which the code looks for byte 10. Assumes nothing.
 use Rattle.std.specs.Prelude.{[], ◌∷◌, ℕ, zero, suc, ◌+◌, ◌*◌, ◌/◌, ◌%◌, eqb}
-use Rattle.std.specs.Prelude.{Option, Some}
+use Rattle.std.specs.Prelude.{Option, Some, Result, Ok, Err}
 use Rattle.text.specs.Bytes.{Str, cond}
 use Rattle.row.specs.Newline.{newline_from}
-use Rattle.row.specs.declared.ends.Words.{Words}
-use Rattle.row.specs.declared.ends.Words.TheVariants.{Found, Left}
 
 -- bytes as one number, the first lowest
 unfoldable pub word_of : Str → ℕ
@@ -16,7 +14,7 @@ unfoldable pub newline_bits : ℕ → ℕ → ℕ
 newline_bits zero w = 0
 newline_bits (suc n) w = newline_bits n (w / 256) * 256 + cond (eqb (w % 256) 10) 0x80 0
 
--- the first byte 10 by what the words of s say
-abbrev pub words_said : Str → Words → Option ℕ
-words_said s (Found i) = Some i
-words_said s (Left i) = newline_from s i
+-- the first byte 10 by what the words of s say: where it stands, or from where on it is left to seek
+abbrev pub words_said : Str → Result ℕ ℕ → Option ℕ
+words_said s (Ok i) = Some i
+words_said s (Err i) = newline_from s i

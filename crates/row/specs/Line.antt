@@ -2,14 +2,16 @@
 -- line is read from left to right, and the first that is not as document 01 has it gives the fault: 16 for a number, 17 for a
 -- text or surplus bytes, with its column (N5). Assumes nothing.
 use Rattle.std.specs.Prelude.{Bool, List, [], ◌∷◌, ℕ, ◌+◌, ◌-◌, eqb, ltb, length, get_or, take, drop}
-use Rattle.std.specs.Prelude.{Option, None, Some}
+use Rattle.std.specs.Prelude.{Option, None, Some, Result, Ok, Err}
 use Prim.Native.Char.{code}
 use Prim.Native.String as S
 use Rattle.text.specs.Bytes.{Str, cond}
 use Rattle.column.specs.Number.{column_of, most}
 use Rattle.column.specs.Texts.{ends_in, is_name, is_field_name, is_graphic_text}
+use Rattle.row.specs.declared.BadLine.{BadLine}
 use Rattle.row.specs.declared.Line.{Line}
 use Rattle.row.specs.declared.Line.TheVariants as line
+use Rattle.terms.specs.Refusals as refusal
 
 -- what is wrong with a line: document 01's number of the refusal, and the column, in bytes from 1
 pub record Fault : Type 0 where
@@ -38,20 +40,29 @@ pub data Content : Type 0 where
   Word : ℕ → Content
   Bad : ℕ → Fault → Content
 
--- what an answer of the code gives
-unfoldable pub line_said : Line → Content
-line_said line.Root = Root
-line_said (line.Node id parent scope is_struct generic tag_count tag_offset) =
+-- what a good line of the code says
+abbrev pub good_said : Line → Content
+good_said line.Root = Root
+good_said (line.Node id parent scope is_struct generic tag_count tag_offset) =
     Node id parent scope is_struct generic tag_count tag_offset
-line_said line.Parameter = Parameter
-line_said (line.Field offset discriminant explicit option) = Field offset discriminant explicit option
-line_said (line.Group id discriminant) = Group id discriminant
-line_said (line.Typ kind a b c) = Typ kind a b c
-line_said (line.Scope id bind count) = Scope id bind count
-line_said line.Unbound = Unbound
-line_said (line.Value kind bits) = Value kind bits
-line_said (line.Word value) = Word value
-line_said (line.Bad letter number column) = Bad letter (fault number column)
+good_said line.Parameter = Parameter
+good_said (line.Field offset discriminant explicit option) = Field offset discriminant explicit option
+good_said (line.Group id discriminant) = Group id discriminant
+good_said (line.Typ kind a b c) = Typ kind a b c
+good_said (line.Scope id bind count) = Scope id bind count
+good_said line.Unbound = Unbound
+good_said (line.Value kind bits) = Value kind bits
+good_said (line.Word value) = Word value
+
+-- what an answer of the code gives
+unfoldable pub line_said : Result Line BadLine → Content
+line_said (Ok l) = good_said l
+line_said (Err b) = Bad b.letter (fault (refusal.number b.refusal) b.column)
+
+-- what a line says that goes on with what was read of it, or is bad there
+abbrev pub said_with : {A : Type 0} → Result A BadLine → (A → Content) → Content
+said_with (Ok x) f = f x
+said_with (Err b) f = Bad b.letter (fault (refusal.number b.refusal) b.column)
 
 -- the byte of a letter
 abbrev pub byte : S.String → ℕ

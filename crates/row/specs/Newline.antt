@@ -2,13 +2,6 @@
 use Rattle.std.specs.Prelude.{◌≡◌, true, false, [], ◌∷◌, ℕ, suc, ◌≤◌, ◌<◌, eqb, length, get_or, drop}
 use Rattle.std.specs.Prelude.{Option, None, Some}
 use Rattle.text.specs.Bytes.{Str}
-use Rattle.row.specs.declared.ends.Newline.{Newline}
-use Rattle.row.specs.declared.ends.Newline.TheVariants.{At, Nothing}
-
--- the position that an answer of the code gives, or none
-abbrev pub newline_said : Newline → Option ℕ
-newline_said (At i) = Some i
-newline_said Nothing = None
 
 -- the position of the first byte 10 among bytes of which the first stands at `at`; none where there is none
 unfoldable pub first_newline : ℕ → Str → Option ℕ

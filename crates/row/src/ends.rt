@@ -2,10 +2,8 @@
 ghost use Rattle.std.specs.Prelude.{◌≡◌, ◌+◌, ◌/◌, ◌≤◌, take, drop, length};
 ghost use Rattle.std.specs.Int.Count.{count_trailing_zeros};
 ghost use Rattle.row.specs.Rows.{row_len};
-ghost use Rattle.row.specs.Newline.{newline_said, newline_from, FirstAtOrAfter};
+ghost use Rattle.row.specs.Newline.{newline_from, FirstAtOrAfter};
 ghost use Rattle.row.specs.Eights.{word_of, newline_bits, words_said};
-
-use column::wide;
 
 // Byte 10 in each of eight places, the seven low bits of each, and the highest bit of each.
 const TENS: u64 = 0x0a0a_0a0a_0a0a_0a0a;
@@ -14,33 +12,22 @@ const LOW: u64 = 0x7f7f_7f7f_7f7f_7f7f;
 
 const HIGH: u64 = 0x8080_8080_8080_8080;
 
-// Where a byte 10 stands, or that there is none.
-#[derive(Clone, Copy)]
-pub enum Newline {
-    At(usize),
-    Nothing,
-}
-
-// What words say: where the first byte 10 stands, or from where on it is left to seek.
-#[derive(Clone, Copy)]
-enum Words {
-    Found(usize),
-    Left(usize),
-}
-
 // The eight bytes from `i` on as one number, the first lowest: one load.
+#[tactic(auto, using(crate::proofs::WordLaws::word_eight))]
 fn eight_bytes(s: &[u8], i: usize) -> u64
     requires { i + 8 ≤ length s.now }
     ensures { result ≡ word_of (take 8 (drop i s.now)) }
 {
-    wide(s[i])
-        + 0x100 * wide(s[i + 1])
-        + 0x1_0000 * wide(s[i + 2])
-        + 0x100_0000 * wide(s[i + 3])
-        + 0x1_0000_0000 * wide(s[i + 4])
-        + 0x100_0000_0000 * wide(s[i + 5])
-        + 0x1_0000_0000_0000 * wide(s[i + 6])
-        + 0x100_0000_0000_0000 * wide(s[i + 7])
+    u64::from_le_bytes([
+        s[i],
+        s[i + 1],
+        s[i + 2],
+        s[i + 3],
+        s[i + 4],
+        s[i + 5],
+        s[i + 6],
+        s[i + 7],
+    ])
 }
 
 // The highest bit of each byte 10 of a word. The seven low bits of a byte, exclusive or those of 10, plus 127, reach the highest
@@ -69,54 +56,57 @@ fn before_first(bits: u64) -> usize
     if bits % 0x1_0000_0000 != 0 {
         return 3;
     }
-    (u64::trailing_zeros(bits) / 8) as usize
+    (bits.trailing_zeros() / 8) as usize
 }
 
-// The search by words, while eight bytes remain.
-fn by_words(s: &[u8], from: usize) -> Words
+// The search by words, while eight bytes remain: where the first byte 10 stands, or from where on it is left to seek; for that
+// the place is counted here.
+#[tactic(auto, using(crate::proofs::NewlineLaws::past_word))]
+fn by_words(s: &[u8], from: usize) -> Result<usize, usize>
     ensures { words_said s.now result ≡ newline_from s.now from }
 {
     if s.len() < 8 {
-        return Words::Left(from);
+        return Err(from);
     }
     let last = s.len() - 8;
     let mut i = from;
     while i <= last {
         let bits = newline_bits(eight_bytes(s, i));
         if bits != 0 {
-            return Words::Found(i + before_first(bits));
+            return Ok(i + before_first(bits));
         }
         i += 8;
     }
-    Words::Left(i)
+    Err(i)
 }
 
 // The search byte by byte.
-fn singly(s: &[u8], from: usize) -> Newline
-    ensures { newline_said result ≡ newline_from s.now from }
+#[tactic(auto, using(crate::proofs::NewlineLaws::steps))]
+fn singly(s: &[u8], from: usize) -> Option<usize>
+    ensures { result ≡ newline_from s.now from }
 {
-    let mut i = from;
-    while i < s.len() {
+    for i in from..s.len() {
         if s[i] == b'\n' {
-            return Newline::At(i);
+            return Some(i);
         }
-        i += 1;
     }
-    Newline::Nothing
+    None
 }
 
 // The first byte 10 at or after `from`: by words while eight bytes remain, and the last few singly.
-pub fn find_newline(s: &[u8], from: usize) -> Newline
-    ensures is { newline_said result ≡ newline_from s.now from }
-    ensures first { FirstAtOrAfter s.now from (newline_said result) }
+#[tactic(auto, using(crate::proofs::NewlineLaws::found_first))]
+pub fn find_newline(s: &[u8], from: usize) -> Option<usize>
+    ensures is { result ≡ newline_from s.now from }
+    ensures first { FirstAtOrAfter s.now from result }
 {
     match by_words(s, from) {
-        Words::Found(i) => Newline::At(i),
-        Words::Left(i) => singly(s, i),
+        Ok(i) => Some(i),
+        Err(i) => singly(s, i),
     }
 }
 
 // The position after the first byte 10 at or after `from`, or the end where there is none.
+#[tactic(auto, using(crate::proofs::NewlineLaws::ends_found, crate::proofs::NewlineLaws::ends_none))]
 pub fn row_end(s: &[u8], from: usize) -> usize
     ensures { result ≡ from + row_len (drop from s.now) }
 {
@@ -124,8 +114,8 @@ pub fn row_end(s: &[u8], from: usize) -> usize
         return from;
     }
     match find_newline(s, from) {
-        Newline::At(i) => i + 1,
-        Newline::Nothing => s.len(),
+        Some(i) => i + 1,
+        None => s.len(),
     }
 }
 
@@ -133,10 +123,7 @@ pub fn row_end(s: &[u8], from: usize) -> usize
 pub fn line_end(s: &[u8], from: usize) -> usize
     ensures { result ≡ from + row_len (drop from s.now) }
 {
-    if s.len() <= from {
-        return from;
-    }
-    if s[from] == b'\n' {
+    if from < s.len() && s[from] == b'\n' {
         return from + 1;
     }
     row_end(s, from)

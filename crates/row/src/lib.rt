@@ -12,9 +12,10 @@ ghost use Rattle.text.specs.Bytes.{Str};
 ghost use Rattle.row.specs.Span.{SpanWithin, spanned, span_to, span_between, text_between};
 
 use ends::line_end;
-pub use ends::{Newline, find_newline, row_end};
-use lines::{no_line, read};
+pub use ends::{find_newline, row_end};
+use lines::{NO_LINE, read};
 pub use parts::part;
+use terms::Refusal;
 
 // The bytes of two U rows as one number, the first lowest.
 const TWO_UNBOUND: u64 = 0x0a55_0a55;
@@ -72,19 +73,21 @@ pub enum Line {
     Word {
         value: u64,
     },
-    // A bad line with this letter: the number of its refusal, and the column, from 1. Where no line with a letter of a sheet
-    // stands, a last one lacks byte 10, or the sheet has ended, the letter is 0, and the refusal 2 at column 1.
-    Bad {
-        letter: u8,
-        number: u64,
-        column: usize,
-    },
+}
+
+// A line that is bad: its letter, why, and the column, from 1. Where no line with a letter of a sheet stands, a last one lacks
+// byte 10, or the sheet has ended, the letter is 0, and it is a bad line at column 1.
+#[derive(Clone, Copy)]
+pub struct BadLine {
+    pub letter: u8,
+    pub refusal: Refusal,
+    pub column: usize,
 }
 
 // What the row at a position says, and where the next row starts.
 #[derive(Clone, Copy)]
 pub struct Got {
-    pub line: Line,
+    pub line: Result<Line, BadLine>,
     pub next: usize,
 }
 
@@ -141,13 +144,14 @@ fn read_end(s: &[u8], at: usize) -> usize
 }
 
 // What the part from `at` to `e` says, taken as a row.
-fn line_to(s: &[u8], at: usize, e: usize) -> Line
+#[tactic(auto, using(crate::proofs::Laws::line_row), unfolding(crate::specs::Line::line_said))]
+fn line_to(s: &[u8], at: usize, e: usize) -> Result<Line, BadLine>
     requires { (at < e) × (e ≤ length s.now) }
     ensures { line_said result ≡ line_of (take (e - at) (drop at s.now)) }
 {
     let z = e - 1;
     if s[z] != b'\n' {
-        return no_line();
+        return Err(NO_LINE);
     }
     read(&s[at..z], s[at])
 }
@@ -159,26 +163,23 @@ pub fn next(s: &[u8], at: usize) -> Got
 {
     if s.len() <= at {
         return Got {
-            line: no_line(),
+            line: Err(NO_LINE),
             next: at,
         };
     }
     let e = read_end(s, at);
     let line = line_to(s, at, e);
     match line {
-        Line::Bad {
-            letter: _,
-            number: _,
-            column: _,
-        } => Got {
+        Ok(_) => Got { line, next: e },
+        Err(_) => Got {
             line,
             next: row_end(s, at),
         },
-        _ => Got { line, next: e },
     }
 }
 
 // Where the text of a line with a letter begins, after its numbers and a space; 0 for a line without a text.
+#[tactic(auto, unfolding(crate::specs::Line::text_start))]
 fn text_start(letter: u8) -> usize
     ensures { result ≡ text_start letter }
 {
@@ -193,17 +194,15 @@ fn text_start(letter: u8) -> usize
 }
 
 // Where the text of the row from `at` to `e` stands.
+#[tactic(auto, unfolding(crate::specs::Span::span_to))]
 fn span_to(s: &[u8], at: usize, e: usize) -> Span
     requires { (at < e) × (e ≤ length s.now) }
     ensures within { SpanWithin s.now result }
     ensures is { result ≡ span_to s.now at e }
 {
     let k = text_start(s[at]);
-    if k == 0 {
-        return Span { start: 0, end: 0 };
-    }
     let z = e - 1;
-    if z - at < k {
+    if k == 0 || z - at < k {
         return Span { start: 0, end: 0 };
     }
     Span {
@@ -213,6 +212,7 @@ fn span_to(s: &[u8], at: usize, e: usize) -> Span
 }
 
 // The root, module, parameter or field name of the row at a position: the caller's own bytes.
+#[tactic(auto, using(crate::proofs::Laws::text_out))]
 pub fn text(s: &[u8], at: usize) -> &[u8]
     ensures { result.now ≡ text_at (rows (drop at s.now)) }
 {
@@ -224,22 +224,18 @@ pub fn text(s: &[u8], at: usize) -> &[u8]
 }
 
 // Where the text of the row at a position stands if the next row begins at `next`: no end is sought.
+#[tactic(auto, using(crate::proofs::SpanLaws::between))]
 pub fn text_span(s: &[u8], at: usize, next: usize) -> Span
     ensures within { SpanWithin s.now result }
     ensures text { rows (drop next s.now) ≡ rest_of (rows (drop at s.now))
         → spanned s.now result ≡ text_at (rows (drop at s.now)) }
     ensures is { result ≡ span_between s.now at next }
 {
-    if s.len() <= at {
+    let e = next.min(s.len());
+    if e <= at {
         return Span { start: 0, end: 0 };
     }
-    if next <= at {
-        return Span { start: 0, end: 0 };
-    }
-    if s.len() < next {
-        return span_to(s, at, s.len());
-    }
-    span_to(s, at, next)
+    span_to(s, at, e)
 }
 
 // That text: the caller's own bytes.
@@ -252,7 +248,9 @@ pub fn text_before(s: &[u8], at: usize, next: usize) -> &[u8]
     &s[start..end]
 }
 
-// How many U rows stand in front: two rows are compared as one number of four bytes, and a last one singly.
+// How many U rows stand in front: two rows are compared as one number of four bytes, and a last one singly. The count that the
+// loop keeps is the answer itself.
+#[tactic(auto, unfolding(crate::specs::Rows::joined, crate::specs::Rows::unbound_rows))]
 fn unbound_front(t: &[u8]) -> usize
     ensures within { 2 * result ≤ length t.now }
     ensures rows { take (2 * result) t.now ≡ joined (unbound_rows result) }
@@ -261,17 +259,10 @@ fn unbound_front(t: &[u8]) -> usize
     while column::four_bytes(t, 2 * n) == TWO_UNBOUND {
         n += 2;
     }
-    let i = 2 * n;
-    if t.len() - i < 2 {
-        return n;
+    match &t[2 * n..] {
+        [b'U', b'\n', ..] => n + 1,
+        _ => n,
     }
-    if t[i] != b'U' {
-        return n;
-    }
-    if t[i + 1] != b'\n' {
-        return n;
-    }
-    n + 1
 }
 
 // How many U rows stand one after the other from a position on, as far as they were looked at: no more than `most`.
@@ -280,33 +271,24 @@ pub fn unbound_run(s: &[u8], at: usize, most: u64) -> u64
     ensures within { 0 < result → at + 2 * result ≤ length s.now }
     ensures rows { rows (drop at s.now) ≡ unbound_rows result ++ rows (drop (at + 2 * result) s.now) }
 {
-    if s.len() <= at {
+    if s.len() <= at || s[at] != b'U' {
         return 0;
     }
-    if s[at] != b'U' {
-        return 0;
-    }
-    if most < ((s.len() - at) / 2) as u64 {
-        let e = at + 2 * (most as usize);
-        return unbound_front(&s[at..e]) as u64;
-    }
-    unbound_front(&s[at..]) as u64
+    let few = most.min(((s.len() - at) / 2) as u64) as usize;
+    unbound_front(&s[at..at + 2 * few]) as u64
 }
 
 // The number, from 1, of the row that starts at a position.
+#[tactic(auto, using(crate::proofs::Laws::newline_steps), unfolding(crate::specs::Rows::newlines))]
 pub fn line_number(s: &[u8], at: usize) -> usize
     ensures { result ≡ line_no s.now (rows (drop at s.now)) }
 {
+    let front = &s[..at.min(s.len())];
     let mut n: usize = 1;
-    let mut i = 0;
-    while i < s.len() {
-        if at <= i {
-            return n;
-        }
-        if s[i] == b'\n' {
+    for &b in front {
+        if b == b'\n' {
             n += 1;
         }
-        i += 1;
     }
     n
 }

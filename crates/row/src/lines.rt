@@ -1,13 +1,14 @@
 // What a line says, by its letter: its numbers and its text from left to right, or the first of them that is bad.
-ghost use Rattle.std.specs.Prelude.{◌≡◌, ◌^◌, ◌<◌};
+ghost use Rattle.std.specs.Prelude.{◌≡◌, ◌^◌, ◌<◌, ℕ};
+ghost use Rattle.text.specs.Bytes.{cond};
 ghost use Rattle.row.specs.Line.{root_line, node_line, parameter_line, field_line, group_line};
 ghost use Rattle.row.specs.Line.{type_line, scope_line, unbound_line, value_line, word_line};
-ghost use Rattle.row.specs.Line.{fault, Bad, letter_of, bad_text, empty_row, line_said, reader};
+ghost use Rattle.row.specs.Line.{Content, Bad, letter_of, bad_text, line_said, good_said, said_with};
+ghost use Rattle.row.specs.Line.{with_number, with_nothing, reader};
 ghost use Rattle.row.specs.Line.{most_a, most_b, most_c, most_count, most_bits};
 
-use crate::Line;
-use column::Number;
-use terms::{kinds, limits, refusals};
+use crate::{BadLine, Line};
+use terms::{Refusal, kinds, limits};
 
 // The greatest numbers of 32 and 16 bits.
 const MOST_32: u64 = 0xffff_ffff;
@@ -42,87 +43,98 @@ const MOST_BITS: [u64; KINDS] = [
 ];
 
 // No line.
-pub fn no_line() -> Line
-    ensures { line_said result ≡ empty_row }
+pub const NO_LINE: BadLine = BadLine {
+    letter: 0,
+    refusal: Refusal::BadLine,
+    column: 1,
+};
+
+// The letter of a line; an empty one has 0.
+fn letter_of(t: &[u8]) -> u8
+    ensures { result ≡ letter_of t.now }
 {
-    Line::Bad {
-        letter: 0,
-        number: refusals::BAD_LINE,
-        column: 1,
-    }
+    t.first().copied().unwrap_or(0)
 }
 
-// A bad line by its fault. An empty line has the letter 0.
-fn bad(t: &[u8], number: u64, column: usize) -> Line
-    ensures { line_said result ≡ Bad (letter_of t.now) (fault number column) }
-{
-    if t.len() == 0 {
-        return Line::Bad {
-            letter: 0,
-            number,
-            column,
-        };
-    }
-    Line::Bad {
-        letter: t[0],
-        number,
-        column,
-    }
-}
-
-// A line with a bad text after the place `a`, or without a space there.
-fn bad_text(t: &[u8], a: usize) -> Line
+// A number from `least` to `most` in the columns from `a` on, or a bad line. Written out at each call, so that a number is handed
+// on in a register: with a call, each took half as many instructions again.
+#[inline(always)]
+#[tactic(auto, unfolding(crate::specs::Line::line_said))]
+fn number(t: &[u8], a: usize, least: u64, most: u64) -> Result<u64, BadLine>
     requires { a < 2 ^ 16 }
-    ensures { line_said result ≡ Bad (letter_of t.now) (bad_text t.now a) }
+    ensures { (f : ℕ → Content) → said_with result f ≡ with_number t.now a least most f }
 {
-    if t.len() <= a {
-        return bad(t, refusals::BAD_TEXT, a + 1);
+    column::column(t, a, least, most).ok_or(BadLine {
+        letter: letter_of(t),
+        refusal: Refusal::BadNumber,
+        column: a + 1,
+    })
+}
+
+// The line ends in one space at `a` and a good text. With another text after that space, or without a space, it is bad.
+#[tactic(auto, unfolding(crate::specs::Line::line_said))]
+fn text(t: &[u8], a: usize, good: bool) -> Result<(), BadLine>
+    requires { a < 2 ^ 16 }
+    ensures { (line : Content) → said_with result (λ _. line) ≡ cond good line (Bad (letter_of t.now) (bad_text t.now a)) }
+{
+    if good {
+        return Ok(());
     }
-    if t[a] == b' ' {
-        return bad(t, refusals::BAD_TEXT, a + 2);
+    let column = if a < t.len() && t[a] == b' ' {
+        a + 2
+    } else {
+        a + 1
+    };
+    Err(BadLine {
+        letter: letter_of(t),
+        refusal: Refusal::BadText,
+        column,
+    })
+}
+
+// The line ends at `a`. With more bytes or fewer it is bad.
+#[tactic(auto, unfolding(crate::specs::Line::line_said))]
+fn nothing(t: &[u8], a: usize) -> Result<(), BadLine>
+    requires { a < 2 ^ 16 }
+    ensures { (line : Content) → said_with result (λ _. line) ≡ with_nothing t.now a line }
+{
+    if t.len() == a {
+        return Ok(());
     }
-    bad(t, refusals::BAD_TEXT, a + 1)
+    Err(BadLine {
+        letter: letter_of(t),
+        refusal: Refusal::BadText,
+        column: a + 1,
+    })
 }
 
 // R: the root, 1 to 64 graphic bytes.
-fn root_line(t: &[u8]) -> Line
+#[tactic(auto, unfolding(crate::specs::Line::line_said, crate::specs::Line::root_line))]
+fn root_line(t: &[u8]) -> Result<Line, BadLine>
     ensures { line_said result ≡ root_line t.now }
 {
-    if !column::ends_in_graphic(t, 1, limits::ROOT_BYTES) {
-        return bad_text(t, 1);
-    }
-    Line::Root
+    text(t, 1, column::ends_in_graphic(t, 1, limits::ROOT_BYTES))?;
+    Ok(Line::Root)
 }
 
 // N: seven numbers and the module, 1 to 128 graphic bytes.
-fn node_line(t: &[u8]) -> Line
+#[tactic(auto, unfolding(crate::specs::Line::line_said, crate::specs::Line::node_line))]
+fn node_line(t: &[u8]) -> Result<Line, BadLine>
     ensures { line_said result ≡ node_line t.now }
 {
-    let Number::Is(id) = column::column(t, 1, 1, u64::MAX) else {
-        return bad(t, refusals::BAD_NUMBER, 2);
-    };
-    let Number::Is(parent) = column::column(t, 22, 0, u64::MAX) else {
-        return bad(t, refusals::BAD_NUMBER, 23);
-    };
-    let Number::Is(scope) = column::column(t, 43, 0, u64::MAX) else {
-        return bad(t, refusals::BAD_NUMBER, 44);
-    };
-    let Number::Is(is_struct) = column::column(t, 64, 0, 1) else {
-        return bad(t, refusals::BAD_NUMBER, 65);
-    };
-    let Number::Is(generic) = column::column(t, 85, 0, 1) else {
-        return bad(t, refusals::BAD_NUMBER, 86);
-    };
-    let Number::Is(tag_count) = column::column(t, 106, 0, MOST_16) else {
-        return bad(t, refusals::BAD_NUMBER, 107);
-    };
-    let Number::Is(tag_offset) = column::column(t, 127, 0, MOST_32) else {
-        return bad(t, refusals::BAD_NUMBER, 128);
-    };
-    if !column::ends_in_graphic(t, 148, limits::MODULE_BYTES) {
-        return bad_text(t, 148);
-    }
-    Line::Node {
+    let id = number(t, 1, 1, u64::MAX)?;
+    let parent = number(t, 22, 0, u64::MAX)?;
+    let scope = number(t, 43, 0, u64::MAX)?;
+    let is_struct = number(t, 64, 0, 1)?;
+    let generic = number(t, 85, 0, 1)?;
+    let tag_count = number(t, 106, 0, MOST_16)?;
+    let tag_offset = number(t, 127, 0, MOST_32)?;
+    text(
+        t,
+        148,
+        column::ends_in_graphic(t, 148, limits::MODULE_BYTES),
+    )?;
+    Ok(Line::Node {
         id,
         parent,
         scope,
@@ -130,63 +142,49 @@ fn node_line(t: &[u8]) -> Line
         generic,
         tag_count,
         tag_offset,
-    }
+    })
 }
 
 // P: the parameter's name.
-fn parameter_line(t: &[u8]) -> Line
+#[tactic(auto, unfolding(crate::specs::Line::line_said, crate::specs::Line::parameter_line))]
+fn parameter_line(t: &[u8]) -> Result<Line, BadLine>
     ensures { line_said result ≡ parameter_line t.now }
 {
-    if !column::ends_in_name(t, 1) {
-        return bad_text(t, 1);
-    }
-    Line::Parameter
+    text(t, 1, column::ends_in_name(t, 1))?;
+    Ok(Line::Parameter)
 }
 
 // F: four numbers and the field's name.
-fn field_line(t: &[u8]) -> Line
+#[tactic(auto, unfolding(crate::specs::Line::line_said, crate::specs::Line::field_line))]
+fn field_line(t: &[u8]) -> Result<Line, BadLine>
     ensures { line_said result ≡ field_line t.now }
 {
-    let Number::Is(offset) = column::column(t, 1, 0, MOST_32) else {
-        return bad(t, refusals::BAD_NUMBER, 2);
-    };
-    let Number::Is(discriminant) = column::column(t, 22, 0, MOST_16) else {
-        return bad(t, refusals::BAD_NUMBER, 23);
-    };
-    let Number::Is(explicit) = column::column(t, 43, 0, 1) else {
-        return bad(t, refusals::BAD_NUMBER, 44);
-    };
-    let Number::Is(option) = column::column(t, 64, 0, 1) else {
-        return bad(t, refusals::BAD_NUMBER, 65);
-    };
-    if !column::ends_in_field_name(t, 85) {
-        return bad_text(t, 85);
-    }
-    Line::Field {
+    let offset = number(t, 1, 0, MOST_32)?;
+    let discriminant = number(t, 22, 0, MOST_16)?;
+    let explicit = number(t, 43, 0, 1)?;
+    let option = number(t, 64, 0, 1)?;
+    text(t, 85, column::ends_in_field_name(t, 85))?;
+    Ok(Line::Field {
         offset,
         discriminant,
         explicit,
         option,
-    }
+    })
 }
 
 // G: the group's id, the discriminant and the field's name.
-fn group_line(t: &[u8]) -> Line
+#[tactic(auto, unfolding(crate::specs::Line::line_said, crate::specs::Line::group_line))]
+fn group_line(t: &[u8]) -> Result<Line, BadLine>
     ensures { line_said result ≡ group_line t.now }
 {
-    let Number::Is(id) = column::column(t, 1, 1, u64::MAX) else {
-        return bad(t, refusals::BAD_NUMBER, 2);
-    };
-    let Number::Is(discriminant) = column::column(t, 22, 0, MOST_16) else {
-        return bad(t, refusals::BAD_NUMBER, 23);
-    };
-    if !column::ends_in_field_name(t, 43) {
-        return bad_text(t, 43);
-    }
-    Line::Group { id, discriminant }
+    let id = number(t, 1, 1, u64::MAX)?;
+    let discriminant = number(t, 22, 0, MOST_16)?;
+    text(t, 43, column::ends_in_field_name(t, 43))?;
+    Ok(Line::Group { id, discriminant })
 }
 
 // T's a by the kind: an id for kinds 15 to 17, 0 or 1 for kind 18, otherwise 0.
+#[tactic(auto, unfolding(crate::specs::Line::most_a))]
 fn most_a(kind: u64) -> u64
     ensures { result ≡ most_a kind }
 {
@@ -198,6 +196,7 @@ fn most_a(kind: u64) -> u64
 }
 
 // T's b: a number of scopes for kinds 15 to 17, a scope id for a parameter, otherwise 0.
+#[tactic(auto, unfolding(crate::specs::Line::most_b))]
 fn most_b(kind: u64, a: u64) -> u64
     ensures { result ≡ most_b kind a }
 {
@@ -212,6 +211,7 @@ fn most_b(kind: u64, a: u64) -> u64
 }
 
 // T's c: a parameter's index, otherwise 0.
+#[tactic(auto, unfolding(crate::specs::Line::most_c))]
 fn most_c(kind: u64, a: u64) -> u64
     ensures { result ≡ most_c kind a }
 {
@@ -225,108 +225,79 @@ fn most_c(kind: u64, a: u64) -> u64
 }
 
 // T: the kind, and what it allows for a, b and c.
-fn type_line(t: &[u8]) -> Line
+#[tactic(auto, unfolding(crate::specs::Line::line_said, crate::specs::Line::type_line))]
+fn type_line(t: &[u8]) -> Result<Line, BadLine>
     ensures { line_said result ≡ type_line t.now }
 {
-    let Number::Is(kind) = column::column(t, 1, 0, kinds::ANY_POINTER) else {
-        return bad(t, refusals::BAD_NUMBER, 2);
-    };
-    let Number::Is(a) = column::column(t, 22, 0, most_a(kind)) else {
-        return bad(t, refusals::BAD_NUMBER, 23);
-    };
-    let Number::Is(b) = column::column(t, 43, 0, most_b(kind, a)) else {
-        return bad(t, refusals::BAD_NUMBER, 44);
-    };
-    let Number::Is(c) = column::column(t, 64, 0, most_c(kind, a)) else {
-        return bad(t, refusals::BAD_NUMBER, 65);
-    };
-    if t.len() != 85 {
-        return bad(t, refusals::BAD_TEXT, 86);
-    }
-    Line::Typ { kind, a, b, c }
+    let kind = number(t, 1, 0, kinds::ANY_POINTER)?;
+    let a = number(t, 22, 0, most_a(kind))?;
+    let b = number(t, 43, 0, most_b(kind, a))?;
+    let c = number(t, 64, 0, most_c(kind, a))?;
+    nothing(t, 85)?;
+    Ok(Line::Typ { kind, a, b, c })
 }
 
 // S's bindings: none under inherit (0), any number under bind (1).
+#[tactic(auto, unfolding(crate::specs::Line::most_count))]
 fn most_count(bind: u64) -> u64
     ensures { result ≡ most_count bind }
 {
-    if bind == 0 {
-        return 0;
-    }
-    u64::MAX
+    if bind == 0 { 0 } else { u64::MAX }
 }
 
 // S: the scope id, whether it binds, and how many bindings follow.
-fn scope_line(t: &[u8]) -> Line
+#[tactic(auto, unfolding(crate::specs::Line::line_said, crate::specs::Line::scope_line))]
+fn scope_line(t: &[u8]) -> Result<Line, BadLine>
     ensures { line_said result ≡ scope_line t.now }
 {
-    let Number::Is(id) = column::column(t, 1, 0, u64::MAX) else {
-        return bad(t, refusals::BAD_NUMBER, 2);
-    };
-    let Number::Is(bind) = column::column(t, 22, 0, 1) else {
-        return bad(t, refusals::BAD_NUMBER, 23);
-    };
-    let Number::Is(count) = column::column(t, 43, 0, most_count(bind)) else {
-        return bad(t, refusals::BAD_NUMBER, 44);
-    };
-    if t.len() != 64 {
-        return bad(t, refusals::BAD_TEXT, 65);
-    }
-    Line::Scope { id, bind, count }
+    let id = number(t, 1, 0, u64::MAX)?;
+    let bind = number(t, 22, 0, 1)?;
+    let count = number(t, 43, 0, most_count(bind))?;
+    nothing(t, 64)?;
+    Ok(Line::Scope { id, bind, count })
 }
 
 // U: the letter alone.
-fn unbound_line(t: &[u8]) -> Line
+#[tactic(auto, unfolding(crate::specs::Line::line_said, crate::specs::Line::unbound_line))]
+fn unbound_line(t: &[u8]) -> Result<Line, BadLine>
     ensures { line_said result ≡ unbound_line t.now }
 {
-    if t.len() != 1 {
-        return bad(t, refusals::BAD_TEXT, 2);
-    }
-    Line::Unbound
+    nothing(t, 1)?;
+    Ok(Line::Unbound)
 }
 
 // V's bits: as many as the kind's values have.
+#[tactic(auto, unfolding(crate::specs::Line::most_bits))]
 fn most_bits(kind: u64) -> u64
     ensures { result ≡ most_bits kind }
 {
-    let k = kind as usize;
-    if k < KINDS {
-        return MOST_BITS[k];
-    }
-    0
+    MOST_BITS.get(kind as usize).copied().unwrap_or(0)
 }
 
 // V: the kind, and bits that fit its width.
-fn value_line(t: &[u8]) -> Line
+#[tactic(auto, unfolding(crate::specs::Line::line_said, crate::specs::Line::value_line))]
+fn value_line(t: &[u8]) -> Result<Line, BadLine>
     ensures { line_said result ≡ value_line t.now }
 {
-    let Number::Is(kind) = column::column(t, 1, 0, kinds::ANY_POINTER) else {
-        return bad(t, refusals::BAD_NUMBER, 2);
-    };
-    let Number::Is(bits) = column::column(t, 22, 0, most_bits(kind)) else {
-        return bad(t, refusals::BAD_NUMBER, 23);
-    };
-    if t.len() != 43 {
-        return bad(t, refusals::BAD_TEXT, 44);
-    }
-    Line::Value { kind, bits }
+    let kind = number(t, 1, 0, kinds::ANY_POINTER)?;
+    let bits = number(t, 22, 0, most_bits(kind))?;
+    nothing(t, 43)?;
+    Ok(Line::Value { kind, bits })
 }
 
 // W: one number.
-fn word_line(t: &[u8]) -> Line
+#[tactic(auto, unfolding(crate::specs::Line::line_said, crate::specs::Line::word_line))]
+fn word_line(t: &[u8]) -> Result<Line, BadLine>
     ensures { line_said result ≡ word_line t.now }
 {
-    let Number::Is(value) = column::column(t, 1, 0, u64::MAX) else {
-        return bad(t, refusals::BAD_NUMBER, 2);
-    };
-    if t.len() != 22 {
-        return bad(t, refusals::BAD_TEXT, 23);
-    }
-    Line::Word { value }
+    let value = number(t, 1, 0, u64::MAX)?;
+    nothing(t, 22)?;
+    Ok(Line::Word { value })
 }
 
 // What a line says, by its letter.
-pub fn read(t: &[u8], letter: u8) -> Line
+#[tactic(auto, unfolding(crate::specs::Line::line_said, crate::specs::Line::reader))]
+pub fn read(t: &[u8], letter: u8) -> Result<Line, BadLine>
     ensures { line_said result ≡ reader letter t.now }
 {
     match letter {
@@ -340,6 +311,6 @@ pub fn read(t: &[u8], letter: u8) -> Line
         b'U' => unbound_line(t),
         b'V' => value_line(t),
         b'W' => word_line(t),
-        _ => no_line(),
+        _ => Err(NO_LINE),
     }
 }

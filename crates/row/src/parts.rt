@@ -8,6 +8,7 @@ use crate::Owing;
 use terms::kinds;
 
 // How many types or scopes belong to a T row.
+#[tactic(auto, using(crate::proofs::PartLaws::owing))]
 fn type_owed(s: &[u8], at: usize) -> u64
     requires { at + 86 ≤ length s.now }
     ensures { (k a b c : ℕ) → line_at (rows (drop at s.now)) ≡ Typ k a b c → result ≡ owed (Typ k a b c) }
@@ -20,6 +21,7 @@ fn type_owed(s: &[u8], at: usize) -> u64
 }
 
 // What belongs to the T, S or U row at a position. An S row has bindings only where it binds, so that their number is enough.
+#[tactic(auto, using(crate::proofs::PartLaws::parts))]
 pub fn part(s: &[u8], at: usize) -> Owing
     ensures { PartAt s.now at result }
 {

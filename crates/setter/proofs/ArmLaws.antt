@@ -1,13 +1,12 @@
--- The arms of a setter, by the kind of its slot: what the code writes around the texts of the slot's type is what the match of
--- `generate_setter` gives for that type, with its refusals. Assumes nothing.
-use mathlib.Core.Path.{◌≡◌, refl, ap, ◌∙◌}
+-- The arms of a setter, by the kind of its slot: what the match of `generate_setter` gives for that kind's types, and what the
+-- code leaves at each of its ends. Assumes nothing.
+use mathlib.Core.Path.{◌≡◌, refl, sym, ap, ◌∙◌}
 use mathlib.Core.Bool.{Bool, true, false}
 use mathlib.Core.List.{List, ◌++◌, append_assoc}
-use Rattle.std.specs.Prelude.{Option, None, Some}
-use Rattle.std.specs.Prelude.{Option}
+use Rattle.std.specs.Prelude.{Option, Some, Result, Ok, Err}
 use Prim.Native.Nat.{ℕ, ◌≤◌}
 use native.Mathlib.Omega.{arith}
-use borrow.Author.Tests.{ne_eqb}
+use borrow.Author.Tests.{ne_eqb, eqb-true, eqb-false}
 use lib.Dec.{eqb, leb}
 use lib.ListN.{drop}
 use Rattle.text.specs.Bytes.{Str, ascii, either}
@@ -24,145 +23,267 @@ use Rattle.tree.specs.Tree as tree
 use Rattle.tree.specs.Tree.{Ty, plain, list, kind, Sheet}
 use Rattle.tree.specs.Reader.{Rows, Reading, On}
 use Rattle.tree.specs.Read.{read_type}
+use Rattle.terms.specs.Refusals.{number}
+use Rattle.terms.specs.declared.refusals.Refusal.{Refusal}
 use Rattle.types.specs.Find.{kind_at}
 use Rattle.types.proofs.Laws.{on_one, on-two, on-has}
-use Rattle.codegen_types.specs.Out.{Out, ok, ◌then◌, refusal_of}
+use Rattle.codegen_types.specs.Out.{Out, ok, refused, ◌then◌}
 use Rattle.codegen_types.specs.TypeString.{type_string, get_qualified_module}
 use Rattle.codegen_types.specs.Primitive.{primitive_text}
-use Rattle.codegen_types.specs.Written.{Writes, first_of}
-use Rattle.codegen_types.specs.declared.Written.{Written}
+use Rattle.codegen_types.specs.Written.{Writes}
+use Rattle.codegen_types.specs.declared.Leaf.{Leaf}
 use Rattle.codegen_types.specs.declared.Leaf.TheVariants.{Reader, Builder, Owned, Client}
 use Rattle.codegen_types.specs.declared.Lifetime.TheVariants.{A, Anonymous}
-use Rattle.codegen_types.proofs.WrittenLaws.{around}
+use Rattle.codegen_types.proofs.WrittenLaws.{whole, refused-text, text-of, refusal-is}
+use Rattle.tree.proofs.OtherLines.{never}
+use Rattle.setter_code.specs.Parts.{set_open, init_open, initn_open}
 use Rattle.field.specs.Slot.{SlotIs, SlotField, SlotHere}
 use Rattle.field.specs.declared.Slot.{Slot}
 use Rattle.calls.specs.Calls.{set_bool_field, set_data_field}
 use Rattle.codegen.specs.Default.{value, prim_default}
 use Rattle.codegen.specs.Mask.{mask_or}
 use Rattle.codegen.specs.Setter.{Parts, setter_functions, setter_only, line_alone, init_pointer, new_pointer, reborrowed}
-use Rattle.codegen.specs.Setter.{setter_parts, prim_parts, text_parts, data_parts, pointer_parts, list_reader_type}
-use Rattle.codegen.specs.Setter.{explicit_mask, enum_mask, generate_setter, setter_request}
-use Rattle.setter_code.specs.Parts.{set_open, init_open, initn_open}
+use Rattle.codegen.specs.Setter.{setter_parts, prim_parts, text_parts, data_parts, pointer_parts, list_reader_type, setter_input}
+use Rattle.codegen.specs.Setter.{explicit_mask, generate_setter, setter_request}
+use Rattle.codegen.proofs.AroundLaws as around
 use Rattle.setter.specs.Typed.{input_type, set_end, init_end, setter_text_of}
 use Rattle.setter.proofs.TypeLaws.{ElementIs, of_list, element_at}
 use Rattle.setter.proofs.TypeLaws.{at-list, at_enum, at-struct, at-interface, at-any, at-parameter, plain-is}
-use Rattle.setter.proofs.Laws.{number_of, made, only_end, only-writes, both-writes, three_writes, masked-writes}
-use Rattle.setter.proofs.Laws.{whole-writes, default-writes}
+use Rattle.setter.proofs.Laws.{made, both_parts, three_parts, only_end, only-writes, both-writes, three_writes}
 
 -- the default of a slot of the tree, by its numbers
 default-here : (s : tree.Slot) (r : Slot) → SlotIs r s → s.default ≡ value r.default r.bits
 default-here s r is = rw (← is.default, ← is.bits) refl
 
+-- what a setter takes, around the text of whatever type is read
+pub on-input : {l l₁ l₂ l₃ : List ℕ} {t t₁ u t₃ : Text} (g : Reading Ty) (sheet : Sheet)
+    → On g (λ ty. Writes (type_string ty sheet Owned) l₁ t₁ l₂ (Ok u))
+    → ((w : Str) → Wrote l₁ t₁ w l₂ u → Wrote l t (setter_input sheet.root w) l₃ t₃)
+    → On g (λ ty. Writes (input_type sheet ty) l t l₃ (Ok t₃))
+on-input {l} {l₁} {l₂} {l₃} {t} {t₁} {u} {t₃} g sheet x h =
+    on_one (λ ty. Writes (type_string ty sheet Owned) l₁ t₁ l₂ (Ok u)) (λ ty. Writes (input_type sheet ty) l t l₃ (Ok t₃)) g
+    (λ ty y. around.made (setter_input sheet.root) (type_string ty sheet Owned) y h) x
+
+-- a refusal of document 01, by its number
+ok-some : {j k : ℕ} → ◌≡◌ {A = Option ℕ} (Some j) (Some k) → j ≡ k
+ok-some e = cc
+
 -- ---- the arms whose type is read in the sheet
 
--- what a setter takes, around the text of whatever type is read
-pub on-input : {l l₁ l₂ l₃ : List ℕ} {t t₁ t₃ : Text} (g : Reading Ty) (sheet : Sheet) (w q : Written)
-    → Wrote l t (ascii "impl " ++ sheet.root ++ ascii "::traits::SetterInput<") l₁ t₁
-    → On g (λ ty. Writes (type_string ty sheet Owned) l₁ t₁ l₂ w) → Wrote l₂ w.text (ascii ">") l₃ t₃
-    → q.text ≡ t₃ → number_of q ≡ number_of w → On g (λ ty. Writes (input_type sheet ty) l t l₃ q)
-on-input {l} {l₁} {l₂} {l₃} {t} {t₁} {t₃} g sheet w q a x b i n =
-    on_one (λ ty. Writes (type_string ty sheet Owned) l₁ t₁ l₂ w) (λ ty. Writes (input_type sheet ty) l t l₃ q) g
-    (λ ty y. around (type_string ty sheet Owned) a y b i n) x
-
 -- a slot r that stands in the sheet's bytes, as the field f of its tree
-module _ (bytes : Str) (r : Slot) (f : SlotField) (here : SlotHere bytes r f) (sheet : Sheet) (tag : ℕ) (name : Str) where
-  abbrev s : tree.Slot
-  s = f.slot
+module _ (bytes : Str) (r : Slot) (f : SlotField) (here : SlotHere bytes r f) where
+  -- what holds of whatever type is read holds of the slot's
+  pub typed : (P : Ty → Type 0) → On (read_type 16 (rows (drop r.typ bytes))) P → P f.slot.ty
+  typed P x = on-has P (read_type 16 (rows (drop r.typ bytes))) f.slot.ty x here.typ
 
-  abbrev is : SlotIs r s
-  is = here.slot
+  module _ (sheet : Sheet) (tag : ℕ) (name : Str) where
+    abbrev is : SlotIs r f.slot
+    is = here.slot
 
-  abbrev root : Str
-  root = sheet.root
+    abbrev text : Out Str
+    text = setter_text_of sheet tag name r.discriminant f.slot
 
-  abbrev d : ℕ
-  d = r.discriminant
+    abbrev from : Out Parts → Out Str
+    from o = made sheet.root tag name r.discriminant o
 
-  -- what is read at the slot's type
-  abbrev Typed : (Ty → Type 0) → Type 0
-  Typed P = On (read_type 16 (rows (drop r.typ bytes))) P
+    abbrev typ : Leaf → Out Str
+    typ leaf = type_string f.slot.ty sheet leaf
 
-  typed : (P : Ty → Type 0) → Typed P → P s.ty
-  typed P x = on-has P (read_type 16 (rows (drop r.typ bytes))) s.ty x here.typ
+    abbrev both : Bool → Str → Str → Str → Parts
+    both sized size a b =
+        both_parts sheet.root tag name r.discriminant r.offset sized (init_pointer sheet.root r.offset size) a b
 
-  -- the text from what the match gives for a type
-  abbrev from : Ty → Out Str
-  from ty = made root tag name d (setter_parts sheet s ty)
-
-  module _ {l l₁ l₂ l₃ l₄ l₅ l₆ : List ℕ} {t t₁ t₃ t₄ t₆ : Text} (v w : Written) {q : Written} where
-    pub struct-here : r.kind ≡ 16
-        → Wrote l t (set_open name) l₁ t₁ → Typed (λ ty. Writes (type_string ty sheet (Reader Anonymous)) l₁ t₁ l₂ v)
-        → Wrote l₂ v.text (set_end root tag d r.offset) l₃ t₃
-        → Wrote l₃ t₃ (init_open name false) l₄ t₄ → Typed (λ ty. Writes (type_string ty sheet (Builder A)) l₄ t₄ l₅ w)
-        → Wrote l₅ w.text (init_end tag d (init_pointer root r.offset (ascii "0"))) l₆ t₆
-        → q.text ≡ t₆ → number_of q ≡ first_of (number_of v) (number_of w) → Writes (setter_text_of sheet tag name d s) l t l₆ q
+    pub struct-is : r.kind ≡ 16
+        → text ≡ from (typ (Reader Anonymous) then λ a. typ (Builder A) then λ b. ok (both false (ascii "0") a b))
     unfolding generate_setter
-    struct-here k a x b c y e i n =
-        at-struct (λ ty. Writes (from ty) l t l₆ q) s.ty r.id is.id (is.kind ∙ k)
-        (λ j ss. both-writes root tag name d s.offset false (init_pointer root s.offset (ascii "0"))
-        (type_string s.ty sheet (Reader Anonymous)) (type_string s.ty sheet (Builder A))
-        a (typed (λ ty. Writes (type_string ty sheet (Reader Anonymous)) l₁ t₁ l₂ v) x) (rw is.offset b)
-        c (typed (λ ty. Writes (type_string ty sheet (Builder A)) l₄ t₄ l₅ w) y) (rw is.offset e) i n)
+    struct-is k =
+        at-struct (λ ty. from (setter_parts sheet f.slot ty)
+        ≡ from (typ (Reader Anonymous) then λ a. typ (Builder A) then λ b. ok (both false (ascii "0") a b)))
+        f.slot.ty r.id is.id (is.kind ∙ k) (λ j ss. rw is.offset refl)
 
-    pub list-here : r.kind ≡ 14
-        → Wrote l t (set_open name) l₁ t₁
-        → Typed (λ ty. (el : Ty) → ty ≡ list el → Writes (list_reader_type sheet el ty) l₁ t₁ l₂ v)
-        → Wrote l₂ v.text (set_end root tag d r.offset) l₃ t₃
-        → Wrote l₃ t₃ (init_open name true) l₄ t₄ → Typed (λ ty. Writes (type_string ty sheet (Builder A)) l₄ t₄ l₅ w)
-        → Wrote l₅ w.text (init_end tag d (init_pointer root r.offset (ascii "size"))) l₆ t₆
-        → q.text ≡ t₆ → number_of q ≡ first_of (number_of v) (number_of w) → Writes (setter_text_of sheet tag name d s) l t l₆ q
+    pub list-is : r.kind ≡ 14 → (el : Ty) × (f.slot.ty ≡ list el)
+        × (text ≡ from (list_reader_type sheet el f.slot.ty then λ a. typ (Builder A) then λ b.
+        ok (both true (ascii "size") a b)))
     unfolding generate_setter
-    list-here k a x b c y e i n =
-        at-list (λ ty. s.ty ≡ ty → Writes (from ty) l t l₆ q) s.ty r.id is.id (is.kind ∙ k)
-        (λ el z. both-writes root tag name d s.offset true (init_pointer root s.offset (ascii "size"))
-        (list_reader_type sheet el s.ty) (type_string s.ty sheet (Builder A))
-        a (typed (λ ty. (el : Ty) → ty ≡ list el → Writes (list_reader_type sheet el ty) l₁ t₁ l₂ v) x el z) (rw is.offset b)
-        c (typed (λ ty. Writes (type_string ty sheet (Builder A)) l₄ t₄ l₅ w) y) (rw is.offset e) i n) refl
+    list-is k =
+        at-list (λ ty. f.slot.ty ≡ ty → (el : Ty) × (f.slot.ty ≡ list el)
+        × (from (setter_parts sheet f.slot ty)
+        ≡ from (list_reader_type sheet el f.slot.ty then λ a. typ (Builder A) then λ b. ok (both true (ascii "size") a b))))
+        f.slot.ty r.id is.id (is.kind ∙ k) (λ el z. (el, z, rw is.offset refl)) refl
 
-  pub parameter-here : {l l₁ l₂ l₃ l₄ l₅ l₆ l₇ l₈ l₉ : List ℕ} {t t₁ t₃ t₄ t₆ t₇ t₉ : Text} (u v w : Written)
-      {q : Written} → r.kind ≡ 18 → (r.id ≡ 0 → ⊥)
-      → Wrote l t (initn_open name) l₁ t₁ → Typed (λ ty. Writes (type_string ty sheet (Builder A)) l₁ t₁ l₂ u)
-      → Wrote l₂ u.text (init_end tag d (new_pointer root r.offset ++ ascii ".initn_as(length)")) l₃ t₃
-      → Wrote l₃ t₃ (set_open name) l₄ t₄ → Typed (λ ty. Writes (input_type sheet ty) l₄ t₄ l₅ v)
-      → Wrote l₅ v.text (set_end root tag d r.offset) l₆ t₆
-      → Wrote l₆ t₆ (init_open name false) l₇ t₇ → Typed (λ ty. Writes (type_string ty sheet (Builder A)) l₇ t₇ l₈ w)
-      → Wrote l₈ w.text (init_end tag d (new_pointer root r.offset ++ ascii ".init_as()")) l₉ t₉
-      → q.text ≡ t₉ → number_of q ≡ first_of (number_of u) (number_of v) → Writes (setter_text_of sheet tag name d s) l t l₉ q
-  unfolding generate_setter
-  parameter-here {l} {l₁} {l₂} {l₃} {l₄} {l₅} {l₆} {l₇} {l₈} {l₉} {t} {t₁} {t₃} {t₄} {t₆} {t₇} {t₉} u v w {q}
-      k j a x b c y e g z h i n =
-      at-parameter (λ ty. Writes (from ty) l t l₉ q) s.ty r.id is.id (is.kind ∙ k) j
-      (λ id at. three_writes root tag name d s.offset (new_pointer root s.offset ++ ascii ".initn_as(length)")
-      (new_pointer root s.offset ++ ascii ".init_as()")
-      (type_string s.ty sheet (Builder A)) (type_string s.ty sheet Owned)
-      a (typed (λ ty. Writes (type_string ty sheet (Builder A)) l₁ t₁ l₂ u) x) (rw is.offset b)
-      c (typed (λ ty. Writes (input_type sheet ty) l₄ t₄ l₅ v) y) (rw is.offset e)
-      g (typed (λ ty. Writes (type_string ty sheet (Builder A)) l₇ t₇ l₈ w) z) (rw is.offset h) i n)
-
-  module _ {l l₁ l₂ l₃ : List ℕ} {t t₁ t₃ : Text} (w : Written) {q : Written} where
-    pub interface-here : r.kind ≡ 17
-        → Wrote l t (set_open name) l₁ t₁ → Typed (λ ty. Writes (type_string ty sheet Client) l₁ t₁ l₂ w)
-        → Wrote l₂ w.text (only_end tag d (reborrowed r.offset ++ ascii ".set_capability(value.client.hook);")) l₃ t₃
-        → q.text ≡ t₃ → number_of q ≡ number_of w → Writes (setter_text_of sheet tag name d s) l t l₃ q
+    pub interface-is : r.kind ≡ 17 → text ≡ from (typ Client then λ c.
+        ok (setter_only (ascii "value") (line_alone (reborrowed r.offset ++ ascii ".set_capability(value.client.hook);")) c))
     unfolding generate_setter
-    interface-here k a x b i n =
-        at-interface (λ ty. Writes (from ty) l t l₃ q) s.ty r.id is.id (is.kind ∙ k)
-        (λ j ss. only-writes root tag name d (reborrowed s.offset ++ ascii ".set_capability(value.client.hook);")
-        (type_string s.ty sheet Client) a (typed (λ ty. Writes (type_string ty sheet Client) l₁ t₁ l₂ w) x)
-        (rw is.offset b) i n)
+    interface-is k =
+        at-interface (λ ty. from (setter_parts sheet f.slot ty) ≡ from (typ Client then λ c.
+        ok (setter_only (ascii "value") (line_alone (reborrowed r.offset ++ ascii ".set_capability(value.client.hook);")) c)))
+        f.slot.ty r.id is.id (is.kind ∙ k) (λ j ss. rw is.offset refl)
 
-    pub enum-here : (mask : Option Str) → r.kind ≡ 15
-        → Wrote l t (set_open name) l₁ t₁ → Writes (get_qualified_module sheet r.id) l₁ t₁ l₂ w
-        → Wrote l₂ w.text (only_end tag d (set_data_field (ascii "u16") r.offset (ascii "value as u16") mask)) l₃ t₃
-        → mask ≡ mask_or (explicit_mask r.explicit (value r.default r.bits))
-        → q.text ≡ t₃ → number_of q ≡ first_of (number_of w) (refusal_of (explicit_mask r.explicit (value r.default r.bits)))
-        → Writes (setter_text_of sheet tag name d s) l t l₃ q
+    abbrev line : Option Str → Str
+    line mask = set_data_field (ascii "u16") r.offset (ascii "value as u16") mask
+
+    pub enum-is : r.kind ≡ 15 → text ≡ from (get_qualified_module sheet r.id then λ m.
+        explicit_mask r.explicit (value r.default r.bits) then λ x. ok (setter_only (ascii "value") (line_alone (line x)) m))
     unfolding generate_setter
-    enum-here mask k a x b m i n =
-        at_enum (λ ty. Writes (from ty) l t l₃ q) s.ty r.id is.id (is.kind ∙ k)
-        (λ ss. masked-writes root tag name d (λ y. set_data_field (ascii "u16") s.offset (ascii "value as u16") y)
-        (get_qualified_module sheet r.id) (enum_mask s) a x (rw (is.offset, is.explicit, default-here s r is) (rw m at b)) i
-        (rw (is.explicit, default-here s r is) n))
+    enum-is k =
+        at_enum (λ ty. from (setter_parts sheet f.slot ty) ≡ from (get_qualified_module sheet r.id then λ m.
+        explicit_mask r.explicit (value r.default r.bits) then λ x. ok (setter_only (ascii "value") (line_alone (line x)) m)))
+        f.slot.ty r.id is.id (is.kind ∙ k) (λ ss. rw (is.offset, is.explicit, default-here f.slot r is) refl)
+
+    abbrev new : Str → Str
+    new call = new_pointer sheet.root r.offset ++ call
+
+    pub parameter-is : r.kind ≡ 18 → (r.id ≡ 0 → ⊥) → text ≡ from (typ (Builder A) then λ b. typ Owned then λ w.
+        ok (three_parts sheet.root tag name r.discriminant r.offset (new (ascii ".initn_as(length)"))
+        (new (ascii ".init_as()")) b w))
+    unfolding generate_setter
+    parameter-is k j =
+        at-parameter (λ ty. from (setter_parts sheet f.slot ty) ≡ from (typ (Builder A) then λ b. typ Owned then λ w.
+        ok (three_parts sheet.root tag name r.discriminant r.offset (new (ascii ".initn_as(length)")) (new (ascii ".init_as()"))
+        b w)))
+        f.slot.ty r.id is.id (is.kind ∙ k) j (λ id at. rw is.offset refl)
+
+    -- ---- what the code leaves at each end of an arm
+
+    -- what is written of whatever type is read at the slot's
+    abbrev There : (Ty → Out Str) → List ℕ → Text → List ℕ → Result Text Refusal → Type 0
+    There o l t l' q = On (read_type 16 (rows (drop r.typ bytes))) (λ ty. Writes (o ty) l t l' q)
+
+    there : (o : Ty → Out Str) (l : List ℕ) (t : Text) (l' : List ℕ) (q : Result Text Refusal) → There o l t l' q
+        → Writes (o f.slot.ty) l t l' q
+    there o l t l' q x = typed (λ ty. Writes (o ty) l t l' q) x
+
+    abbrev read : Leaf → Ty → Out Str
+    read leaf ty = type_string ty sheet leaf
+
+    -- a list's setter takes what is chosen by its element
+    abbrev ListReader : List ℕ → Text → List ℕ → Result Text Refusal → Type 0
+    ListReader l t l' q =
+        On (read_type 16 (rows (drop r.typ bytes))) (λ ty. (el : Ty) → ty ≡ list el
+        → Writes (list_reader_type sheet el ty) l t l' q)
+
+    list_reader : (l : List ℕ) (t : Text) (l' : List ℕ) (q : Result Text Refusal) → ListReader l t l' q → (el : Ty)
+        → f.slot.ty ≡ list el
+        → Writes (list_reader_type sheet el f.slot.ty) l t l' q
+    list_reader l t l' q x el z = typed (λ ty. (el : Ty) → ty ≡ list el → Writes (list_reader_type sheet el ty) l t l' q) x el z
+
+    module _ {l l' : List ℕ} {t : Text} (l₁ : List ℕ) (t₁ : Text) (l₂ : List ℕ) where
+      -- the first type is refused
+      module _ (e : Refusal) where
+        pub struct-first : r.kind ≡ 16 → There (read (Reader Anonymous)) l₁ t₁ l₂ (Err e) → Writes text l t l' (Err e)
+        struct-first k x =
+            rw (struct-is k, refusal-is (typ (Reader Anonymous)) (there (read (Reader Anonymous)) l₁ t₁ l₂ (Err e) x))
+            (refused-text refl)
+
+        pub list-first : r.kind ≡ 14 → ListReader l₁ t₁ l₂ (Err e) → Writes text l t l' (Err e)
+        list-first k x =
+            let arm = list-is k in
+            rw (arm.2, refusal-is (list_reader_type sheet arm.0 f.slot.ty) (list_reader l₁ t₁ l₂ (Err e) x arm.0 arm.1))
+            (refused-text refl)
+
+        pub interface-first : r.kind ≡ 17 → There (read Client) l₁ t₁ l₂ (Err e) → Writes text l t l' (Err e)
+        interface-first k x =
+            rw (interface-is k, refusal-is (typ Client) (there (read Client) l₁ t₁ l₂ (Err e) x)) (refused-text refl)
+
+        pub enum-first : r.kind ≡ 15 → Writes (get_qualified_module sheet r.id) l₁ t₁ l₂ (Err e) → Writes text l t l' (Err e)
+        enum-first k x = rw (enum-is k, refusal-is (get_qualified_module sheet r.id) x) (refused-text refl)
+
+        pub parameter-first : r.kind ≡ 18 → (r.id ≡ 0 → ⊥) → There (read (Builder A)) l₁ t₁ l₂ (Err e)
+            → Writes text l t l' (Err e)
+        parameter-first k n x =
+            rw (parameter-is k n, refusal-is (typ (Builder A)) (there (read (Builder A)) l₁ t₁ l₂ (Err e) x)) (refused-text refl)
+
+      -- it is not, and what comes after it is
+      module _ (u : Text) (l₄ : List ℕ) (t₄ : Text) (l₅ : List ℕ) (e : Refusal) where
+        pub struct-later : r.kind ≡ 16 → There (read (Reader Anonymous)) l₁ t₁ l₂ (Ok u)
+            → There (read (Builder A)) l₄ t₄ l₅ (Err e) → Writes text l t l' (Err e)
+        struct-later k x y =
+            let p = text-of (typ (Reader Anonymous)) (there (read (Reader Anonymous)) l₁ t₁ l₂ (Ok u) x) in
+            rw (struct-is k, p.is, refusal-is (typ (Builder A)) (there (read (Builder A)) l₄ t₄ l₅ (Err e) y)) (refused-text refl)
+
+        pub list-later : r.kind ≡ 14 → ListReader l₁ t₁ l₂ (Ok u) → There (read (Builder A)) l₄ t₄ l₅ (Err e)
+            → Writes text l t l' (Err e)
+        list-later k x y =
+            let arm = list-is k in
+            let p = text-of (list_reader_type sheet arm.0 f.slot.ty) (list_reader l₁ t₁ l₂ (Ok u) x arm.0 arm.1) in
+            rw (arm.2, p.is, refusal-is (typ (Builder A)) (there (read (Builder A)) l₄ t₄ l₅ (Err e) y)) (refused-text refl)
+
+        pub parameter-later : r.kind ≡ 18 → (r.id ≡ 0 → ⊥) → There (read (Builder A)) l₁ t₁ l₂ (Ok u)
+            → There (input_type sheet) l₄ t₄ l₅ (Err e) → Writes text l t l' (Err e)
+        parameter-later k n x y =
+            let p = text-of (typ (Builder A)) (there (read (Builder A)) l₁ t₁ l₂ (Ok u) x) in
+            rw (parameter-is k n, p.is) (go p.text (typ Owned) (there (input_type sheet) l₄ t₄ l₅ (Err e) y))
+          where
+            go : (b : Str) (o : Out Str) → Writes (o then λ owned. ok (setter_input sheet.root owned)) l₄ t₄ l₅ (Err e)
+                → Writes (from (o then λ w. ok (three_parts sheet.root tag name r.discriminant r.offset
+                (new (ascii ".initn_as(length)")) (new (ascii ".init_as()")) b w))) l t l' (Err e)
+            go b (ok w) z = let q = z.refusal in never cc
+            go b (refused k) z = refused-text (ok-some z.refusal)
+
+      pub enum-later : (u : Text) (e : Refusal) → r.kind ≡ 15 → Writes (get_qualified_module sheet r.id) l₁ t₁ l₂ (Ok u)
+          → refused (number e) ≡ explicit_mask r.explicit (value r.default r.bits) → Writes text l t l' (Err e)
+      enum-later u e k x m =
+          let p = text-of (get_qualified_module sheet r.id) x in rw (enum-is k, p.is, ← m) (refused-text refl)
+
+    -- nothing is refused
+    module _ {l l₁ l₂ l₃ l₄ l₅ l₆ : List ℕ} {t t₁ t₃ t₄ t₆ v w : Text} where
+      pub struct-here : r.kind ≡ 16 → Wrote l t (set_open name) l₁ t₁ → There (read (Reader Anonymous)) l₁ t₁ l₂ (Ok v)
+          → Wrote l₂ v (set_end sheet.root tag r.discriminant r.offset) l₃ t₃
+          → Wrote l₃ t₃ (init_open name false) l₄ t₄ → There (read (Builder A)) l₄ t₄ l₅ (Ok w)
+          → Wrote l₅ w (init_end tag r.discriminant (init_pointer sheet.root r.offset (ascii "0"))) l₆ t₆
+          → Writes text l t l₆ (Ok t₆)
+      struct-here k a x b c y e =
+          rw (struct-is k)
+          (both-writes sheet.root tag name r.discriminant r.offset false (init_pointer sheet.root r.offset (ascii "0"))
+          (typ (Reader Anonymous)) (typ (Builder A)) a (there (read (Reader Anonymous)) l₁ t₁ l₂ (Ok v) x) b
+          c (there (read (Builder A)) l₄ t₄ l₅ (Ok w) y) e)
+
+      pub list-here : r.kind ≡ 14 → Wrote l t (set_open name) l₁ t₁ → ListReader l₁ t₁ l₂ (Ok v)
+          → Wrote l₂ v (set_end sheet.root tag r.discriminant r.offset) l₃ t₃
+          → Wrote l₃ t₃ (init_open name true) l₄ t₄ → There (read (Builder A)) l₄ t₄ l₅ (Ok w)
+          → Wrote l₅ w (init_end tag r.discriminant (init_pointer sheet.root r.offset (ascii "size"))) l₆ t₆
+          → Writes text l t l₆ (Ok t₆)
+      list-here k a x b c y e =
+          let arm = list-is k in
+          rw arm.2
+          (both-writes sheet.root tag name r.discriminant r.offset true (init_pointer sheet.root r.offset (ascii "size"))
+          (list_reader_type sheet arm.0 f.slot.ty) (typ (Builder A)) a (list_reader l₁ t₁ l₂ (Ok v) x arm.0 arm.1) b
+          c (there (read (Builder A)) l₄ t₄ l₅ (Ok w) y) e)
+
+    pub interface-here : {l l₁ l₂ l₃ : List ℕ} {t t₁ u t₃ : Text} → r.kind ≡ 17 → Wrote l t (set_open name) l₁ t₁
+        → There (read Client) l₁ t₁ l₂ (Ok u)
+        → Wrote l₂ u (only_end tag r.discriminant (reborrowed r.offset ++ ascii ".set_capability(value.client.hook);")) l₃ t₃
+        → Writes text l t l₃ (Ok t₃)
+    interface-here {l} {l₁} {l₂} {l₃} {t} {t₁} {u} {t₃} k a x b =
+        rw (interface-is k)
+        (only-writes sheet.root tag name r.discriminant (ok tt) tt
+        (λ (z : Unit {0}). reborrowed r.offset ++ ascii ".set_capability(value.client.hook);") (typ Client) refl a
+        (there (read Client) l₁ t₁ l₂ (Ok u) x) b)
+
+    pub enum-here : {l l₁ l₂ l₃ : List ℕ} {t t₁ u t₃ : Text} (mask : Option Str) → r.kind ≡ 15
+        → ok mask ≡ explicit_mask r.explicit (value r.default r.bits) → Wrote l t (set_open name) l₁ t₁
+        → Writes (get_qualified_module sheet r.id) l₁ t₁ l₂ (Ok u)
+        → Wrote l₂ u (only_end tag r.discriminant (line mask)) l₃ t₃ → Writes text l t l₃ (Ok t₃)
+    enum-here mask k m a x b =
+        rw (enum-is k)
+        (only-writes sheet.root tag name r.discriminant (explicit_mask r.explicit (value r.default r.bits)) mask line
+        (get_qualified_module sheet r.id) (sym m) a x b)
+
+    pub parameter-here : {l l₁ l₂ l₃ l₄ l₅ l₆ l₇ l₈ l₉ : List ℕ} {t t₁ t₃ t₄ t₆ t₇ t₉ u v w : Text}
+        → r.kind ≡ 18 → (r.id ≡ 0 → ⊥)
+        → Wrote l t (initn_open name) l₁ t₁ → There (read (Builder A)) l₁ t₁ l₂ (Ok u)
+        → Wrote l₂ u (init_end tag r.discriminant (new (ascii ".initn_as(length)"))) l₃ t₃
+        → Wrote l₃ t₃ (set_open name) l₄ t₄ → There (input_type sheet) l₄ t₄ l₅ (Ok v)
+        → Wrote l₅ v (set_end sheet.root tag r.discriminant r.offset) l₆ t₆
+        → Wrote l₆ t₆ (init_open name false) l₇ t₇ → There (read (Builder A)) l₇ t₇ l₈ (Ok w)
+        → Wrote l₈ w (init_end tag r.discriminant (new (ascii ".init_as()"))) l₉ t₉ → Writes text l t l₉ (Ok t₉)
+    parameter-here {l} {l₁} {l₂} {l₃} {l₄} {l₅} {l₆} {l₇} {l₈} {l₉} {t} {t₁} {t₃} {t₄} {t₆} {t₇} {t₉} {u} {v} {w}
+        k n a x b c y e g z h =
+        rw (parameter-is k n)
+        (three_writes sheet.root tag name r.discriminant r.offset (new (ascii ".initn_as(length)")) (new (ascii ".init_as()"))
+        (typ (Builder A)) (typ Owned) a (there (read (Builder A)) l₁ t₁ l₂ (Ok u) x) b
+        c (there (input_type sheet) l₄ t₄ l₅ (Ok v) y) e
+        g (there (read (Builder A)) l₇ t₇ l₈ (Ok w) z) h)
 
 -- the line of an interface's setter, its constants merged
 pub capability-line : (x : Str) (offset : ℕ)
@@ -185,7 +306,7 @@ module _ (rs : Rows) (sheet : Sheet) (j : ℕ) (several : Bool) (e : j ≡ kind_
       → either (leb (kind el) 12) (eqb (kind el) 15) ≡ b
   chosen ty el b h i z = rw (of_list ty el (kind_at (rest_of rs)) i z, ← e, ← is) h
 
-  module _ (l : List ℕ) (t : Text) (l' : List ℕ) (q : Written) where
+  module _ (l : List ℕ) (t : Text) (l' : List ℕ) (q : Result Text Refusal) where
     abbrev Takes : Ty → Type 0
     Takes ty = (el : Ty) → ty ≡ list el → Writes (list_reader_type sheet el ty) l t l' q
 
@@ -225,13 +346,6 @@ module _ (sheet : Sheet) (s : tree.Slot) (r : Slot) (is : SlotIs r s) (tag : ℕ
         ne_eqb k 13 (λ z. let w : ⊥ = omega arith in absurd w),
       ) refl
 
-  -- these parts are written whole; or those of a Bool or a number, with the default's mask
-  abbrev Whole : List ℕ → Text → List ℕ → Text → Parts → Type 0
-  Whole l t l' t' p = Wrote l t (stringify (setter_functions sheet.root tag name d p)) l' t'
-
-  abbrev Masked : List ℕ → Text → List ℕ → Text → (Option Str → Parts) → Type 0
-  Masked l t l' t' parts = Whole l t l' t' (parts (mask_or (prim_default (value r.default r.bits))))
-
   abbrev bool_parts : Option Str → Parts
   bool_parts mask = setter_only (ascii "value") (line_alone (set_bool_field r.offset (ascii "value") mask)) (ascii "bool")
 
@@ -240,59 +354,72 @@ module _ (sheet : Sheet) (s : tree.Slot) (r : Slot) (is : SlotIs r s) (tag : ℕ
       setter_only (ascii "value") (line_alone (set_data_field (primitive_text r.kind) r.offset (ascii "value") mask))
       (primitive_text r.kind)
 
-  module _ {l l' : List ℕ} {t t' : Text} {q : Written} where
-    whole_here : (p : Parts) → setter_parts sheet s s.ty ≡ ok p → Whole l t l' t' p
-        → (q.text ≡ t') × (number_of q ≡ None) → Writes (setter_text_of sheet tag name d s) l t l' q
-    unfolding generate_setter
-    whole_here p e w h = rw e (whole-writes sheet.root tag name d p w h)
+  abbrev out : Out Str
+  out = setter_text_of sheet tag name d s
 
-    masked-here : (m : Out (Option Str)) (parts : Option Str → Parts)
-        → setter_parts sheet s s.ty ≡ (m then λ mask. ok (parts mask)) → Whole l t l' t' (parts (mask_or m))
-        → q.text ≡ t' → number_of q ≡ refusal_of m → Writes (setter_text_of sheet tag name d s) l t l' q
-    unfolding generate_setter
-    masked-here m parts e w i n = rw e (default-writes sheet.root tag name d m parts w i n)
+  -- these parts are written whole
+  abbrev Whole : List ℕ → Text → List ℕ → Text → Parts → Type 0
+  Whole l t l' t' p = Wrote l t (stringify (setter_functions sheet.root tag name d p)) l' t'
 
+  whole_here : {l l' : List ℕ} {t t' : Text} (p : Parts) → setter_parts sheet s s.ty ≡ ok p → Whole l t l' t' p
+      → Writes out l t l' (Ok t')
+  unfolding generate_setter
+  whole_here p e w = rw e (whole w)
+
+  module _ {l l' : List ℕ} {t t' : Text} where
     pub void-here : r.kind ≡ 0 → Whole l t l' t' (setter_only (ascii "_value") lines.none (ascii "()"))
-        → (q.text ≡ t') × (number_of q ≡ None) → Writes (setter_text_of sheet tag name d s) l t l' q
-    void-here e w h = whole_here _ (parts_at 0 e (omega arith)) w h
+        → Writes out l t l' (Ok t')
+    void-here e w = whole_here _ (parts_at 0 e (omega arith)) w
 
-    pub text-here : r.kind ≡ 12 → Whole l t l' t' (text_parts sheet.root r.offset)
-        → (q.text ≡ t') × (number_of q ≡ None) → Writes (setter_text_of sheet tag name d s) l t l' q
-    text-here e w h = whole_here (text_parts sheet.root r.offset) (parts_at 12 e (omega arith) ∙ rw is.offset refl) w h
+    pub text-here : r.kind ≡ 12 → Whole l t l' t' (text_parts sheet.root r.offset) → Writes out l t l' (Ok t')
+    text-here e w = whole_here (text_parts sheet.root r.offset) (parts_at 12 e (omega arith) ∙ rw is.offset refl) w
 
-    pub data-here : r.kind ≡ 13 → Whole l t l' t' (data_parts sheet.root r.offset)
-        → (q.text ≡ t') × (number_of q ≡ None) → Writes (setter_text_of sheet tag name d s) l t l' q
-    data-here e w h = whole_here (data_parts sheet.root r.offset) (parts_at 13 e (omega arith) ∙ rw is.offset refl) w h
+    pub data-here : r.kind ≡ 13 → Whole l t l' t' (data_parts sheet.root r.offset) → Writes out l t l' (Ok t')
+    data-here e w = whole_here (data_parts sheet.root r.offset) (parts_at 13 e (omega arith) ∙ rw is.offset refl) w
 
-    pub any_here : r.kind ≡ 18 → r.id ≡ 0 → Whole l t l' t' (pointer_parts sheet.root r.offset)
-        → (q.text ≡ t') × (number_of q ≡ None) → Writes (setter_text_of sheet tag name d s) l t l' q
-    any_here e i w h =
+    pub any_here : r.kind ≡ 18 → r.id ≡ 0 → Whole l t l' t' (pointer_parts sheet.root r.offset) → Writes out l t l' (Ok t')
+    any_here e i w =
         whole_here (pointer_parts sheet.root r.offset)
         (at-any (λ ty. setter_parts sheet s ty ≡ ok (pointer_parts sheet.root r.offset)) s.ty r.id is.id
         (is.kind ∙ e) i
-        (rw is.offset refl)) w h
+        (rw is.offset refl)) w
 
-    pub bool-here : r.kind ≡ 1 → Masked l t l' t' bool_parts
-        → q.text ≡ t' → number_of q ≡ refusal_of (prim_default (value r.default r.bits))
-        → Writes (setter_text_of sheet tag name d s) l t l' q
-    bool-here e w i n =
-        masked-here (prim_default (value r.default r.bits)) bool_parts
-        (prim-at 1 e (λ z. let w : ⊥ = omega arith in absurd w) (omega arith)
-        ∙ rw (is.kind ∙ e, is.offset, default-here s r is) refl)
-        w i n
+  -- those of a Bool or a number have the mask of the default, which may be refused
+  abbrev default : Out (Option Str)
+  default = prim_default (value r.default r.bits)
 
-    pub number-here : (r.kind ≡ 0 → ⊥) → (r.kind ≡ 1 → ⊥) → r.kind ≤ 11 → Masked l t l' t' number_parts
-        → q.text ≡ t' → number_of q ≡ refusal_of (prim_default (value r.default r.bits))
-        → Writes (setter_text_of sheet tag name d s) l t l' q
-    number-here n0 n1 le w i n =
-        masked-here (prim_default (value r.default r.bits)) number_parts
-        (prim-at r.kind refl n0 le
-        ∙ rw (is.kind, ne_eqb r.kind 1 n1, typ-at le, is.offset, default-here s r is) refl)
-        w i n
+  bool-is : r.kind ≡ 1 → setter_parts sheet s s.ty ≡ (default then λ mask. ok (bool_parts mask))
+  bool-is e =
+      prim-at 1 e (λ z. let w : ⊥ = omega arith in absurd w) (omega arith)
+      ∙ rw (is.kind ∙ e, is.offset, default-here s r is) refl
+
+  number-is : (r.kind ≡ 0 → ⊥) → (r.kind ≡ 1 → ⊥) → r.kind ≤ 11
+      → setter_parts sheet s s.ty ≡ (default then λ mask. ok (number_parts mask))
+  number-is n0 n1 le =
+      prim-at r.kind refl n0 le
+      ∙ rw (is.kind, ne_eqb r.kind 1 n1, typ-at le, is.offset, default-here s r is) refl
+
+  module _ {l l' : List ℕ} {t : Text} where
+    pub prim-refused : {e : Refusal} → (r.kind ≡ 0 → ⊥) → r.kind ≤ 11 → refused (number e) ≡ default → Writes out l t l' (Err e)
+    unfolding generate_setter
+    prim-refused {e} n0 le h = go (eqb r.kind 1) refl
+      where
+        go : (b : Bool) → eqb r.kind 1 ≡ b → Writes out l t l' (Err e)
+        go true k = rw (bool-is (eqb-true r.kind 1 k), ← h) (refused-text refl)
+        go false k = rw (number-is n0 (eqb-false r.kind 1 k) le, ← h) (refused-text refl)
+
+    module _ {t' : Text} (mask : Option Str) (h : ok mask ≡ default) where
+      pub bool-here : r.kind ≡ 1 → Whole l t l' t' (bool_parts (mask_or default)) → Writes out l t l' (Ok t')
+      bool-here e w = whole_here (bool_parts mask) (bool-is e ∙ rw (← h) refl) (rw (← h) at w)
+
+      pub number-here : (r.kind ≡ 0 → ⊥) → (r.kind ≡ 1 → ⊥) → r.kind ≤ 11 → Whole l t l' t' (number_parts (mask_or default))
+          → Writes out l t l' (Ok t')
+      number-here n0 n1 le w = whole_here (number_parts mask) (number-is n0 n1 le ∙ rw (← h) refl) (rw (← h) at w)
 
 -- ---- the request
 
-pub setter-here : {l l' : List ℕ} {t : Text} {q : Written} (bytes : Str) (r : Slot) (f : SlotField) → SlotHere bytes r f
+pub setter-here : {l l' : List ℕ} {t : Text} {q : Result Text Refusal} (bytes : Str) (r : Slot) (f : SlotField)
+    → SlotHere bytes r f
     → (sheet : Sheet) (tag : ℕ) (name : Str) (snake : Snake) → name ≡ f.name → snake ≡ held (camel_to_snake_case name)
     → Writes (setter_text_of sheet tag (name_of snake) r.discriminant f.slot) l t l' q
     → Writes (setter_request sheet tag f.name f.discriminant f.slot) l t l' q

@@ -1,5 +1,5 @@
 -- Texts with a type that is read in the sheet, and the ends of the functions that have one. Assumes nothing.
-use Rattle.std.specs.Prelude.{true, List, ◌++◌, ℕ, drop}
+use Rattle.std.specs.Prelude.{true, List, ◌++◌, ℕ, drop, Result}
 use Rattle.text.specs.Bytes.{Str, ascii}
 use Rattle.text.specs.Lines.{stringify}
 use Rattle.text.specs.declared.Text.{Text}
@@ -12,15 +12,18 @@ use Rattle.codegen_types.specs.Out.{Out, ok, ◌then◌}
 use Rattle.codegen_types.specs.TypeString.{type_string}
 use Rattle.codegen_types.specs.declared.Leaf.TheVariants.{Owned}
 use Rattle.codegen_types.specs.Written.{Writes}
-use Rattle.codegen_types.specs.declared.Written.{Written}
-use Rattle.nodes.specs.Index.{ForAll}
+use Rattle.terms.specs.declared.refusals.Refusal.{Refusal}
+use Rattle.nodes.specs.Index.{InSource}
+use Rattle.nodes.specs.declared.Source.{Source}
+use Rattle.names.specs.Names.{name_of}
+use Rattle.setter_code.specs.declared.Target.{Target}
 use Rattle.codegen.specs.Setter.{set_pointer, setter_input, generate_setter}
 use Rattle.setter_code.specs.Parts.{tag_line, set_close}
 
 -- what is made of the type at a position, in every sheet that the index has, is written
-abbrev pub Types : Str → Str → List ℕ → ℕ → (Sheet → Ty → Out Str) → List ℕ → Text → List ℕ → Written → Type 0
-Types root s index at made l t l' r =
-    ForAll root s index (λ sheet. On (read_type 16 (rows (drop at s))) (λ ty. Writes (made sheet ty) l t l' r))
+abbrev pub Types : Source → ℕ → (Sheet → Ty → Out Str) → List ℕ → Text → List ℕ → Result Text Refusal → Type 0
+Types source at made l t l' r =
+    InSource source (λ sheet. On (read_type 16 (rows (drop at source.bytes.now))) (λ ty. Writes (made sheet ty) l t l' r))
 
 -- what a setter takes where its type has several SetterInput impls
 abbrev pub input_type : Sheet → Ty → Out Str
@@ -42,3 +45,7 @@ init_end tag discriminant line = init_start tag discriminant ++ line ++ ascii "\
 abbrev pub setter_text_of : Sheet → ℕ → Str → ℕ → tree.Slot → Out Str
 setter_text_of sheet tag_offset styled_name discriminant s =
     generate_setter sheet tag_offset styled_name discriminant s then λ ft. ok (stringify ft)
+
+-- the same, for what a setter is written for
+abbrev pub setter_for : Sheet → Target → tree.Slot → Out Str
+setter_for sheet target s = setter_text_of sheet target.tag (name_of target.name) target.slot.discriminant s

@@ -1,164 +1,111 @@
-// A slot's setter and initializer: `generate_setter` of codegen.rs, from the sheet's rows. What is refused is found while the
-// text is written: the refusals of a type's texts in Rust's order, then that of the default.
+// A slot's setter and initializer: `generate_setter` of codegen.rs, from the sheet's rows. Each type's text is written where it
+// stands, and ends the setter where it is refused, in the Rust's order; then the default's refusal.
 #![tactic(auto)]
 
 ghost use Rattle.std.specs.Prelude.{◌≡◌, ◌++◌, List, ◌<◌, eqb, leb, drop};
-ghost use Rattle.text.specs.Text.{Wrote, WroteSome};
+ghost use Rattle.text.specs.Text.{Wrote};
 ghost use Rattle.text.specs.Bytes.{Str, either};
 ghost use Rattle.row.specs.Rows.{rest_of, rows};
 ghost use Rattle.tree.specs.Tree as tree;
 ghost use Rattle.tree.specs.Read.{read_type};
 ghost use Rattle.tree.specs.Reader.{On};
-ghost use Rattle.names.specs.Names.{name_of};
-ghost use Rattle.nodes.specs.Index.{ForAll, sheet_of};
+ghost use Rattle.nodes.specs.Index.{InSource, sheet_of};
 ghost use Rattle.types.specs.Find.{kind_at};
-ghost use Rattle.codegen_types.specs.Out.{refusal_of};
-ghost use Rattle.codegen_types.specs.TypeString.{type_string};
-ghost use Rattle.codegen_types.specs.Written.{refusal_number, Writes};
-ghost use Rattle.codegen_types.specs.declared.Leaf.TheVariants.{Reader, Builder};
-ghost use Rattle.codegen_types.specs.declared.Lifetime.TheVariants as lifetime;
-ghost use Rattle.calls.specs.Mask.{mask_text};
+ghost use Rattle.codegen_types.specs.Written.{Writes, Within};
 ghost use Rattle.field.specs.Slot.{SlotIs, SlotField, SlotHere};
-ghost use Rattle.codegen.specs.Default.{value, prim_default};
-ghost use Rattle.codegen.specs.Mask.{mask_or};
+ghost use Rattle.codegen.specs.Default.{value};
+ghost use Rattle.codegen.specs.Mask.{masked};
 ghost use Rattle.codegen.specs.Setter.{list_reader_type, init_pointer, new_pointer, explicit_mask, setter_request};
-ghost use Rattle.setter.specs.Typed.{Types, input_type, set_end, init_start, init_end, setter_text_of};
+ghost use Rattle.setter.specs.Typed.{Types, input_type, set_end, init_start, init_end, setter_for};
 
 use calls::Mask;
-use codegen_types::{Leaf, Lifetime, Refusal, Written};
+use codegen_types::{Leaf, Lifetime};
 use field::Slot;
-use names::Snake;
-use terms::{kinds, refusals};
+use nodes::Source;
+use setter_code::Target;
+use terms::{Refusal, kinds};
 use text::Text;
 
-// The refusal of the default of a Bool or a number: one that is no primitive.
-fn default_refusal(slot: Slot) -> Refusal
-    ensures { refusal_number result ≡ refusal_of (prim_default (value slot.default slot.bits)) }
+// The setter of a Bool or a number, whose default may be refused before any text is written.
+fn prim_setter(target: &Target, t: Text, buf: &mut [u8]) -> Result<Text, Refusal>
+    ensures text { (root : Str) (ns : List tree.Node) (sl : tree.Slot) → SlotIs target.now.slot sl
+        → (target.now.slot.kind ≡ 0 → ⊥) → target.now.slot.kind < 12
+        → Writes (setter_for (sheet_of root ns) target.now sl) buf.old t buf.new result }
+    ensures within { Within buf.old t buf.new result }
 {
-    let kind = slot.default;
-    match kind {
-        kinds::BOOL..=kinds::FLOAT64 => Refusal::None,
-        _ => Refusal::Number(refusals::SETTER_DEFAULT),
+    codegen::prim_default(target.slot.default, target.slot.bits)?;
+    if target.slot.kind == kinds::BOOL {
+        return Ok(target.boolean(t, buf));
     }
+    Ok(target.number(t, buf))
 }
 
 // The setter of a slot whose type has one row: kinds 0 to 13.
-fn plain_setter(root: &[u8], name: Snake, slot: Slot, tag: u64, t: Text, buf: &mut [u8]) -> Written
-    ensures text { (ns : List tree.Node) (sl : tree.Slot) → SlotIs slot sl → slot.kind < 14
-        → Writes (setter_text_of (sheet_of root.now ns) tag (name_of name) slot.discriminant sl)
-        buf.old t buf.new result }
-    ensures some { WroteSome buf.old t buf.new result.text }
+fn plain_setter(root: &[u8], target: &Target, t: Text, buf: &mut [u8]) -> Result<Text, Refusal>
+    ensures text { (ns : List tree.Node) (sl : tree.Slot) → SlotIs target.now.slot sl → target.now.slot.kind < 14
+        → Writes (setter_for (sheet_of root.now ns) target.now sl) buf.old t buf.new result }
+    ensures within { Within buf.old t buf.new result }
 {
-    let kind = slot.kind;
-    match kind {
-        kinds::VOID => codegen_types::whole(setter_code::void(name, slot, tag, t, buf)),
-        kinds::BOOL => {
-            let text = setter_code::boolean(name, slot, tag, t, buf);
-            Written {
-                text,
-                refusal: default_refusal(slot),
-            }
-        },
-        kinds::TEXT => codegen_types::whole(setter_code::text(root, name, slot, tag, t, buf)),
-        kinds::DATA => codegen_types::whole(setter_code::data(root, name, slot, tag, t, buf)),
-        _ => {
-            let text = setter_code::number(name, slot, tag, t, buf);
-            Written {
-                text,
-                refusal: default_refusal(slot),
-            }
-        },
+    match target.slot.kind {
+        kinds::VOID => Ok(target.void(t, buf)),
+        kinds::TEXT => Ok(target.text(root, t, buf)),
+        kinds::DATA => Ok(target.data(root, t, buf)),
+        _ => prim_setter(target, t, buf),
     }
 }
 
 // What a setter takes where its type has several SetterInput impls, for the type at a position.
-fn setter_input(root: &[u8], s: &[u8], index: &[u64], at: usize, t: Text, buf: &mut [u8]) -> Written
-    ensures text { Types root.now s.now index.now at input_type
-        buf.old t buf.new result }
-    ensures some { WroteSome buf.old t buf.new result.text }
+fn setter_input(source: &Source<'_>, at: usize, t: Text, buf: &mut [u8]) -> Result<Text, Refusal>
+    ensures text { Types source.now at input_type buf.old t buf.new result }
+    ensures within { Within buf.old t buf.new result }
 {
     let t = t.bytes(buf, b"impl ");
-    let t = t.bytes(buf, root);
+    let t = t.bytes(buf, source.root);
     let t = t.bytes(buf, b"::traits::SetterInput<");
-    let Written { text: t, refusal } = type_string::type_string(
-        root,
-        s,
-        index,
-        at,
-        Leaf::Owned,
-        t,
-        buf,
-    );
-    let text = t.bytes(buf, b">");
-    Written { text, refusal }
-}
-
-// What other setters take: the type at a position as a Reader.
-fn reader_type(root: &[u8], s: &[u8], index: &[u64], at: usize, t: Text, buf: &mut [u8]) -> Written
-    ensures text { Types root.now s.now index.now at
-        (λ sheet ty. type_string ty sheet (Reader lifetime.Anonymous)) buf.old t buf.new result }
-    ensures some { WroteSome buf.old t buf.new result.text }
-{
-    type_string::type_string(
-        root,
-        s,
-        index,
-        at,
-        Leaf::Reader(Lifetime::Anonymous),
-        t,
-        buf,
-    )
-}
-
-// What an initializer returns: the type at a position as a Builder.
-fn init_type(root: &[u8], s: &[u8], index: &[u64], at: usize, t: Text, buf: &mut [u8]) -> Written
-    ensures text { Types root.now s.now index.now at
-        (λ sheet ty. type_string ty sheet (Builder lifetime.A)) buf.old t buf.new result }
-    ensures some { WroteSome buf.old t buf.new result.text }
-{
-    type_string::type_string(root, s, index, at, Leaf::Builder(Lifetime::A), t, buf)
+    let t = type_string::type_string(source, at, Leaf::Owned, t, buf)?;
+    Ok(t.bytes(buf, b">"))
 }
 
 // A setter of a pointer, after its value's type.
-fn set_end(root: &[u8], slot: Slot, tag: u64, t: Text, buf: &mut [u8]) -> Text
-    ensures { Wrote buf.old t (set_end root.now tag slot.discriminant slot.offset)
-        buf.new result }
+fn set_end(root: &[u8], target: &Target, t: Text, buf: &mut [u8]) -> Text
+    ensures { Wrote buf.old t
+        (set_end root.now target.now.tag target.now.slot.discriminant target.now.slot.offset) buf.new result }
 {
     let t = setter_code::set_close(root, t, buf);
-    let t = setter_code::tag_line(tag, slot.discriminant, t, buf);
+    let t = target.tag_line(t, buf);
     let t = t.bytes(buf, b"    ");
-    let t = setter_code::set_pointer(root, slot.offset, t, buf);
+    let t = target.set_pointer(root, t, buf);
     t.bytes(buf, b"\n}\n")
 }
 
 // An initializer from its result's type up to its last line.
-fn init_start(slot: Slot, tag: u64, t: Text, buf: &mut [u8]) -> Text
-    ensures { Wrote buf.old t (init_start tag slot.discriminant) buf.new result }
+fn init_start(target: &Target, t: Text, buf: &mut [u8]) -> Text
+    ensures { Wrote buf.old t (init_start target.now.tag target.now.slot.discriminant) buf.new result }
 {
     let opened = t.bytes(buf, b" {\n");
-    let t = setter_code::tag_line(tag, slot.discriminant, opened, buf);
+    let t = target.tag_line(opened, buf);
     t.bytes(buf, b"    ")
 }
 
 // An initializer of a list or a struct, after its result's type.
-fn init_end(root: &[u8], slot: Slot, tag: u64, size: &[u8], t: Text, buf: &mut [u8]) -> Text
+fn init_end(root: &[u8], target: &Target, size: &[u8], t: Text, buf: &mut [u8]) -> Text
     ensures { Wrote buf.old t
-        (init_end tag slot.discriminant (init_pointer root.now slot.offset size.now))
+        (init_end target.now.tag target.now.slot.discriminant (init_pointer root.now target.now.slot.offset size.now))
         buf.new result }
 {
-    let t = init_start(slot, tag, t, buf);
-    let t = setter_code::init_pointer(root, slot.offset, size, t, buf);
+    let t = init_start(target, t, buf);
+    let t = target.init_pointer(root, size, t, buf);
     t.bytes(buf, b"\n}\n")
 }
 
 // An initializer of a parameter's type, after its result's type; `call` is what it calls on the new pointer.
-fn new_end(root: &[u8], slot: Slot, tag: u64, call: &[u8], t: Text, buf: &mut [u8]) -> Text
+fn new_end(root: &[u8], target: &Target, call: &[u8], t: Text, buf: &mut [u8]) -> Text
     ensures { Wrote buf.old t
-        (init_end tag slot.discriminant (new_pointer root.now slot.offset ++ call.now))
+        (init_end target.now.tag target.now.slot.discriminant (new_pointer root.now target.now.slot.offset ++ call.now))
         buf.new result }
 {
-    let t = init_start(slot, tag, t, buf);
-    let t = setter_code::new_pointer(root, slot.offset, t, buf);
+    let t = init_start(target, t, buf);
+    let t = target.new_pointer(root, t, buf);
     let t = t.bytes(buf, call);
     t.bytes(buf, b"\n}\n")
 }
@@ -167,285 +114,192 @@ fn new_end(root: &[u8], slot: Slot, tag: u64, call: &[u8], t: Text, buf: &mut [u
 fn element_kind(s: &[u8], at: usize) -> u64
     ensures { result ≡ kind_at (rest_of (rows (drop at s.now))) }
 {
-    let g = row::next(s, at);
-    types::kind(s, g.next)
+    let row = row::next(s, at);
+    types::kind(s, row.next)
 }
 
 // Whether an element of this kind has several SetterInput impls.
 fn several_inputs(kind: u64) -> bool
     ensures { result ≡ either (leb kind 12) (eqb kind 15) }
 {
-    match kind {
-        kinds::VOID..=kinds::TEXT | kinds::ENUM => true,
-        _ => false,
-    }
+    matches!(kind, kinds::VOID..=kinds::TEXT | kinds::ENUM)
 }
 
 // What the setter of a list takes, for the list type at a position.
-fn list_reader(root: &[u8], s: &[u8], index: &[u64], at: usize, t: Text, buf: &mut [u8]) -> Written
-    ensures text { ForAll root.now s.now index.now (λ sheet.
-        On (read_type 16 (rows (drop at s.now))) (λ ty. (element : tree.Ty) → ty ≡ tree.list element
+fn list_reader(source: &Source<'_>, at: usize, t: Text, buf: &mut [u8]) -> Result<Text, Refusal>
+    ensures text { InSource source.now (λ sheet.
+        On (read_type 16 (rows (drop at source.now.bytes.now))) (λ ty. (element : tree.Ty) → ty ≡ tree.list element
         → Writes (list_reader_type sheet element ty) buf.old t buf.new result)) }
-    ensures some { WroteSome buf.old t buf.new result.text }
+    ensures within { Within buf.old t buf.new result }
 {
-    if several_inputs(element_kind(s, at)) {
-        return setter_input(root, s, index, at, t, buf);
+    if several_inputs(element_kind(source.bytes, at)) {
+        return setter_input(source, at, t, buf);
     }
-    reader_type(root, s, index, at, t, buf)
+    type_string::type_string(source, at, Leaf::Reader(Lifetime::Anonymous), t, buf)
 }
 
-// A list's setter and initializer.
+// A list's setter and initializer. As in the Rust, lists and structs are two arms: what is taken, the initializer and its size
+// differ.
 fn list_setter(
-    root: &[u8],
-    s: &[u8],
-    index: &[u64],
-    name: Snake,
-    slot: Slot,
-    tag: u64,
+    source: &Source<'_>,
+    target: &Target,
     t: Text,
     buf: &mut [u8],
-) -> Written
-    ensures text { ForAll root.now s.now index.now (λ sheet.
-        (f : SlotField) → SlotHere s.now slot f → slot.kind ≡ 14
-        → Writes (setter_text_of sheet tag (name_of name) slot.discriminant f.slot)
-        buf.old t buf.new result) }
-    ensures some { WroteSome buf.old t buf.new result.text }
+) -> Result<Text, Refusal>
+    ensures text { InSource source.now (λ sheet.
+        (f : SlotField) → SlotHere source.now.bytes.now target.now.slot f → target.now.slot.kind ≡ 14
+        → Writes (setter_for sheet target.now f.slot) buf.old t buf.new result) }
+    ensures within { Within buf.old t buf.new result }
 {
-    let t = setter_code::set_open(name, t, buf);
-    let Written {
-        text: t,
-        refusal: reader,
-    } = list_reader(root, s, index, slot.typ, t, buf);
-    let t = set_end(root, slot, tag, t, buf);
-    let t = setter_code::init_open(name, true, t, buf);
-    let Written {
-        text: t,
-        refusal: builder,
-    } = init_type(root, s, index, slot.typ, t, buf);
-    let text = init_end(root, slot, tag, b"size", t, buf);
-    Written {
-        text,
-        refusal: codegen_types::first(reader, builder),
-    }
+    let at = target.slot.typ;
+    let t = target.set_open(t, buf);
+    let set = list_reader(source, at, t, buf)?;
+    let t = set_end(source.root, target, set, buf);
+    let t = target.init_open(true, t, buf);
+    let init = type_string::type_string(source, at, Leaf::Builder(Lifetime::A), t, buf)?;
+    Ok(init_end(source.root, target, b"size", init, buf))
 }
 
-// The mask of an enum's setter: its default, where that is explicit; none where it is refused.
-fn enum_mask(slot: Slot) -> Mask
-    ensures { mask_text result ≡ mask_or (explicit_mask slot.explicit (value slot.default slot.bits)) }
+// The mask of an enum's setter: its default, where that is explicit, which must then be an Enum.
+fn enum_mask(slot: Slot) -> Result<Option<Mask>, Refusal>
+    ensures { masked result ≡ explicit_mask slot.explicit (value slot.default slot.bits) }
 {
     if slot.explicit == 0 {
-        return Mask::None;
+        return Ok(None);
     }
     if slot.default == kinds::ENUM {
-        return Mask::Plain(slot.bits);
+        return Ok(Some(Mask::Plain(slot.bits)));
     }
-    Mask::None
-}
-
-// The refusal of that mask: an explicit default that is no Enum.
-fn enum_refusal(slot: Slot) -> Refusal
-    ensures { refusal_number result ≡ refusal_of (explicit_mask slot.explicit (value slot.default slot.bits)) }
-{
-    if slot.explicit == 0 {
-        return Refusal::None;
-    }
-    if slot.default == kinds::ENUM {
-        return Refusal::None;
-    }
-    Refusal::Number(refusals::ENUM_DEFAULT)
+    Err(Refusal::EnumDefault)
 }
 
 // An enum's setter.
 fn enum_setter(
-    s: &[u8],
-    index: &[u64],
-    name: Snake,
-    slot: Slot,
-    tag: u64,
+    source: &Source<'_>,
+    target: &Target,
     t: Text,
     buf: &mut [u8],
-) -> Written
-    ensures text { (root : Str) → ForAll root s.now index.now (λ sheet.
-        (f : SlotField) → SlotHere s.now slot f → slot.kind ≡ 15
-        → Writes (setter_text_of sheet tag (name_of name) slot.discriminant f.slot)
-        buf.old t buf.new result) }
-    ensures some { WroteSome buf.old t buf.new result.text }
+) -> Result<Text, Refusal>
+    ensures text { InSource source.now (λ sheet.
+        (f : SlotField) → SlotHere source.now.bytes.now target.now.slot f → target.now.slot.kind ≡ 15
+        → Writes (setter_for sheet target.now f.slot) buf.old t buf.new result) }
+    ensures within { Within buf.old t buf.new result }
 {
-    let t = setter_code::set_open(name, t, buf);
-    let Written {
-        text: t,
-        refusal: module,
-    } = type_parts::qualified_module(s, index, slot.id, t, buf);
+    let t = target.set_open(t, buf);
+    let t = type_parts::qualified_module(source, target.slot.id, t, buf)?;
+    let mask = enum_mask(target.slot)?;
     let t = t.bytes(buf, b")  {\n");
-    let t = setter_code::tag_line(tag, slot.discriminant, t, buf);
+    let t = target.tag_line(t, buf);
     let t = t.bytes(buf, b"    ");
-    let mask = enum_mask(slot);
-    let t = calls::set_data_field(b"u16", slot.offset, b"value as u16", mask, t, buf);
-    let text = t.bytes(buf, b"\n}\n");
-    Written {
-        text,
-        refusal: codegen_types::first(module, enum_refusal(slot)),
-    }
+    let t = calls::set_data_field(b"u16", target.slot.offset, b"value as u16", mask, t, buf);
+    Ok(t.bytes(buf, b"\n}\n"))
 }
 
 // A struct's setter and initializer.
 fn struct_setter(
-    root: &[u8],
-    s: &[u8],
-    index: &[u64],
-    name: Snake,
-    slot: Slot,
-    tag: u64,
+    source: &Source<'_>,
+    target: &Target,
     t: Text,
     buf: &mut [u8],
-) -> Written
-    ensures text { ForAll root.now s.now index.now (λ sheet.
-        (f : SlotField) → SlotHere s.now slot f → slot.kind ≡ 16
-        → Writes (setter_text_of sheet tag (name_of name) slot.discriminant f.slot)
-        buf.old t buf.new result) }
-    ensures some { WroteSome buf.old t buf.new result.text }
+) -> Result<Text, Refusal>
+    ensures text { InSource source.now (λ sheet.
+        (f : SlotField) → SlotHere source.now.bytes.now target.now.slot f → target.now.slot.kind ≡ 16
+        → Writes (setter_for sheet target.now f.slot) buf.old t buf.new result) }
+    ensures within { Within buf.old t buf.new result }
 {
-    let t = setter_code::set_open(name, t, buf);
-    let Written {
-        text: t,
-        refusal: reader,
-    } = reader_type(root, s, index, slot.typ, t, buf);
-    let t = set_end(root, slot, tag, t, buf);
-    let t = setter_code::init_open(name, false, t, buf);
-    let Written {
-        text: t,
-        refusal: builder,
-    } = init_type(root, s, index, slot.typ, t, buf);
-    let text = init_end(root, slot, tag, b"0", t, buf);
-    Written {
-        text,
-        refusal: codegen_types::first(reader, builder),
-    }
+    let at = target.slot.typ;
+    let t = target.set_open(t, buf);
+    let set = type_string::type_string(source, at, Leaf::Reader(Lifetime::Anonymous), t, buf)?;
+    let t = set_end(source.root, target, set, buf);
+    let t = target.init_open(false, t, buf);
+    let init = type_string::type_string(source, at, Leaf::Builder(Lifetime::A), t, buf)?;
+    Ok(init_end(source.root, target, b"0", init, buf))
 }
 
 // An interface's setter.
 fn interface_setter(
-    root: &[u8],
-    s: &[u8],
-    index: &[u64],
-    name: Snake,
-    slot: Slot,
-    tag: u64,
+    source: &Source<'_>,
+    target: &Target,
     t: Text,
     buf: &mut [u8],
-) -> Written
-    ensures text { ForAll root.now s.now index.now (λ sheet.
-        (f : SlotField) → SlotHere s.now slot f → slot.kind ≡ 17
-        → Writes (setter_text_of sheet tag (name_of name) slot.discriminant f.slot)
-        buf.old t buf.new result) }
-    ensures some { WroteSome buf.old t buf.new result.text }
+) -> Result<Text, Refusal>
+    ensures text { InSource source.now (λ sheet.
+        (f : SlotField) → SlotHere source.now.bytes.now target.now.slot f → target.now.slot.kind ≡ 17
+        → Writes (setter_for sheet target.now f.slot) buf.old t buf.new result) }
+    ensures within { Within buf.old t buf.new result }
 {
-    let t = setter_code::set_open(name, t, buf);
-    let Written { text: t, refusal } = type_string::type_string(
-        root,
-        s,
-        index,
-        slot.typ,
-        Leaf::Client,
-        t,
-        buf,
-    );
+    let t = target.set_open(t, buf);
+    let t = type_string::type_string(source, target.slot.typ, Leaf::Client, t, buf)?;
     let t = t.bytes(buf, b")  {\n");
-    let t = setter_code::tag_line(tag, slot.discriminant, t, buf);
+    let t = target.tag_line(t, buf);
     let t = t.bytes(buf, b"    self.builder.reborrow().get_pointer_field(");
-    let t = t.number(buf, slot.offset);
-    let text = t.bytes(buf, b").set_capability(value.client.hook);\n}\n");
-    Written { text, refusal }
+    let t = t.number(buf, target.slot.offset);
+    Ok(t.bytes(buf, b").set_capability(value.client.hook);\n}\n"))
 }
 
 // A parameter's setter and initializers. The last of its three types is the first again.
 fn parameter_setter(
-    root: &[u8],
-    s: &[u8],
-    index: &[u64],
-    name: Snake,
-    slot: Slot,
-    tag: u64,
+    source: &Source<'_>,
+    target: &Target,
     t: Text,
     buf: &mut [u8],
-) -> Written
-    ensures text { ForAll root.now s.now index.now (λ sheet.
-        (f : SlotField) → SlotHere s.now slot f → slot.kind ≡ 18 → (slot.id ≡ 0 → ⊥)
-        → Writes (setter_text_of sheet tag (name_of name) slot.discriminant f.slot)
-        buf.old t buf.new result) }
-    ensures some { WroteSome buf.old t buf.new result.text }
+) -> Result<Text, Refusal>
+    ensures text { InSource source.now (λ sheet.
+        (f : SlotField) → SlotHere source.now.bytes.now target.now.slot f → target.now.slot.kind ≡ 18
+        → (target.now.slot.id ≡ 0 → ⊥)
+        → Writes (setter_for sheet target.now f.slot) buf.old t buf.new result) }
+    ensures within { Within buf.old t buf.new result }
 {
-    let t = setter_code::initn_open(name, t, buf);
-    let Written {
-        text: t,
-        refusal: builder,
-    } = init_type(root, s, index, slot.typ, t, buf);
-    let t = new_end(root, slot, tag, b".initn_as(length)", t, buf);
-    let t = setter_code::set_open(name, t, buf);
-    let Written {
-        text: t,
-        refusal: owned,
-    } = setter_input(root, s, index, slot.typ, t, buf);
-    let t = set_end(root, slot, tag, t, buf);
-    let t = setter_code::init_open(name, false, t, buf);
-    let again = init_type(root, s, index, slot.typ, t, buf);
-    let text = new_end(root, slot, tag, b".init_as()", again.text, buf);
-    Written {
-        text,
-        refusal: codegen_types::first(builder, owned),
-    }
+    let root = source.root;
+    let at = target.slot.typ;
+    let builder = Leaf::Builder(Lifetime::A);
+    let t = target.initn_open(t, buf);
+    let initn = type_string::type_string(source, at, builder, t, buf)?;
+    let t = new_end(root, target, b".initn_as(length)", initn, buf);
+    let t = target.set_open(t, buf);
+    let set = setter_input(source, at, t, buf)?;
+    let t = set_end(root, target, set, buf);
+    let t = target.init_open(false, t, buf);
+    let init = type_string::type_string(source, at, builder, t, buf)?;
+    Ok(new_end(root, target, b".init_as()", init, buf))
 }
 
 // The setter of a slot, by its kind.
-fn setter_of(
-    root: &[u8],
-    s: &[u8],
-    index: &[u64],
-    name: Snake,
-    slot: Slot,
-    tag: u64,
-    t: Text,
-    buf: &mut [u8],
-) -> Written
-    ensures text { ForAll root.now s.now index.now (λ sheet.
-        (f : SlotField) → SlotHere s.now slot f
-        → Writes (setter_text_of sheet tag (name_of name) slot.discriminant f.slot)
-        buf.old t buf.new result) }
-    ensures some { WroteSome buf.old t buf.new result.text }
+fn setter_of(source: &Source<'_>, target: &Target, t: Text, buf: &mut [u8]) -> Result<Text, Refusal>
+    ensures text { InSource source.now (λ sheet.
+        (f : SlotField) → SlotHere source.now.bytes.now target.now.slot f
+        → Writes (setter_for sheet target.now f.slot) buf.old t buf.new result) }
+    ensures within { Within buf.old t buf.new result }
 {
-    let kind = slot.kind;
-    match kind {
-        kinds::VOID..=kinds::DATA => plain_setter(root, name, slot, tag, t, buf),
-        kinds::LIST => list_setter(root, s, index, name, slot, tag, t, buf),
-        kinds::ENUM => enum_setter(s, index, name, slot, tag, t, buf),
-        kinds::STRUCT => struct_setter(root, s, index, name, slot, tag, t, buf),
-        kinds::INTERFACE => interface_setter(root, s, index, name, slot, tag, t, buf),
+    match target.slot.kind {
+        kinds::VOID..=kinds::DATA => plain_setter(source.root, target, t, buf),
+        kinds::LIST => list_setter(source, target, t, buf),
+        kinds::ENUM => enum_setter(source, target, t, buf),
+        kinds::STRUCT => struct_setter(source, target, t, buf),
+        kinds::INTERFACE => interface_setter(source, target, t, buf),
         _ => {
-            if slot.id == 0 {
-                return codegen_types::whole(setter_code::any_pointer(
-                    root, name, slot, tag, t, buf,
-                ));
+            if target.slot.id == 0 {
+                return Ok(target.any_pointer(source.root, t, buf));
             }
-            parameter_setter(root, s, index, name, slot, tag, t, buf)
+            parameter_setter(source, target, t, buf)
         },
     }
 }
 
 // The text of a slot's setter, by the offset of its node's tag.
 pub fn setter(
-    root: &[u8],
-    s: &[u8],
-    index: &[u64],
+    source: &Source<'_>,
     slot: Slot,
     tag: u64,
     t: Text,
     buf: &mut [u8],
-) -> Written
-    ensures text { ForAll root.now s.now index.now (λ sheet.
-        (f : SlotField) → SlotHere s.now slot f
+) -> Result<Text, Refusal>
+    ensures text { InSource source.now (λ sheet.
+        (f : SlotField) → SlotHere source.now.bytes.now slot f
         → Writes (setter_request sheet tag f.name f.discriminant f.slot) buf.old t buf.new result) }
-    ensures some { WroteSome buf.old t buf.new result.text }
+    ensures within { Within buf.old t buf.new result }
 {
-    let name = names::camel_to_snake_case(slot.name(s));
-    setter_of(root, s, index, name, slot, tag, t, buf)
+    let name = names::camel_to_snake_case(slot.name(source.bytes));
+    let target = Target { name, slot, tag };
+    setter_of(source, &target, t, buf)
 }

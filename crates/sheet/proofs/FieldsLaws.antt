@@ -3,35 +3,36 @@
 use mathlib.Core.Path.{◌≡◌, refl, sym, ap, ◌∙◌}
 use mathlib.Core.Bool.{Bool, true, false}
 use mathlib.Core.List.{List, [], ◌∷◌, ◌++◌, append-nil, append_assoc}
-use Rattle.std.specs.Prelude.{Option, None, Some}
+use Rattle.std.specs.Prelude.{Option, None, Some, Result, Ok, Err}
 use Prim.Native.Nat.{ℕ, ◌+◌, ◌-◌, ◌≤◌, ◌<◌}
 use native.Mathlib.Omega.{arith}
 use native.Mathlib.Numerals.{add-one}
 use lib.Dec.{eqb}
 use lib.ListN.{length, take, drop, set}
 use lib.Seq.{drop-drop, take-add, take-suc-set}
-use types.Run.{OneOf, miss}
 use denote.Enum.Declared.{tag_of}
 use Rattle.text.specs.Bytes.{Str, unit, cond, either}
 use Rattle.row.specs.contracts.Line.{the_type}
 use Rattle.row.specs.Rows.{rows, rest_of, size}
 use Rattle.row.specs.Line.{Fault, fault, misplaced, Parameter, line_said, line_at, text_at, fault_of}
+use Rattle.row.specs.declared.BadLine.{BadLine}
 use Rattle.row.specs.declared.Line.{Line}
 use Rattle.row.proofs.ReadLaws.{Good}
 use Rattle.tree.specs.Tree.{Slot, Field, slot, group}
 use Rattle.tree.specs.Reader.{Rows, Reading, got, no, Reader, ◌then◌, told, on_group}
 use Rattle.tree.specs.Read.{among, overlap, read_slot, field, read_field, is_some, is_field, group_id, group_ids, read_fields}
 use Rattle.tree.specs.Read.{read_params}
-use Rattle.tree.specs.Walked.{passed, walked_with, refused_by}
-use Rattle.tree.specs.declared.Walk.{Walk}
-use Rattle.tree.specs.declared.Walk.TheVariants.{Next}
-use Rattle.tree.proofs.OtherLines.{never, not_a_field, not-parameter}
-use Rattle.tree.proofs.WalkLaws.{passed-map}
+use Rattle.terms.specs.Refusals.{number}
+use Rattle.tree.specs.Walked.{passed, refused_row, end_at}
+use Rattle.tree.specs.declared.RefusedRow.{RefusedRow}
+use Rattle.tree.proofs.OtherLines.{never, not_a_field, not_a_field-tag}
+use Rattle.tree.proofs.ElseLaws.{OtherThan, else-parameter}
+use Rattle.tree.proofs.WalkLaws.{passed-map, end-here, end-next, end-refused}
 use Rattle.tree.proofs.TailLaws.{Tail, tail_rest, tail_length, tail_size, leaves-passed, leaves-slot}
 use Rattle.tree.proofs.FieldLaws.{fields-here}
 use Rattle.tree.proofs.AmongLaws.{among_append}
 use Rattle.sheet.proofs.RoomLaws.{group-room}
-use Rattle.sheet.specs.Steps.{left_after, groups_after}
+use Rattle.sheet.specs.Steps.{groups_after}
 use Rattle.row.specs.declared.Line.TheVariants as line
 
 -- the search among the first ids: those from i up to a place j, where b says whether it is found, and those from there on
@@ -74,45 +75,41 @@ groups-no seen rs ts k i e =
 
 -- a line that is neither F nor G is read as no field: a bad one with such a letter is refused by its fault, any other by 2
 not-read :
-    (rs : Rows) (l : Line) → line_said l ≡ line_at rs → OneOf (0 ∷ 1 ∷ 2 ∷ 5 ∷ 6 ∷ 7 ∷ 8 ∷ 9 ∷ 10 ∷ []) (tag_of the_type l)
+    (rs : Rows) (l : Result Line BadLine) → line_said l ≡ line_at rs → OtherThan 3 l → OtherThan 4 l
     → read_field rs ≡ told (fault_of 70 (line_said l)) (told (fault_of 71 (line_said l)) (no misplaced)) rs
 unfolding line_said read_field
-not-read rs line.Root here o = rw (← here, ← here, ← here, ← here)
-not-read rs (line.Node a b c d e f g) here o = rw (← here, ← here, ← here, ← here)
-not-read rs line.Parameter here o = rw (← here, ← here, ← here, ← here)
-not-read rs (line.Field a b c d) here o = absurd (miss (0 ∷ 1 ∷ 2 ∷ 5 ∷ 6 ∷ 7 ∷ 8 ∷ 9 ∷ 10 ∷ []) 3 tt o)
-not-read rs (line.Group a b) here o = absurd (miss (0 ∷ 1 ∷ 2 ∷ 5 ∷ 6 ∷ 7 ∷ 8 ∷ 9 ∷ 10 ∷ []) 4 tt o)
-not-read rs (line.Typ a b c d) here o = rw (← here, ← here, ← here, ← here)
-not-read rs (line.Scope a b c) here o = rw (← here, ← here, ← here, ← here)
-not-read rs line.Unbound here o = rw (← here, ← here, ← here, ← here)
-not-read rs (line.Value a b) here o = rw (← here, ← here, ← here, ← here)
-not-read rs (line.Word a) here o = rw (← here, ← here, ← here, ← here)
-not-read rs (line.Bad x k c) here o = rw (← here, ← here) (go (eqb x 70))
+not-read rs (Ok line.Root) here u v = rw (← here, ← here, ← here, ← here)
+not-read rs (Ok (line.Node a b c d e f g)) here u v = rw (← here, ← here, ← here, ← here)
+not-read rs (Ok line.Parameter) here u v = rw (← here, ← here, ← here, ← here)
+not-read rs (Ok (line.Field a b c d)) here u v = absurd (u refl)
+not-read rs (Ok (line.Group a b)) here u v = absurd (v refl)
+not-read rs (Ok (line.Typ a b c d)) here u v = rw (← here, ← here, ← here, ← here)
+not-read rs (Ok (line.Scope a b c)) here u v = rw (← here, ← here, ← here, ← here)
+not-read rs (Ok line.Unbound) here u v = rw (← here, ← here, ← here, ← here)
+not-read rs (Ok (line.Value a b)) here u v = rw (← here, ← here, ← here, ← here)
+not-read rs (Ok (line.Word a)) here u v = rw (← here, ← here, ← here, ← here)
+not-read rs (Err b) here u v = rw (← here, ← here) (go (eqb b.letter 70))
   where
     as-group : Reader Field
     as-group = on_group (λ i d name. got (field name d (group i))) (no misplaced)
 
-    go : (b : Bool)
-        → told (cond b (Some (fault k c)) None) as-group rs
-        ≡ told (cond b (Some (fault k c)) None) (told (cond (eqb x 71) (Some (fault k c)) None) (no misplaced)) rs
+    k : Fault
+    k = fault (number b.refusal) b.column
+
+    go : (t : Bool)
+        → told (cond t (Some k) None) as-group rs
+        ≡ told (cond t (Some k) None) (told (cond (eqb b.letter 71) (Some k) None) (no misplaced)) rs
     go true = refl
     go false = rw (← here, ← here)
 
--- a walk that ends at a position, or at one of two faults there
-pub walked-ends :
-    {A : Type 0} (s : Str) (at : ℕ) (a b : Option Fault) (w : Walk) → w ≡ refused_by a at (refused_by b at (Next at)) → (x : A)
-    → walked_with s w x ≡ told a (told b (got x)) (rows (drop at s))
-walked-ends s at (Some k) b w e x = rw e
-walked-ends s at None (Some k) w e x = rw e
-walked-ends s at None None w e x = rw e
-
--- no more is left than what stands there
-pub ends-left :
-    (s : Str) (at : ℕ) (a b : Option Fault) (w : Walk) → w ≡ refused_by a at (refused_by b at (Next at))
-    → left_after s w ≤ size (rows (drop at s))
-ends-left s at (Some k) b w e = rw e (omega arith)
-ends-left s at None (Some k) w e = rw e (omega arith)
-ends-left s at None None w e = rw e (omega arith)
+-- and it begins no field, but for a bad one with such a letter
+no-field :
+    (l : Result Line BadLine) → OtherThan 3 l → OtherThan 4 l
+    → is_field (line_said l) ≡ either (is_some (fault_of 70 (line_said l))) (is_some (fault_of 71 (line_said l)))
+unfolding line_said
+no-field (Ok l) u v =
+    not_a_field l (not_a_field-tag l (λ a b c d e. u (ap (tag_of the_type) e)) (λ a b e. v (ap (tag_of the_type) e)))
+no-field (Err b) u v = refl
 
 -- where there is a line of a letter, there is a row
 shorter : (rs : Rows) → Good (line_at rs) → length (rest_of rs) < length rs
@@ -121,12 +118,12 @@ shorter [] h = absurd h
 shorter (r ∷ rs) h = omega arith
 
 -- what the code says of the first row, and the rows after it
-module _ (rs rest : Rows) (l : Line) (here : line_said l ≡ line_at rs) (after : rest ≡ rest_of rs) where
-  pub params_less : l ≡ line.Parameter → length rest < length rs
+module _ (rs rest : Rows) (l : Result Line BadLine) (here : line_said l ≡ line_at rs) (after : rest ≡ rest_of rs) where
+  pub params_less : l ≡ Ok line.Parameter → length rest < length rs
   unfolding line_said
   params_less i = rw after (shorter rs (rw (← here, i) tt))
 
-  pub params-on : l ≡ line.Parameter → passed (read_params rs) ≡ passed (read_params rest)
+  pub params-on : l ≡ Ok line.Parameter → passed (read_params rs) ≡ passed (read_params rest)
   unfolding line_said read_params line_at rest_of
   params-on i = rw after (go rs (sym here ∙ ap line_said i))
     where
@@ -135,21 +132,21 @@ module _ (rs rest : Rows) (l : Line) (here : line_said l ≡ line_at rs) (after 
       go (r ∷ rs) e = rw e (passed-map _ (read_params rs))
 
   pub params-stop :
-      OneOf (0 ∷ 1 ∷ 3 ∷ 4 ∷ 5 ∷ 6 ∷ 7 ∷ 8 ∷ 9 ∷ 10 ∷ []) (tag_of the_type l)
-      → read_params rs ≡ told (fault_of 80 (line_said l)) (got []) rs
+      OtherThan 2 l → read_params rs ≡ told (fault_of 80 (line_said l)) (got []) rs
   unfolding read_params line_at
   params-stop o = go rs here
     where
       go : (rs : Rows) → line_said l ≡ line_at rs → read_params rs ≡ told (fault_of 80 (line_said l)) (got []) rs
       go [] e = rw e
-      go (r ∷ rs) e = rw (← e, not-parameter {A = Reader _} l _ _ o, ← e)
+      go (r ∷ rs) e = rw (← e, else-parameter {A = Reader _} l _ _ o, ← e)
 
   pub groups-stop :
-      (seen : List ℕ) → OneOf (0 ∷ 1 ∷ 2 ∷ 5 ∷ 6 ∷ 7 ∷ 8 ∷ 9 ∷ 10 ∷ []) (tag_of the_type l)
+      (seen : List ℕ) → OtherThan 3 l → OtherThan 4 l
       → told (fault_of 70 (line_said l)) (told (fault_of 71 (line_said l)) (got seen)) rs ≡ groups_after seen rs
   unfolding group_ids
-  groups-stop seen o =
-      go (fault_of 70 (line_said l)) (fault_of 71 (line_said l)) (ap is_field (sym here) ∙ not_a_field l o) (not-read rs l here o)
+  groups-stop seen u v =
+      go (fault_of 70 (line_said l)) (fault_of 71 (line_said l)) (ap is_field (sym here) ∙ no-field l u v)
+      (not-read rs l here u v)
     where
       go : (a b : Option Fault) → is_field (line_at rs) ≡ either (is_some a) (is_some b)
           → read_field rs ≡ told a (told b (no misplaced)) rs → told a (told b (got seen)) rs ≡ groups_after seen rs
@@ -159,7 +156,7 @@ module _ (rs rest : Rows) (l : Line) (here : line_said l ≡ line_at rs) (after 
           sym (ap (λ (g : Reading (List Field)). g then λ fs. got (seen ++ group_ids fs)) (fields-here seen rs)
           ∙ rw (i, append-nil seen))
 
-  module _ (o d e p : ℕ) (is : l ≡ line.Field o d e p) where
+  module _ (o d e p : ℕ) (is : l ≡ Ok (line.Field o d e p)) where
     field-here : read_field rs ≡ (read_slot o e p rest then λ sl. got (field (text_at rs) d (slot sl)))
     unfolding line_said read_field
     field-here = rw (← here, is, ← after)
@@ -177,16 +174,15 @@ module _ (rs rest : Rows) (l : Line) (here : line_said l ≡ line_at rs) (after 
         go (no k ts) i h = never cc
 
     pub groups-slot-no :
-        (seen : List ℕ) (k : Fault) (q : Rows) → no k q ≡ passed (read_slot o e p rest) → no k q ≡ groups_after seen rs
+        (seen : List ℕ) (s : Str) (r : RefusedRow) → refused_row s r ≡ passed (read_slot o e p rest)
+        → refused_row s r ≡ passed (groups_after seen rs)
     unfolding line_said
-    groups-slot-no seen k q h = go (read_slot o e p rest) refl h
+    groups-slot-no seen s r h = go (read_slot o e p rest) refl h
       where
-        go : (g : Reading Slot) → read_slot o e p rest ≡ g → no k q ≡ passed g → no k q ≡ groups_after seen rs
+        go : (g : Reading Slot) → read_slot o e p rest ≡ g → refused_row s r ≡ passed g
+            → refused_row s r ≡ passed (groups_after seen rs)
         go (got sl ts) i h = never cc
-        go (no j ts) i h =
-            let a : k ≡ j = cc in
-            let b : q ≡ ts = cc in
-            rw (a, b) (sym (groups-no seen rs ts j (rw (← here, is)) (field-here ∙ rw i)))
+        go (no k ts) i h = h ∙ ap passed (sym (groups-no seen rs ts k (rw (← here, is)) (field-here ∙ rw i)))
 
     pub slot-tail : (q : Rows) → got tt q ≡ passed (read_slot o e p rest) → Tail q rest
     slot-tail q h = leaves-passed (leaves-slot o e p rest) q h
@@ -201,16 +197,17 @@ module _ (rs rest : Rows) (l : Line) (here : line_said l ≡ line_at rs) (after 
     slot-room q h = let z : size rest ≤ size rs = rw after (tail_size (tail_rest rs)) in omega
         (arith, tail_size (slot-tail q h))
 
-  module _ (i d : ℕ) (is : l ≡ line.Group i d) where
+  module _ (i d : ℕ) (is : l ≡ Ok (line.Group i d)) where
     group-here : read_field rs ≡ got (field (text_at rs) d (group i)) rest
     unfolding line_said read_field
     group-here = rw (← here, is, ← here, is, ← here, is, ← after)
 
-    pub groups-double : (seen : List ℕ) (b : Bool) → b ≡ among i seen → b ≡ true → no (fault 3 2) rs ≡ groups_after seen rs
+    pub groups-double : (seen : List ℕ) (b : Bool) → b ≡ among i seen → b ≡ true → no (fault 3 2) rs
+        ≡ passed (groups_after seen rs)
     unfolding line_said overlap
     groups-double seen b e t =
         let z : is_field (line_at rs) ≡ true = rw (← here, is) in
-        sym (ap (λ (g : Reading (List Field)). g then λ fs. got (seen ++ group_ids fs)) (fields-here seen rs)
+        sym (ap (λ (g : Reading (List Field)). passed (g then λ fs. got (seen ++ group_ids fs))) (fields-here seen rs)
         ∙ rw (z, group-here, ← e, t))
 
     pub groups-group :
@@ -226,3 +223,26 @@ module _ (rs rest : Rows) (l : Line) (here : line_said l ≡ line_at rs) (after 
     pub group-fits : 44 + size rest ≤ size rs
     unfolding line_said
     group-fits = rw after (group-room rs i d (sym here ∙ ap line_said is))
+
+-- a row at a position that is neither F nor G: it is refused by its fault as one of them, or no field stands there
+module _ (s : Str) (at : ℕ) (l : Result Line BadLine) (here : line_said l ≡ line_at (rows (drop at s))) (seen : List ℕ)
+    (u : OtherThan 3 l) (v : OtherThan 4 l) where
+  abbrev after_field : Reader (List ℕ)
+  after_field = told (fault_of 71 (line_said l)) (got seen)
+
+  pub field-refused : (r : RefusedRow) → end_at 70 l at ≡ Err r → refused_row s r ≡ passed (groups_after seen (rows (drop at s)))
+  field-refused r e =
+      ap passed (sym (end-refused after_field s 70 at l r e) ∙ groups-stop _ _ l here refl seen u v)
+
+  module _ (q : ℕ) (e : end_at 70 l at ≡ Ok q) where
+    group-next : after_field (rows (drop q s)) ≡ groups_after seen (rows (drop at s))
+    group-next = sym (end-next after_field s 70 at l q e) ∙ groups-stop _ _ l here refl seen u v
+
+    pub group-refused :
+        (r : RefusedRow) → end_at 71 l q ≡ Err r → refused_row s r ≡ passed (groups_after seen (rows (drop at s)))
+    group-refused r f = ap passed (sym (end-refused (got seen) s 71 q l r f) ∙ group-next)
+
+    pub fields-end : (p : ℕ) → end_at 71 l q ≡ Ok p → groups_after seen (rows (drop at s)) ≡ got seen (rows (drop at s))
+    fields-end p f =
+        let same : at ≡ p = end-here 70 at l q e ∙ end-here 71 q l p f in
+        sym group-next ∙ end-next (got seen) s 71 q l p f ∙ ap (λ (m : ℕ). got seen (rows (drop m s))) (sym same)

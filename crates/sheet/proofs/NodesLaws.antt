@@ -6,17 +6,18 @@ use Prim.Native.Nat.{ℕ, zero, suc, ◌+◌, ◌-◌, ◌*◌, ◌≤◌, ◌<�
 use native.Mathlib.Omega.{arith}
 use native.Mathlib.Numerals.{sub-one}
 use lib.ListN.{length, drop, take, set, length-set, length-append}
+use Rattle.std.specs.Prelude.{Ok, Err}
 use Rattle.text.specs.Bytes.{Str, unit}
 use Rattle.row.specs.Rows.{rows, size}
-use Rattle.row.specs.Line.{fault}
 use Rattle.row.proofs.Laws.{rows_out, rows_shrink}
 use Rattle.tree.specs.Tree.{Node}
 use Rattle.tree.specs.Reader.{Rows, Reading, got, no, ◌then◌, map_r, at_end}
 use Rattle.tree.specs.Read.{group_ids, read_node, read_nodes}
-use Rattle.tree.specs.declared.Walk.TheVariants.{Next, Refused}
+use Rattle.tree.specs.Walked.{passed, refused_row, misplaced_at}
+use Rattle.tree.specs.declared.RefusedRow.{RefusedRow}
 use Rattle.tree.proofs.OtherLines.{never}
 use Rattle.nodes.specs.Index.{first_mark, index_size}
-use Rattle.sheet.specs.Steps.{Flagged, Room, MarkRoom, NodeRoom, Ready, seen_after, NodeRead, NodesRead}
+use Rattle.sheet.specs.Steps.{Holding, MarkRoom, NodeRoom, refusal_of, RefusedAs, seen_after, NodeRead, NodesRead}
 use Rattle.sheet.specs.declared.Held.{Held}
 use Rattle.sheet.specs.declared.NodeRun.{NodeRun}
 use Rattle.sheet.proofs.FieldsLaws.{pushed}
@@ -69,10 +70,8 @@ after_one done n (no k us) = refl
 -- at the head of the loop: `count` nodes are read, with n group ids and the marks before a place, and the next stands at `at`
 pub record Standing (s : Str) (from : ℕ) (index ids groups flags : List ℕ) (n count marks at : ℕ) : Type 0 where
   pub ids_size : length ids ≡ 64
-  pub flags-size : length flags ≡ 2048
   pub few : count ≤ 64
-  pub room : Room groups n (size (rows (drop at s)))
-  pub flagged : Flagged flags (take n groups)
+  pub holding : Holding groups flags n (rows (drop at s))
   pub first : first_mark (length s) ≤ marks
   pub mark-room : MarkRoom (length s) marks (size (rows (drop at s)))
   pub node-room : NodeRoom (length s) count (size (rows (drop at s)))
@@ -83,15 +82,13 @@ pub record Standing (s : Str) (from : ℕ) (index ids groups flags : List ℕ) (
 
 pub standing_first :
     (s : Str) (from : ℕ) (index ids groups flags : List ℕ) → length ids ≡ 64 → length flags ≡ 2048
-    → Room groups 0 (size (rows (drop from s))) → size (rows (drop from s)) ≤ 65536
+    → size (rows (drop from s)) ≤ 44 * length groups + 43 → size (rows (drop from s)) ≤ 65536
     → (marks : ℕ) → marks ≡ first_mark (length s) → Standing s from index ids groups flags 0 0 marks from
 unfolding Filled
 standing_first s from index ids groups flags a b r m marks e = record {
   ids_size = a;
-  flags-size = b;
   few = omega arith;
-  room = r;
-  flagged = flagged-none flags;
+  holding = record { flags-size = b; room = omega arith; flagged = flagged-none flags };
   first = omega arith;
   mark-room = omega (arith, rest-fits s from (length s) (omega arith));
   node-room = omega (arith, rest-fits s from (length s) (omega arith));
@@ -102,10 +99,9 @@ standing_first s from index ids groups flags a b r m marks e = record {
 }
 
 -- a reading that is refused has no index
-nodes-no :
-    (s : Str) (k c q : ℕ) (y : List ℕ) (g : Reading (List Node)) → g ≡ no (fault k c) (rows (drop q s))
-    → NodesRead s (Refused k c q) y g
-nodes-no s k c q y g e = record { walk = rw e; index = λ big. rw e tt }
+nodes-no : (s : Str) (r : RefusedRow) (y : List ℕ) (g : Reading (List Node)) → RefusedAs s g r → NodesRead s (Err r) y g
+nodes-no s r y (got ns us) e = never cc
+nodes-no s r y (no k us) e = record { refusal = ap (refusal_of s) e; index = λ big. tt }
 
 -- what the next node finds
 module _ (s : Str) (from : ℕ) (index ids groups flags : List ℕ) (n count marks at : ℕ)
@@ -114,51 +110,45 @@ module _ (s : Str) (from : ℕ) (index ids groups flags : List ℕ) (n count mar
   held = record { nodes = count; groups = n; marks = marks }
 
   -- no node more
-  pub standing_full : (y : List ℕ) → 64 ≤ count → NodesRead s (Refused 2 1 at) y (whole s from)
+  pub standing_full : (y : List ℕ) → 64 ≤ count → NodesRead s (Err (misplaced_at at)) y (whole s from)
   unfolding read_nodes
   standing_full y l =
       let z : 64 - count ≡ 0 = omega arith in
-      nodes-no s 2 1 at y (whole s from) (h.same ∙ rw z)
+      nodes-no s (misplaced_at at) y (whole s from) (sym (ap passed h.same ∙ rw z))
 
   module _ (l : count < 64) where
-    pub standing-ready : Ready s at groups flags held
-    standing-ready = record {
-      few = l;
-      flags-size = h.flags-size;
-      room = h.room;
-      flagged = h.flagged;
-      first = h.first;
-      marks = h.mark-room;
-      nodes = h.node-room;
-    }
+    -- a node is refused
+    pub standing-no :
+        (r : RefusedRow) → RefusedAs s (read_node (take count ids) (take n groups) (rows (drop at s))) r → (z : List ℕ)
+        → NodesRead s (Err r) z (whole s from)
+    standing-no r e z =
+        nodes-no s r z (whole s from)
+        (go (read_node (take count ids) (take n groups) (rows (drop at s))) e
+        ∙ sym (ap passed
+        (h.same ∙ rw (nodes-more (64 - count) (take count ids) (take n groups) (rows (drop at s)) (omega arith)))))
+      where
+        go : (g : Reading Node) → refused_row s r ≡ passed g
+            → refused_row s r ≡ passed (after h.done (g then λ m.
+            at_end (got (m ∷ [])) (map_r (m ∷◌)
+            (read_nodes (64 - count - 1) (take count ids ++ unit m.id) (take n groups ++ group_ids m.fields)))))
+        go (got m us) e = never cc
+        go (no k us) e = e
 
-    -- a node is walked over
+    -- a node is read
     module _ (y groups' flags' : List ℕ) (r : NodeRun)
         (read : NodeRead s held (take n groups) index (read_node (take count ids) (take n groups) (rows
         (drop at s))) groups' flags'
         y r)
       where
-        pub standing-no :
-            (k c q : ℕ) → r.walk ≡ Refused k c q → (z : List ℕ) → NodesRead s (Refused k c q) z (whole s from)
-        standing-no k c q e z =
-            nodes-no s k c q z (whole s from)
-            (h.same ∙ rw (nodes-more (64 - count) (take count ids) (take n groups) (rows (drop at s)) (omega arith))
-            (go (read_node (take count ids) (take n groups) (rows (drop at s))) (rw e at read.read)))
-          where
-            go : (g : Reading Node) → no (fault k c) (rows (drop q s)) ≡ (g then λ m. got (seen_after (take n groups) m))
-                → after h.done (g then λ m.
-                at_end (got (m ∷ [])) (map_r (m ∷◌)
-                (read_nodes (64 - count - 1) (take count ids ++ unit m.id) (take n groups ++ group_ids m.fields))))
-                ≡ no (fault k c) (rows (drop q s))
-            go (got m us) e = never cc
-            go (no j us) e = let a : j ≡ fault k c = cc in let b : us ≡ rows (drop q s) = cc in rw (a, b)
-
         -- it is the next node
-        module _ (q : ℕ) (e : r.walk ≡ Next q) (kept : length y ≡ length index) where
+        module _ (kept : length y ≡ length index) where
+          abbrev q : ℕ
+          q = r.next
+
           it : Taken r.id (take n groups) (take r.groups groups')
               (read_node (take count ids) (take n groups) (rows (drop at s))) (rows (drop q s))
           it = taken r.id (take n groups) (take r.groups groups')
-              (read_node (take count ids) (take n groups) (rows (drop at s))) (rows (drop q s)) (rw e at read.read)
+              (read_node (take count ids) (take n groups) (rows (drop at s))) (rows (drop q s)) read.read
 
           abbrev now-done : List Node
           now-done = h.done ++ it.node ∷ []
@@ -186,14 +176,14 @@ module _ (s : Str) (from : ℕ) (index ids groups flags : List ℕ) (n count mar
               (rw h.done-count (rw it.read at (read.entry big)))
 
           -- it is the last
-          pub standing-done : length s ≤ q → NodesRead s (Next q) (set y 0 (count + 1)) (whole s from)
+          pub standing-done : length s ≤ q → NodesRead s (Ok tt) (set y 0 (count + 1)) (whole s from)
           standing-done o =
               let end = rows_out s q o in
               let all : whole s from ≡ got now-done (rows (drop q s)) = turn ∙ last (rows (drop q s)) end in
               record {
-                walk = rw all;
+                refusal = rw all;
                 index = λ big. rw all (filled-all s y r.marks (count + 1) now-done
-                    (omega (arith, length-set y 0 (count + 1), read.nodes q e))
+                    (omega (arith, length-set y 0 (count + 1), read.nodes))
                     now-count (omega arith) (now-filled (omega (arith, length-set y 0 (count + 1)))));
               }
             where
@@ -207,17 +197,14 @@ module _ (s : Str) (from : ℕ) (index ids groups flags : List ℕ) (n count mar
 
           -- others follow
           pub standing-next :
-              q < length s → length flags' ≡ length flags
-              → Standing s from y (set ids count r.id) groups' flags' r.groups (count + 1) r.marks q
-          standing-next o f = record {
+              q < length s → Standing s from y (set ids count r.id) groups' flags' r.groups (count + 1) r.marks q
+          standing-next o = record {
             ids_size = length-set ids count r.id ∙ h.ids_size;
-            flags-size = f ∙ h.flags-size;
             few = omega arith;
-            room = rw e at read.room;
-            flagged = read.flagged;
+            holding = read.holding;
             first = omega (arith, h.first, read.further);
-            mark-room = rw e at read.marks;
-            node-room = read.nodes q e;
+            mark-room = read.marks;
+            node-room = read.nodes;
             done = now-done;
             done-count = now-count;
             same = turn ∙ on (rows (drop q s)) (omega (arith, rows_shrink s q o));

@@ -3,32 +3,31 @@
 use mathlib.Core.Path.{◌≡◌, refl, sym, ap, ◌∙◌}
 use mathlib.Core.Bool.{Bool, true, false}
 use mathlib.Core.List.{List, [], ◌∷◌}
-use Rattle.std.specs.Prelude.{None}
-use Prim.Native.Nat.{ℕ, suc, ◌+◌, ◌-◌, ◌*◌, ◌/◌, ◌%◌, ◌^◌, ◌≤◌, ◌<◌}
+use Rattle.std.specs.Prelude.{Result, Ok, Err}
+use Prim.Native.Nat.{ℕ, suc, ◌+◌, ◌-◌, ◌*◌, ◌/◌, ◌%◌, ◌≤◌, ◌<◌}
 use native.Mathlib.Decide.{ℕ_discrete}
 use native.Mathlib.Omega.{arith}
 use borrow.Author.Tests.{lt-ltb, eq-eqb, ne_eqb, ltb-true, ltb-false, eqb-true}
 use lib.Dec.{eqb, ltb}
 use lib.ListN.{length, drop, get_or, set, length-drop, length-set}
 use lib.Seq.{drop-drop, get_or-set_same, get_or-set_other}
-use types.Run.{OneOf}
-use denote.Enum.Declared.{tag_of}
 use Rattle.text.specs.Bytes.{Str, cond, both}
-use Rattle.row.specs.contracts.Line.{the_type}
 use Rattle.row.specs.Rows.{rows, rest_of, size}
 use Rattle.row.specs.Line.{Parameter, line_said, line_at, text_at, fault_of}
+use Rattle.row.specs.declared.BadLine.{BadLine}
 use Rattle.row.specs.declared.Line.{Line}
-use Rattle.tree.specs.Reader.{Rows}
+use Rattle.tree.specs.Reader.{Rows, got, told}
 use Rattle.tree.specs.Read.{read_params}
-use Rattle.tree.specs.Walked.{passed, walked_with, end_at}
-use Rattle.tree.specs.declared.Walk.{Walk}
-use Rattle.tree.proofs.OtherLines.{never, not-parameter}
-use Rattle.tree.proofs.WalkLaws.{passed-walk, walked_end}
+use Rattle.tree.specs.Walked.{passed, refused_row, end_at}
+use Rattle.tree.specs.declared.RefusedRow.{RefusedRow}
+use Rattle.tree.proofs.OtherLines.{never}
+use Rattle.tree.proofs.ElseLaws.{OtherThan, else-parameter}
+use Rattle.tree.proofs.WalkLaws.{end-here, end-next, end-refused}
 use Rattle.nodes.specs.Index.{mark_every, names_of}
 use Rattle.nodes.proofs.NameLaws.{names_more, names-none}
 use Rattle.sheet.specs.Steps.{MarkRoom, has_mark, with_mark, next_mark, SameBetween, ParamsRead}
 use Rattle.sheet.proofs.RoomLaws.{parameter-room}
-use Rattle.sheet.proofs.FieldsLaws.{params-on, params-stop, ends-left}
+use Rattle.sheet.proofs.FieldsLaws.{params-on, params-stop}
 use Rattle.row.specs.declared.Line.TheVariants as line
 
 -- ---- which rows have a mark
@@ -61,9 +60,9 @@ module _ (x : List ℕ) (place k at : ℕ) where
       go true = (refl, refl)
       go false = (refl, refl)
 
-  pub mark-put : (k ≡ 0 → ⊥) → k % mark_every ≡ 0 → (set x place at ≡ with_mark x place k at) × (place + 1 ≡ next_mark place k)
+  pub mark-put : 0 < k → k % mark_every ≡ 0 → (set x place at ≡ with_mark x place k at) × (place + 1 ≡ next_mark place k)
   unfolding with_mark next_mark
-  mark-put h i = let l : 0 < k = omega arith in rw (lt-ltb 0 k l, eq-eqb (k % mark_every) 0 i) (refl, refl)
+  mark-put h i = rw (lt-ltb 0 k h, eq-eqb (k % mark_every) 0 i) (refl, refl)
 
 -- ---- after some P rows
 
@@ -78,59 +77,48 @@ pub record Passing (s : Str) (rs : Rows) (marks : ℕ) (x y : List ℕ) (at coun
   pub marked : (j : ℕ) → mark_every * suc j < count → marks + j < length y
       → names_of (rows (drop (get_or y (marks + j) 0) s)) ≡ drop (mark_every * suc j) (names_of rs)
 
-pub passing_first : (s : Str) (from marks : ℕ) (x : List ℕ) → Passing s (rows (drop from s)) marks x x from 0 marks
-passing_first s from marks x = record {
-  walk = refl;
-  names = refl;
-  within = omega arith;
-  left = omega arith;
-  next = omega arith;
-  same = record { each = λ q a b. refl };
-  marked = λ j h. let z : ⊥ = omega arith in absurd z;
-}
-
 -- what the code says of the row at a position, and the rows after it
 module _ (s : Str) (rs : Rows) (marks : ℕ) (x y : List ℕ) (at count place : ℕ) (p : Passing s rs marks x y at count place)
-    (l : Line) (here : line_said l ≡ line_at (rows (drop at s))) where
-  -- the row is no P row, and the walk ends at it, or at its fault
-  pub passing_done :
-      OneOf (0 ∷ 1 ∷ 3 ∷ 4 ∷ 5 ∷ 6 ∷ 7 ∷ 8 ∷ 9 ∷ 10 ∷ []) (tag_of the_type l) → (w : Walk) → w ≡ end_at 80 (line_said l) at
-      → MarkRoom (length s) marks (size rs) → ParamsRead s rs marks x y (record { walk = w; count = count; marks = place })
-  passing_done o w e room =
-      let no_names = names-none (rows (drop at s)) (rw (← here) (not-parameter l true false o)) in
-      let all : count ≡ length (names_of rs) = omega
-      (arith, p.within, length-drop count (names_of rs), ap length p.names, ap length no_names) in
-      let ended : walked_with s w [] ≡ read_params (rows (drop at s)) =
-      walked_end s at (fault_of 80 (line_said l)) w e [] ∙ sym (params-stop _ _ l here refl o) in
-      let less = ends-left s at (fault_of 80 (line_said l)) None w e in
-      record {
-        walk = passed-walk s w [] ∙ ap passed ended ∙ sym p.walk;
-        count = all;
-        next = p.next;
-        left = omega (arith, p.left);
-        room = omega (arith, p.left, p.next);
-        same = p.same;
-        marked = λ big. record {
-          each = λ j h.
-              let in-index : marks + j < length y = omega (arith, p.left, p.next) in
-              (in-index, p.marked j (omega arith) in-index);
-        };
-      }
+    (l : Result Line BadLine) (here : line_said l ≡ line_at (rows (drop at s))) where
+  -- the row is no P row, and the walk is refused at its fault, or ends there
+  module _ (o : OtherThan 2 l) where
+    stopped : told (fault_of 80 (line_said l)) (got []) (rows (drop at s)) ≡ read_params (rows (drop at s))
+    stopped = sym (params-stop _ _ l here refl o)
+
+    pub passing-refused : (r : RefusedRow) → end_at 80 l at ≡ Err r → refused_row s r ≡ passed (read_params rs)
+    passing-refused r e = ap passed (sym (end-refused (got []) s 80 at l r e) ∙ stopped) ∙ sym p.walk
+
+    pub passing_done :
+        (q : ℕ) → end_at 80 l at ≡ Ok q → MarkRoom (length s) marks (size rs)
+        → ParamsRead s rs marks x y (record { next = q; count = count; marks = place })
+    passing_done q e room =
+        let no_names = names-none (rows (drop at s)) (rw (← here) (else-parameter l true false o)) in
+        let all : count ≡ length (names_of rs) = omega
+        (arith, p.within, length-drop count (names_of rs), ap length p.names, ap length no_names) in
+        let ended : got [] (rows (drop q s)) ≡ read_params (rows (drop at s)) = sym (end-next (got []) s 80 at l q e) ∙ stopped in
+        let same : at ≡ q = end-here 80 at l q e in
+        record {
+          walk = ap passed ended ∙ sym p.walk;
+          count = all;
+          next = p.next;
+          left = rw (← same) (omega (arith, p.left));
+          room = rw (← same) (omega (arith, p.left, p.next));
+          same = p.same;
+          marked = λ big. record {
+            each = λ j h.
+                let in-index : marks + j < length y = omega (arith, p.left, p.next) in
+                (in-index, p.marked j (omega arith) in-index);
+          };
+        }
 
   -- the row is a P row
-  module _ (is : l ≡ line.Parameter) (e : ℕ) (after : rows (drop e s) ≡ rest_of (rows (drop at s))) where
+  module _ (is : l ≡ Ok line.Parameter) (e : ℕ) (after : rows (drop e s) ≡ rest_of (rows (drop at s))) where
     said : line_at (rows (drop at s)) ≡ Parameter
     unfolding line_said
     said = sym here ∙ ap line_said is
 
     fits : 4 + size (rows (drop e s)) ≤ size (rows (drop at s))
     fits = rw after (parameter-room (rows (drop at s)) said)
-
-    pub passing-room : MarkRoom (length s) marks (size rs) → place < 2 ^ 64 - 1
-    passing-room room = omega (arith, p.left, p.next, fits)
-
-    pub passing-few : MarkRoom (length s) marks (size rs) → count < 65536
-    passing-few room = omega (arith, p.left, fits)
 
     more : names_of (rows (drop at s)) ≡ text_at (rows (drop at s)) ∷ names_of (rows (drop e s))
     more = rw after (names_more (rows (drop at s)) said)

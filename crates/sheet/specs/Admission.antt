@@ -1,16 +1,15 @@
 -- What the answer of admission says of a sheet and its tree, and of the index. Assumes nothing.
-use Rattle.std.specs.Prelude.{List, ℕ}
-use Rattle.std.specs.Prelude.{Option, None, Some}
+use Rattle.std.specs.Prelude.{List, ℕ, ⊤, Option, None, Some, Result, Ok, Err}
 use Rattle.text.specs.Bytes.{Str}
+use Rattle.terms.specs.Refusals.{number}
 use Rattle.tree.specs.Read.{Admitted, sheet, refused}
 use Rattle.nodes.specs.Index.{Indexed}
-use Rattle.sheet.specs.declared.Answer.{Answer}
-use Rattle.sheet.specs.declared.Answer.TheVariants as answer
+use Rattle.sheet.specs.declared.Refused.{Refused}
 
 -- the number, the line and the column of the refusal that an answer of the code gives, if it gives one
-abbrev pub answer_numbers : Answer → Option (ℕ × ℕ × ℕ)
-answer_numbers answer.Sheet = None
-answer_numbers (answer.Refused k l c) = Some (k, l, c)
+abbrev pub answer_numbers : Result ⊤ Refused → Option (ℕ × ℕ × ℕ)
+answer_numbers (Ok u) = None
+answer_numbers (Err r) = Some (number r.refusal, r.line, r.column)
 
 -- the same for what is refused; none for a sheet
 abbrev pub refusal_in : Admitted → Option (ℕ × ℕ × ℕ)

@@ -1,22 +1,21 @@
 -- What the steps of admission promise one another: group ids with their flags and their room, the marks of P rows, a node and its
 -- entry. Only the code needs them: what admission promises stands in Admission. Assumes nothing.
 use Rattle.std.specs.Prelude.{◌≡◌, Bool, true, List, ◌++◌, ℕ, ◌+◌, ◌-◌, ◌*◌, ◌/◌, ◌%◌, ◌≤◌, ◌<◌, eqb, ltb, length, drop, take}
-use Rattle.std.specs.Prelude.{get_or, set}
-use Rattle.std.specs.Prelude.{Option, None, Some}
+use Rattle.std.specs.Prelude.{get_or, set, ⊤, Option, None, Some, Result, Ok, Err}
 use Rattle.text.specs.Bytes.{Str, cond, both}
 use Rattle.row.specs.Rows.{rows, rest_of, size, line_no}
 use Rattle.row.specs.Line.{text_at}
 use Rattle.tree.specs.Tree.{Field, Node}
 use Rattle.tree.specs.Reader.{Rows, Reading, got, no, Reader, ◌then◌, map_r, On}
-use Rattle.tree.specs.Read.{among, read_fields, group_ids, read_params, read_members}
-use Rattle.tree.specs.Walked.{passed, walked, walked_with}
-use Rattle.tree.specs.declared.Walk.{Walk}
-use Rattle.tree.specs.declared.Walk.TheVariants.{Next, Refused}
+use Rattle.tree.specs.Read.{among, read_fields, group_ids, read_params, read_members, admitted}
+use Rattle.terms.specs.Refusals.{number}
+use Rattle.tree.specs.Walked.{passed, refused_row}
+use Rattle.tree.specs.declared.RefusedRow.{RefusedRow}
 use Rattle.nodes.specs.Index.{entry_at, names_of, mark_every, mark_bytes, first_mark, index_size, Marked, EntryIs, Indexed}
 use Rattle.nodes.specs.declared.Entry.{Entry}
-use Rattle.sheet.specs.declared.Turn.{Turn}
-use Rattle.sheet.specs.declared.Turn.TheVariants as turn
+use Rattle.sheet.specs.Admission.{refusal_in, IndexOf}
 use Rattle.sheet.specs.declared.ParamsRun.{ParamsRun}
+use Rattle.sheet.specs.declared.FieldsRun.{FieldsRun}
 use Rattle.sheet.specs.declared.Held.{Held}
 use Rattle.sheet.specs.declared.NodeRun.{NodeRun}
 
@@ -24,6 +23,15 @@ use Rattle.sheet.specs.declared.NodeRun.{NodeRun}
 abbrev pub refusal_of : {A : Type 0} → Str → Reading A → Option (ℕ × ℕ × ℕ)
 refusal_of s (got a rs) = None
 refusal_of s (no k rs) = Some (k.number, line_no s rs, k.column)
+
+-- those of the row that the code refuses, if it refuses one
+abbrev pub row_refusal : Str → Result ⊤ RefusedRow → Option (ℕ × ℕ × ℕ)
+row_refusal s (Ok u) = None
+row_refusal s (Err r) = Some (number r.refusal, line_no s (rows (drop r.at s)), r.column)
+
+-- a reading is refused at the row that the code refuses
+abbrev pub RefusedAs : {A : Type 0} → Str → Reading A → RefusedRow → Type 0
+RefusedAs s g r = refused_row s r ≡ passed g
 
 -- ---- group ids
 
@@ -39,23 +47,26 @@ pub record Flagged (flags ids : List ℕ) : Type 0 where
 abbrev pub Room : List ℕ → ℕ → ℕ → Type 0
 Room groups count left = 44 * count + left ≤ 44 * length groups + 43
 
--- how many bytes are left after a walk
-abbrev pub left_after : Str → Walk → ℕ
-left_after s (Next at) = size (rows (drop at s))
-left_after s (Refused k c at) = 0
+-- the first `count` of some group ids are held where rows rs stand, each with its flag, and there is room for those to come
+pub record Holding (groups flags : List ℕ) (count : ℕ) (rs : Rows) : Type 0 where
+  pub flags-size : length flags ≡ 2048
+  pub room : Room groups count (size rs)
+  pub flagged : Flagged flags (take count groups)
 
--- one turn of the reading of fields, from rows rs on with these group ids seen: after a field it goes on with the ids held then,
--- over fewer rows; at its end it is told
-abbrev pub Turned : Str → Rows → List ℕ → ℕ → List ℕ → List ℕ → Turn → Type 0
-Turned s rs seen count groups flags (turn.Field at n) =
-    (groups_after seen rs ≡ groups_after (take n groups) (rows (drop at s)))
-    × Room groups n (size (rows (drop at s)))
-    × Flagged flags (take n groups)
-    × (length (rows (drop at s)) < length rs)
-Turned s rs seen count groups flags (turn.End w) =
-    (walked_with s w (take count groups) ≡ groups_after seen rs)
-    × Room groups count (left_after s w)
-    × Flagged flags (take count groups)
+-- what a field at rows rs makes of the reading of fields, with these group ids seen: it goes on with the ids held then, over
+-- fewer rows; where there is none, no more is read
+abbrev pub Turned : Str → Rows → List ℕ → ℕ → List ℕ → List ℕ → Option FieldsRun → Type 0
+Turned s rs seen count groups flags (Some f) =
+    (groups_after seen rs ≡ groups_after (take f.groups groups) (rows (drop f.next s)))
+    × Holding groups flags f.groups (rows (drop f.next s))
+    × (length (rows (drop f.next s)) < length rs)
+Turned s rs seen count groups flags None =
+    (groups_after seen rs ≡ got (take count groups) rs) × Holding groups flags count rs
+
+-- what is said of the fields at rows rs, with these group ids seen
+pub record FieldsRead (s : Str) (rs : Rows) (seen groups flags : List ℕ) (f : FieldsRun) : Type 0 where
+  pub read : got (take f.groups groups) (rows (drop f.next s)) ≡ groups_after seen rs
+  pub held : Holding groups flags f.groups (rows (drop f.next s))
 
 -- ---- the index
 
@@ -85,12 +96,12 @@ pub record SameBetween (x y : List ℕ) (from to : ℕ) : Type 0 where
   pub each : (q : ℕ) → from ≤ q → q < to → get_or y q 0 ≡ get_or x q 0
 
 -- what is said of the P rows that stand first, with their marks from a place of the index on
-pub record ParamsRead (s : Str) (rs : Rows) (marks : ℕ) (x y : List ℕ) (r : ParamsRun) : Type 0 where
-  pub walk : walked s r.walk ≡ passed (read_params rs)
-  pub count : r.count ≡ length (names_of rs)
-  pub next : r.marks ≡ marks + (r.count - 1) / mark_every
-  pub left : left_after s r.walk ≤ size rs
-  pub room : MarkRoom (length s) r.marks (left_after s r.walk)
+pub record ParamsRead (s : Str) (rs : Rows) (marks : ℕ) (x y : List ℕ) (p : ParamsRun) : Type 0 where
+  pub walk : got tt (rows (drop p.next s)) ≡ passed (read_params rs)
+  pub count : p.count ≡ length (names_of rs)
+  pub next : p.marks ≡ marks + (p.count - 1) / mark_every
+  pub left : size (rows (drop p.next s)) ≤ size rs
+  pub room : MarkRoom (length s) p.marks (size (rows (drop p.next s)))
   pub same : SameBetween x y 0 marks
   pub marked : index_size (length s) ≤ length y → Marked s y marks (names_of rs)
 
@@ -124,9 +135,7 @@ members_here s e seen = read_members seen (node_with e (text_at (rows (drop e.at
 -- where a node is read, with the sheet from a position on left: not the 65th, with room for its ids, its marks and its entry
 pub record Ready (s : Str) (at : ℕ) (groups flags : List ℕ) (held : Held) : Type 0 where
   pub few : held.nodes < 64
-  pub flags-size : length flags ≡ 2048
-  pub room : Room groups held.groups (size (rows (drop at s)))
-  pub flagged : Flagged flags (take held.groups groups)
+  pub holding : Holding groups flags held.groups (rows (drop at s))
   pub first : first_mark (length s) ≤ held.marks
   pub marks : MarkRoom (length s) held.marks (size (rows (drop at s)))
   pub nodes : NodeRoom (length s) held.nodes (size (rows (drop at s)))
@@ -137,10 +146,6 @@ pub record Begun (s : Str) (held : Held) (e : Entry) : Type 0 where
   pub marks : e.marks ≡ held.marks
   pub room : NodeRoom (length s) (held.nodes + 1) (size (rows (drop e.params s)))
 
--- a node whose N row is refused adds nothing
-abbrev pub refused_run : Held → Walk → NodeRun
-refused_run held w = record { walk = w; id = 0; groups = held.groups; marks = held.marks }
-
 -- a node's id, and the group ids seen after it
 abbrev pub seen_after : List ℕ → Node → ℕ × List ℕ
 seen_after seen n = (n.id, seen ++ group_ids n.fields)
@@ -149,17 +154,21 @@ seen_after seen n = (n.id, seen ++ group_ids n.fields)
 -- held after it; and of the index y after it, in which its entry stands after the others, its marks after the others
 pub record NodeRead
     (s : Str) (held : Held) (seen x : List ℕ) (g : Reading Node) (groups flags y : List ℕ) (r : NodeRun) : Type 0 where
-  pub read : walked_with s r.walk (r.id, take r.groups groups) ≡ (g then λ n. got (seen_after seen n))
-  pub room : Room groups r.groups (left_after s r.walk)
-  pub flagged : Flagged flags (take r.groups groups)
-  pub marks : MarkRoom (length s) r.marks (left_after s r.walk)
-  pub nodes : (q : ℕ) → r.walk ≡ Next q → NodeRoom (length s) (held.nodes + 1) (size (rows (drop q s)))
+  pub read : got (r.id, take r.groups groups) (rows (drop r.next s)) ≡ (g then λ n. got (seen_after seen n))
+  pub holding : Holding groups flags r.groups (rows (drop r.next s))
+  pub marks : MarkRoom (length s) r.marks (size (rows (drop r.next s)))
+  pub nodes : NodeRoom (length s) (held.nodes + 1) (size (rows (drop r.next s)))
   pub further : held.marks ≤ r.marks
   pub entries : SameBetween x y 0 (1 + 12 * held.nodes)
   pub before : SameBetween x y (first_mark (length s)) held.marks
   pub entry : index_size (length s) ≤ length y → On g (Placed s y r.marks (entry_at y (1 + 12 * held.nodes)))
 
--- what a walk over nodes says of their reading: where it came to, and the index that it leaves
-pub record NodesRead (s : Str) (w : Walk) (y : List ℕ) (g : Reading (List Node)) : Type 0 where
-  pub walk : walked s w ≡ passed g
+-- what the code says of the reading of nodes: the row that is refused, and the index that it leaves
+pub record NodesRead (s : Str) (r : Result ⊤ RefusedRow) (y : List ℕ) (g : Reading (List Node)) : Type 0 where
+  pub refusal : row_refusal s r ≡ refusal_of s g
   pub index : index_size (length s) ≤ length y → On g (λ ns. Indexed s ns y)
+
+-- the same of a whole sheet
+pub record SheetRead (s : Str) (r : Result ⊤ RefusedRow) (y : List ℕ) : Type 0 where
+  pub refusal : row_refusal s r ≡ refusal_in (admitted s)
+  pub index : index_size (length s) ≤ length y → IndexOf s (admitted s) y

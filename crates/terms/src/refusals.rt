@@ -1,39 +1,37 @@
-// The refusals by the numbers of documents 01 and 02: 1 to 4, 16 and 17 are of a sheet's lines, 4 to 15 of a request, 21 and 22
-// of the buffer.
-pub const SHEET_TOO_LONG: u64 = 1;
+// The refusals of documents 01 and 02 by name, each with its number.
+ghost use Rattle.std.specs.Prelude.{◌≡◌};
+ghost use Rattle.terms.specs.Refusals.{number};
 
-pub const BAD_LINE: u64 = 2;
+// Why a sheet, a request or a buffer is refused: 1 to 4, 16 and 17 are of a sheet's lines, 4 to 15 of a request, 21 and 22 of the
+// buffer.
+#[derive(Clone, Copy)]
+pub enum Refusal {
+    SheetTooLong = 1,
+    BadLine = 2,
+    SecondId = 3,
+    TooDeep = 4,
+    NoNode = 5,
+    ListOfAnyPointer = 6,
+    ParameterLeaf = 7,
+    BindingsDiffer = 8,
+    OptionMisplaced = 9,
+    GetterDefault = 10,
+    SetterDefault = 11,
+    EnumDefault = 12,
+    ParameterIndex = 13,
+    NoStruct = 14,
+    NotThere = 15,
+    BadNumber = 16,
+    BadText = 17,
+    FillPastEnd = 21,
+    NoRoom = 22,
+}
 
-pub const SECOND_ID: u64 = 3;
-
-pub const TOO_DEEP: u64 = 4;
-
-pub const NO_NODE: u64 = 5;
-
-pub const LIST_OF_ANY_POINTER: u64 = 6;
-
-pub const PARAMETER_LEAF: u64 = 7;
-
-pub const BINDINGS_DIFFER: u64 = 8;
-
-pub const OPTION_MISPLACED: u64 = 9;
-
-pub const GETTER_DEFAULT: u64 = 10;
-
-pub const SETTER_DEFAULT: u64 = 11;
-
-pub const ENUM_DEFAULT: u64 = 12;
-
-pub const PARAMETER_INDEX: u64 = 13;
-
-pub const NO_STRUCT: u64 = 14;
-
-pub const NOT_THERE: u64 = 15;
-
-pub const BAD_NUMBER: u64 = 16;
-
-pub const BAD_TEXT: u64 = 17;
-
-pub const FILL_PAST_END: u64 = 21;
-
-pub const NO_ROOM: u64 = 22;
+impl Refusal {
+    // The refusal's number.
+    pub fn number(self) -> u64
+        ensures { result ≡ number self }
+    {
+        self as u64
+    }
+}

@@ -1,11 +1,12 @@
 -- Laws of comparing byte strings. By induction on both. Assumes nothing.
 use mathlib.Core.Path.{◌≡◌, refl, ap}
-use mathlib.Core.Bool.{Bool, true, false}
+use mathlib.Core.Bool.{Bool, true, false, ◌&&◌}
 use mathlib.Core.List.{List, [], ◌∷◌}
 use Prim.Native.Nat.{ℕ, suc}
 use native.Mathlib.Omega.{arith}
 use lib.Dec.{eqb}
 use lib.ListN.{length}
+use lib.Pointwise.{pointwise}
 use Rattle.text.specs.Bytes.{both, same}
 
 pub both_false : (b : Bool) → both b false ≡ false
@@ -23,3 +24,15 @@ unlike [] [] h = absurd (h refl)
 unlike [] (y ∷ b) h = refl
 unlike (x ∷ a) [] h = refl
 unlike (x ∷ a) (y ∷ b) h = rw (unlike a b (λ e. h (ap suc e))) (both_false (eqb x y))
+
+-- what `==` of two slices answers
+pub pointwise_same : (a b : List ℕ) → pointwise eqb a b ≡ same a b
+unfolding same
+pointwise_same [] [] = refl
+pointwise_same [] (y ∷ b) = refl
+pointwise_same (x ∷ a) [] = refl
+pointwise_same (x ∷ a) (y ∷ b) = go (eqb x y) (pointwise_same a b)
+  where
+    go : (e : Bool) → pointwise eqb a b ≡ same a b → (e && pointwise eqb a b) ≡ both e (same a b)
+    go true f = f
+    go false f = refl

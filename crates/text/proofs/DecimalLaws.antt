@@ -1,14 +1,14 @@
 -- Decimal text by its last digit: any fuel from the number on will do. Assumes nothing.
 use mathlib.Core.Path.{◌≡◌, refl, sym, ap, ◌∙◌}
 use mathlib.Core.Bool.{Bool, true, false}
-use mathlib.Core.List.{List, ◌++◌, append_assoc, append-nil}
+use mathlib.Core.List.{List, ◌++◌, append_assoc}
 use Prim.Native.Nat.{ℕ, zero, suc, ◌+◌, ◌-◌, ◌*◌, ◌/◌, ◌%◌, ◌^◌, ◌≤◌, ◌<◌}
 use native.Mathlib.Nat.{pow-suc, div-lt_iff_lt-mul}
 use native.Mathlib.Numerals.{add-one}
 use native.Mathlib.Omega.{arith}
 use borrow.Author.Tests.{lt-ltb, le-ltb, ltb-true, ltb-false}
 use lib.Dec.{ltb, lit<}
-use lib.ListN.{length, drop, set, length-append, length-set, drop_of_length-le}
+use lib.ListN.{length, drop, set, length-append, length-set}
 use lib.Seq.{drop-cons, get_or-set_same, drop-set-lt}
 use Rattle.text.specs.Bytes.{unit}
 use Rattle.text.specs.Decimal.{decimal_digits, decimal, signed}
@@ -71,14 +71,6 @@ pub record Found (n : ℕ) (ds : List ℕ) (i left : ℕ) : Type 0 where
   pub few : left < 10 ^ (i + 1)
   pub text : decimal n ≡ decimal left ++ drop (i + 1) ds
 
-pub found_none : (n : ℕ) (ds : List ℕ) → length ds ≡ 20 → n < 2 ^ 64 → Found n ds 19 n
-found_none n ds h b = record {
-  place = omega arith;
-  size = h;
-  few = omega arith;
-  text = rw (drop_of_length-le ds {i = 20} (omega arith)) (sym (append-nil (decimal n)));
-}
-
 -- a number of two digits or more has one digit fewer without its last
 fewer : (i left : ℕ) → 10 ≤ left → left < 10 ^ (i + 1) → (1 ≤ i) × (left / 10 < 10 ^ (i - 1 + 1))
 fewer zero left h g = let z : ⊥ = omega arith in absurd z
@@ -114,9 +106,6 @@ module _ {n : ℕ} {ds : List ℕ} {i left : ℕ} (f : Found n ds i left) where
   first-digit h = rw (from-set ds i (48 + left) (omega arith)) (f.text ∙ rw (decimal-low left h))
 
 module _ {n : ℕ} {ds : List ℕ} {i left : ℕ} (f : Found n ds i left) (h : 100 ≤ left) where
-  pub places_left : 2 ≤ i
-  places_left = omega (arith, place-left (last-digit f (omega arith)) (omega arith))
-
   pub last_digits : Found n (set (set ds i (48 + left % 100 % 10)) (i - 1) (48 + left % 100 / 10)) (i - 2) (left / 100)
   last_digits =
       let a : left % 100 % 10 ≡ left % 10 = omega arith in

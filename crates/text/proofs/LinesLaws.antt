@@ -35,8 +35,8 @@ pub stringify-none : (ft : FormattedText) → to_lines ft 0 ≡ [] → stringify
 unfolding stringify join
 stringify-none ft e = rw e
 
--- an indent is a step, and what is left of it
-pub spaces-step : (n : ℕ) → 0 < n → spaces (n * 4) ≡ spaces 4 ++ spaces ((n - 1) * 4)
-spaces-step n h =
-    let e : n * 4 ≡ 4 + (n - 1) * 4 = omega arith in
-    ap spaces e ∙ sym (replicate-append-replicate 4 ((n - 1) * 4) 32)
+-- an indent is a step, and what is left of it after that
+pub spaces-step : (n done : ℕ) → done < n → spaces ((n - done) * 4) ≡ spaces 4 ++ spaces ((n - (done + 1)) * 4)
+spaces-step n done h =
+    let e : (n - done) * 4 ≡ 4 + (n - (done + 1)) * 4 = omega arith in
+    ap spaces e ∙ sym (replicate-append-replicate 4 ((n - (done + 1)) * 4) 32)

@@ -1,11 +1,12 @@
 -- Where a text's bytes go: past the end nowhere, and where it fits exactly at the fill count. By induction on the text. Assumes
 -- nothing.
 use mathlib.Core.Path.{◌≡◌, refl, sym, ap, ◌∙◌}
-use mathlib.Core.List.{List, [], ◌∷◌}
+use mathlib.Core.List.{List, [], ◌∷◌, ◌++◌, append_assoc}
 use Prim.Native.Nat.{ℕ, suc, ◌+◌, ◌-◌, ◌^◌, ◌<◌, ◌≤◌, min}
 use native.Mathlib.Omega.{arith}
-use lib.ListN.{length, set}
-use lib.Seq.{sets, sets-eq, set_out}
+use borrow.Rule.Slice.PartMut.{put_mid}
+use lib.ListN.{length, take, drop, set}
+use lib.Seq.{drop-drop, sets, sets-eq, set_out}
 use Rattle.text.specs.Bytes.{unit}
 use Rattle.text.specs.Answer.{placed}
 use Rattle.text.specs.Text.{put, adv, next, state_at, Wrote}
@@ -37,6 +38,20 @@ pub put-placed : (l : List ℕ) (n : ℕ) (s : List ℕ) → n + length s ≤ le
     → put l (state_at n) s ≡ placed l n s
 unfolding placed
 put-placed l n s h b = put-sets l n s (omega arith) ∙ sets-eq s l n h
+
+-- a text that fits, copied to its place
+pub copied : (l : List ℕ) (t : Text) (s part : List ℕ) → t.at + length s ≤ length l → length l < 2 ^ 64 → part ≡ s
+    → Wrote l t s (put_mid t.at (t.at + length s - t.at) l part) (state_at (t.at + length s))
+unfolding placed
+copied l t s part h b e =
+    let k : t.at + length s - t.at ≡ length s = omega arith in
+    let mid : put_mid t.at (length s) l s ≡ placed l t.at s =
+    sym (append_assoc (take t.at l) s (drop (length s) (drop t.at l)))
+    ∙ ap (λ (d : List ℕ). take t.at l ++ s ++ d) (drop-drop (length s) t.at l) in
+    record {
+      bytes = rw (e, k) (mid ∙ sym (put-placed l t.at s h b));
+      state = sym (adv-fits t.at s (omega arith));
+    }
 
 -- one byte before the end
 pub stored : (l : List ℕ) (t : Text) (b : ℕ) → t.at < 2 ^ 64 - 1 → Wrote l t (unit b) (set l t.at b) (state_at (t.at + 1))

@@ -3,7 +3,7 @@
 #![tactic(auto)]
 
 ghost use Rattle.std.specs.Prelude.{◌≡◌, ◌+◌, ◌-◌, ◌*◌, ◌^◌, ◌<◌, ◌≤◌, min, length};
-ghost use Rattle.text.specs.Bytes.{unit, same};
+ghost use Rattle.text.specs.Bytes.{unit};
 ghost use Rattle.text.specs.Decimal.{decimal, signed};
 ghost use Rattle.text.specs.Lines.{Line, BlankLine, Branch, none, spaces, to_lines, stringify, ended};
 ghost use Rattle.text.specs.Text.{Wrote, state_at};
@@ -51,7 +51,9 @@ impl Text {
             return self.past(s.len());
         }
         if s.len() <= buf.len() - at {
-            return self.copy(buf, s);
+            let end = at + s.len();
+            buf[at..end].copy_from_slice(s);
+            return Text { at: end };
         }
         self.each(buf, s)
     }
@@ -60,26 +62,9 @@ impl Text {
     fn past(self, n: usize) -> Text
         ensures { result ≡ state_at (min (self.at + n) (2 ^ 64 - 1)) }
     {
-        let at = self.at;
-        if n <= usize::MAX - at {
-            Text { at: at + n }
-        } else {
-            Text { at: usize::MAX }
+        Text {
+            at: self.at.saturating_add(n),
         }
-    }
-
-    // bytes that fit whole
-    fn copy(self, buf: &mut [u8], s: &[u8]) -> Text
-        requires { self.at + length s.now ≤ length buf.old }
-        ensures { Wrote buf.old self s.now buf.new result }
-    {
-        let at = self.at;
-        let mut i = 0;
-        while i < s.len() {
-            buf[at + i] = s[i];
-            i += 1;
-        }
-        Text { at: at + i }
     }
 
     // bytes of which some fit
@@ -87,15 +72,13 @@ impl Text {
         ensures { Wrote buf.old self s.now buf.new result }
     {
         let mut t = self;
-        let mut i = 0;
-        while i < s.len() {
-            t = t.byte(buf, s[i]);
-            i += 1;
+        for &b in s {
+            t = t.byte(buf, b);
         }
         t
     }
 
-    // n in decimal: the last digits are found first, two in a turn
+    // n in decimal. The last digits are found first, two in a turn: the number and no index says when to stop, so no `for` fits.
     pub fn number(self, buf: &mut [u8], n: u64) -> Text
         ensures { Wrote buf.old self (decimal n) buf.new result }
     {
@@ -110,12 +93,12 @@ impl Text {
             digits[i] = b'0' + (pair % 10) as u8;
             digits[i - 1] = b'0' + (pair / 10) as u8;
             i -= 2;
-            left = left / 100;
+            left /= 100;
         }
         if left >= 10 {
             digits[i] = b'0' + (left % 10) as u8;
             i -= 1;
-            left = left / 10;
+            left /= 10;
         }
         digits[i] = b'0' + left as u8;
         self.bytes(buf, &digits[i..])
@@ -129,10 +112,7 @@ impl Text {
             return self.number(buf, n);
         }
         let t = self.byte(buf, b'-');
-        if n - half <= half {
-            return t.number(buf, half - (n - half));
-        }
-        t.number(buf, 0)
+        t.number(buf, half.saturating_sub(n - half))
     }
 
     // the start of a line: four spaces for each step of its indent
@@ -140,10 +120,8 @@ impl Text {
         ensures { Wrote buf.old self (spaces (indent * 4)) buf.new result }
     {
         let mut t = self;
-        let mut left = indent;
-        while left > 0 {
+        for _ in 0..indent {
             t = t.bytes(buf, b"    ");
-            left -= 1;
         }
         t
     }
@@ -170,21 +148,4 @@ impl Text {
     {
         self.byte(buf, b'\n')
     }
-}
-
-// Whether two slices hold the same bytes.
-pub fn equal(a: &[u8], b: &[u8]) -> bool
-    ensures { result ≡ same a.now b.now }
-{
-    if a.len() != b.len() {
-        return false;
-    }
-    let mut i = 0;
-    while i < a.len() {
-        if a[i] != b[i] {
-            return false;
-        }
-        i += 1;
-    }
-    true
 }

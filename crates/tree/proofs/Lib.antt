@@ -1,5 +1,5 @@
 pub mod OtherLines
-pub mod EndLaws
+pub mod ElseLaws
 pub mod WalkLaws
 pub mod UnboundLaws
 pub mod SlotLaws

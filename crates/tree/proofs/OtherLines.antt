@@ -8,16 +8,15 @@ use types.Run.{OneOf, hit, miss}
 use denote.Enum.Declared.{tag_of}
 use Rattle.row.specs.contracts.Line.{the_type}
 use Rattle.text.specs.Bytes.{either}
-use Rattle.row.specs.Line.{line_said, as_root, as_node, as_parameter, as_field, as_type, as_scope, as_unbound, as_value, as_word}
+use Rattle.row.specs.Line.{good_said, as_root, as_node, as_parameter, as_field, as_type, as_scope, as_unbound, as_value, as_word}
 use Rattle.row.specs.Line.{fault_of}
 use Rattle.tree.specs.Read.{is_some, is_field}
 use Rattle.row.specs.declared.Line.{Line}
-use Rattle.row.specs.declared.Line.TheVariants.{Root, Node, Parameter, Field, Group, Typ, Scope, Unbound, Value, Word, Bad}
+use Rattle.row.specs.declared.Line.TheVariants.{Root, Node, Parameter, Field, Group, Typ, Scope, Unbound, Value, Word}
 
-pub not_root : {A : Type 0} (l : Line) (y : A) (z : A) → OneOf (1 ∷ 2 ∷ 3 ∷ 4 ∷ 5 ∷ 6 ∷ 7 ∷ 8 ∷ 9 ∷ 10 ∷ [])
-    (tag_of the_type l) → as_root (line_said l) y z ≡ z
-unfolding line_said
-not_root Root y z h = absurd (miss (1 ∷ 2 ∷ 3 ∷ 4 ∷ 5 ∷ 6 ∷ 7 ∷ 8 ∷ 9 ∷ 10 ∷ []) 0 tt h)
+pub not_root : {A : Type 0} (l : Line) (y : A) (z : A) → OneOf (1 ∷ 2 ∷ 3 ∷ 4 ∷ 5 ∷ 6 ∷ 7 ∷ 8 ∷ 9 ∷ [])
+    (tag_of the_type l) → as_root (good_said l) y z ≡ z
+not_root Root y z h = absurd (miss (1 ∷ 2 ∷ 3 ∷ 4 ∷ 5 ∷ 6 ∷ 7 ∷ 8 ∷ 9 ∷ []) 0 tt h)
 not_root (Node a b c d e f g) y z h = refl
 not_root Parameter y z h = refl
 not_root (Field a b c d) y z h = refl
@@ -27,13 +26,11 @@ not_root (Scope a b c) y z h = refl
 not_root Unbound y z h = refl
 not_root (Value a b) y z h = refl
 not_root (Word a) y z h = refl
-not_root (Bad x k c) y z h = refl
 
 pub not-node : {A : Type 0} (l : Line) (y : (ℕ → ℕ → ℕ → ℕ → ℕ → ℕ → ℕ → A)) (z : A) → OneOf
-    (0 ∷ 2 ∷ 3 ∷ 4 ∷ 5 ∷ 6 ∷ 7 ∷ 8 ∷ 9 ∷ 10 ∷ []) (tag_of the_type l) → as_node (line_said l) y z ≡ z
-unfolding line_said
+    (0 ∷ 2 ∷ 3 ∷ 4 ∷ 5 ∷ 6 ∷ 7 ∷ 8 ∷ 9 ∷ []) (tag_of the_type l) → as_node (good_said l) y z ≡ z
 not-node Root y z h = refl
-not-node (Node a b c d e f g) y z h = absurd (miss (0 ∷ 2 ∷ 3 ∷ 4 ∷ 5 ∷ 6 ∷ 7 ∷ 8 ∷ 9 ∷ 10 ∷ []) 1 tt h)
+not-node (Node a b c d e f g) y z h = absurd (miss (0 ∷ 2 ∷ 3 ∷ 4 ∷ 5 ∷ 6 ∷ 7 ∷ 8 ∷ 9 ∷ []) 1 tt h)
 not-node Parameter y z h = refl
 not-node (Field a b c d) y z h = refl
 not-node (Group a b) y z h = refl
@@ -42,14 +39,12 @@ not-node (Scope a b c) y z h = refl
 not-node Unbound y z h = refl
 not-node (Value a b) y z h = refl
 not-node (Word a) y z h = refl
-not-node (Bad x k c) y z h = refl
 
-pub not-parameter : {A : Type 0} (l : Line) (y : A) (z : A) → OneOf (0 ∷ 1 ∷ 3 ∷ 4 ∷ 5 ∷ 6 ∷ 7 ∷ 8 ∷ 9 ∷ 10 ∷ [])
-    (tag_of the_type l) → as_parameter (line_said l) y z ≡ z
-unfolding line_said
+pub not-parameter : {A : Type 0} (l : Line) (y : A) (z : A) → OneOf (0 ∷ 1 ∷ 3 ∷ 4 ∷ 5 ∷ 6 ∷ 7 ∷ 8 ∷ 9 ∷ [])
+    (tag_of the_type l) → as_parameter (good_said l) y z ≡ z
 not-parameter Root y z h = refl
 not-parameter (Node a b c d e f g) y z h = refl
-not-parameter Parameter y z h = absurd (miss (0 ∷ 1 ∷ 3 ∷ 4 ∷ 5 ∷ 6 ∷ 7 ∷ 8 ∷ 9 ∷ 10 ∷ []) 2 tt h)
+not-parameter Parameter y z h = absurd (miss (0 ∷ 1 ∷ 3 ∷ 4 ∷ 5 ∷ 6 ∷ 7 ∷ 8 ∷ 9 ∷ []) 2 tt h)
 not-parameter (Field a b c d) y z h = refl
 not-parameter (Group a b) y z h = refl
 not-parameter (Typ a b c d) y z h = refl
@@ -57,56 +52,48 @@ not-parameter (Scope a b c) y z h = refl
 not-parameter Unbound y z h = refl
 not-parameter (Value a b) y z h = refl
 not-parameter (Word a) y z h = refl
-not-parameter (Bad x k c) y z h = refl
 
 pub not-field : {A : Type 0} (l : Line) (y : (ℕ → ℕ → ℕ → ℕ → A)) (z : A) → OneOf
-    (0 ∷ 1 ∷ 2 ∷ 4 ∷ 5 ∷ 6 ∷ 7 ∷ 8 ∷ 9 ∷ 10 ∷ []) (tag_of the_type l) → as_field (line_said l) y z ≡ z
-unfolding line_said
+    (0 ∷ 1 ∷ 2 ∷ 4 ∷ 5 ∷ 6 ∷ 7 ∷ 8 ∷ 9 ∷ []) (tag_of the_type l) → as_field (good_said l) y z ≡ z
 not-field Root y z h = refl
 not-field (Node a b c d e f g) y z h = refl
 not-field Parameter y z h = refl
-not-field (Field a b c d) y z h = absurd (miss (0 ∷ 1 ∷ 2 ∷ 4 ∷ 5 ∷ 6 ∷ 7 ∷ 8 ∷ 9 ∷ 10 ∷ []) 3 tt h)
+not-field (Field a b c d) y z h = absurd (miss (0 ∷ 1 ∷ 2 ∷ 4 ∷ 5 ∷ 6 ∷ 7 ∷ 8 ∷ 9 ∷ []) 3 tt h)
 not-field (Group a b) y z h = refl
 not-field (Typ a b c d) y z h = refl
 not-field (Scope a b c) y z h = refl
 not-field Unbound y z h = refl
 not-field (Value a b) y z h = refl
 not-field (Word a) y z h = refl
-not-field (Bad x k c) y z h = refl
 
-pub not-type : {A : Type 0} (l : Line) (y : (ℕ → ℕ → ℕ → ℕ → A)) (z : A) → OneOf (0 ∷ 1 ∷ 2 ∷ 3 ∷ 4 ∷ 6 ∷ 7 ∷ 8 ∷ 9 ∷ 10 ∷ [])
-    (tag_of the_type l) → as_type (line_said l) y z ≡ z
-unfolding line_said
+pub not-type : {A : Type 0} (l : Line) (y : (ℕ → ℕ → ℕ → ℕ → A)) (z : A) → OneOf (0 ∷ 1 ∷ 2 ∷ 3 ∷ 4 ∷ 6 ∷ 7 ∷ 8 ∷ 9 ∷ [])
+    (tag_of the_type l) → as_type (good_said l) y z ≡ z
 not-type Root y z h = refl
 not-type (Node a b c d e f g) y z h = refl
 not-type Parameter y z h = refl
 not-type (Field a b c d) y z h = refl
 not-type (Group a b) y z h = refl
-not-type (Typ a b c d) y z h = absurd (miss (0 ∷ 1 ∷ 2 ∷ 3 ∷ 4 ∷ 6 ∷ 7 ∷ 8 ∷ 9 ∷ 10 ∷ []) 5 tt h)
+not-type (Typ a b c d) y z h = absurd (miss (0 ∷ 1 ∷ 2 ∷ 3 ∷ 4 ∷ 6 ∷ 7 ∷ 8 ∷ 9 ∷ []) 5 tt h)
 not-type (Scope a b c) y z h = refl
 not-type Unbound y z h = refl
 not-type (Value a b) y z h = refl
 not-type (Word a) y z h = refl
-not-type (Bad x k c) y z h = refl
 
-pub not-scope : {A : Type 0} (l : Line) (y : (ℕ → ℕ → ℕ → A)) (z : A) → OneOf (0 ∷ 1 ∷ 2 ∷ 3 ∷ 4 ∷ 5 ∷ 7 ∷ 8 ∷ 9 ∷ 10 ∷ [])
-    (tag_of the_type l) → as_scope (line_said l) y z ≡ z
-unfolding line_said
+pub not-scope : {A : Type 0} (l : Line) (y : (ℕ → ℕ → ℕ → A)) (z : A) → OneOf (0 ∷ 1 ∷ 2 ∷ 3 ∷ 4 ∷ 5 ∷ 7 ∷ 8 ∷ 9 ∷ [])
+    (tag_of the_type l) → as_scope (good_said l) y z ≡ z
 not-scope Root y z h = refl
 not-scope (Node a b c d e f g) y z h = refl
 not-scope Parameter y z h = refl
 not-scope (Field a b c d) y z h = refl
 not-scope (Group a b) y z h = refl
 not-scope (Typ a b c d) y z h = refl
-not-scope (Scope a b c) y z h = absurd (miss (0 ∷ 1 ∷ 2 ∷ 3 ∷ 4 ∷ 5 ∷ 7 ∷ 8 ∷ 9 ∷ 10 ∷ []) 6 tt h)
+not-scope (Scope a b c) y z h = absurd (miss (0 ∷ 1 ∷ 2 ∷ 3 ∷ 4 ∷ 5 ∷ 7 ∷ 8 ∷ 9 ∷ []) 6 tt h)
 not-scope Unbound y z h = refl
 not-scope (Value a b) y z h = refl
 not-scope (Word a) y z h = refl
-not-scope (Bad x k c) y z h = refl
 
-pub not-unbound : {A : Type 0} (l : Line) (y : A) (z : A) → OneOf (0 ∷ 1 ∷ 2 ∷ 3 ∷ 4 ∷ 5 ∷ 6 ∷ 8 ∷ 9 ∷ 10 ∷ [])
-    (tag_of the_type l) → as_unbound (line_said l) y z ≡ z
-unfolding line_said
+pub not-unbound : {A : Type 0} (l : Line) (y : A) (z : A) → OneOf (0 ∷ 1 ∷ 2 ∷ 3 ∷ 4 ∷ 5 ∷ 6 ∷ 8 ∷ 9 ∷ [])
+    (tag_of the_type l) → as_unbound (good_said l) y z ≡ z
 not-unbound Root y z h = refl
 not-unbound (Node a b c d e f g) y z h = refl
 not-unbound Parameter y z h = refl
@@ -114,14 +101,12 @@ not-unbound (Field a b c d) y z h = refl
 not-unbound (Group a b) y z h = refl
 not-unbound (Typ a b c d) y z h = refl
 not-unbound (Scope a b c) y z h = refl
-not-unbound Unbound y z h = absurd (miss (0 ∷ 1 ∷ 2 ∷ 3 ∷ 4 ∷ 5 ∷ 6 ∷ 8 ∷ 9 ∷ 10 ∷ []) 7 tt h)
+not-unbound Unbound y z h = absurd (miss (0 ∷ 1 ∷ 2 ∷ 3 ∷ 4 ∷ 5 ∷ 6 ∷ 8 ∷ 9 ∷ []) 7 tt h)
 not-unbound (Value a b) y z h = refl
 not-unbound (Word a) y z h = refl
-not-unbound (Bad x k c) y z h = refl
 
-pub not-value : {A : Type 0} (l : Line) (y : (ℕ → ℕ → A)) (z : A) → OneOf (0 ∷ 1 ∷ 2 ∷ 3 ∷ 4 ∷ 5 ∷ 6 ∷ 7 ∷ 9 ∷ 10 ∷ [])
-    (tag_of the_type l) → as_value (line_said l) y z ≡ z
-unfolding line_said
+pub not-value : {A : Type 0} (l : Line) (y : (ℕ → ℕ → A)) (z : A) → OneOf (0 ∷ 1 ∷ 2 ∷ 3 ∷ 4 ∷ 5 ∷ 6 ∷ 7 ∷ 9 ∷ [])
+    (tag_of the_type l) → as_value (good_said l) y z ≡ z
 not-value Root y z h = refl
 not-value (Node a b c d e f g) y z h = refl
 not-value Parameter y z h = refl
@@ -130,13 +115,11 @@ not-value (Group a b) y z h = refl
 not-value (Typ a b c d) y z h = refl
 not-value (Scope a b c) y z h = refl
 not-value Unbound y z h = refl
-not-value (Value a b) y z h = absurd (miss (0 ∷ 1 ∷ 2 ∷ 3 ∷ 4 ∷ 5 ∷ 6 ∷ 7 ∷ 9 ∷ 10 ∷ []) 8 tt h)
+not-value (Value a b) y z h = absurd (miss (0 ∷ 1 ∷ 2 ∷ 3 ∷ 4 ∷ 5 ∷ 6 ∷ 7 ∷ 9 ∷ []) 8 tt h)
 not-value (Word a) y z h = refl
-not-value (Bad x k c) y z h = refl
 
-pub not-word : {A : Type 0} (l : Line) (y : (ℕ → A)) (z : A) → OneOf (0 ∷ 1 ∷ 2 ∷ 3 ∷ 4 ∷ 5 ∷ 6 ∷ 7 ∷ 8 ∷ 10 ∷ [])
-    (tag_of the_type l) → as_word (line_said l) y z ≡ z
-unfolding line_said
+pub not-word : {A : Type 0} (l : Line) (y : (ℕ → A)) (z : A) → OneOf (0 ∷ 1 ∷ 2 ∷ 3 ∷ 4 ∷ 5 ∷ 6 ∷ 7 ∷ 8 ∷ [])
+    (tag_of the_type l) → as_word (good_said l) y z ≡ z
 not-word Root y z h = refl
 not-word (Node a b c d e f g) y z h = refl
 not-word Parameter y z h = refl
@@ -146,28 +129,25 @@ not-word (Typ a b c d) y z h = refl
 not-word (Scope a b c) y z h = refl
 not-word Unbound y z h = refl
 not-word (Value a b) y z h = refl
-not-word (Word a) y z h = absurd (miss (0 ∷ 1 ∷ 2 ∷ 3 ∷ 4 ∷ 5 ∷ 6 ∷ 7 ∷ 8 ∷ 10 ∷ []) 9 tt h)
-not-word (Bad x k c) y z h = refl
+not-word (Word a) y z h = absurd (miss (0 ∷ 1 ∷ 2 ∷ 3 ∷ 4 ∷ 5 ∷ 6 ∷ 7 ∷ 8 ∷ []) 9 tt h)
 
 -- a line that is neither F nor G is no field, but for a bad one with such a letter
-pub not_a_field : (l : Line) → OneOf (0 ∷ 1 ∷ 2 ∷ 5 ∷ 6 ∷ 7 ∷ 8 ∷ 9 ∷ 10 ∷ []) (tag_of the_type l)
-    → is_field (line_said l) ≡ either (is_some (fault_of 70 (line_said l))) (is_some (fault_of 71 (line_said l)))
-unfolding line_said
+pub not_a_field : (l : Line) → OneOf (0 ∷ 1 ∷ 2 ∷ 5 ∷ 6 ∷ 7 ∷ 8 ∷ 9 ∷ []) (tag_of the_type l)
+    → is_field (good_said l) ≡ either (is_some (fault_of 70 (good_said l))) (is_some (fault_of 71 (good_said l)))
 not_a_field Root h = refl
 not_a_field (Node a b c d e f g) h = refl
 not_a_field Parameter h = refl
-not_a_field (Field a b c d) h = absurd (miss (0 ∷ 1 ∷ 2 ∷ 5 ∷ 6 ∷ 7 ∷ 8 ∷ 9 ∷ 10 ∷ []) 3 tt h)
-not_a_field (Group a b) h = absurd (miss (0 ∷ 1 ∷ 2 ∷ 5 ∷ 6 ∷ 7 ∷ 8 ∷ 9 ∷ 10 ∷ []) 4 tt h)
+not_a_field (Field a b c d) h = absurd (miss (0 ∷ 1 ∷ 2 ∷ 5 ∷ 6 ∷ 7 ∷ 8 ∷ 9 ∷ []) 3 tt h)
+not_a_field (Group a b) h = absurd (miss (0 ∷ 1 ∷ 2 ∷ 5 ∷ 6 ∷ 7 ∷ 8 ∷ 9 ∷ []) 4 tt h)
 not_a_field (Typ a b c d) h = refl
 not_a_field (Scope a b c) h = refl
 not_a_field Unbound h = refl
 not_a_field (Value a b) h = refl
 not_a_field (Word a) h = refl
-not_a_field (Bad x k c) h = refl
 
 -- the tag of a line that is not of one letter, or neither F nor G, or not bad, as the `match`es tell it
 abbrev but_Root : List ℕ
-but_Root = 1 ∷ 2 ∷ 3 ∷ 4 ∷ 5 ∷ 6 ∷ 7 ∷ 8 ∷ 9 ∷ 10 ∷ []
+but_Root = 1 ∷ 2 ∷ 3 ∷ 4 ∷ 5 ∷ 6 ∷ 7 ∷ 8 ∷ 9 ∷ []
 
 pub not_root-tag : (l : Line) → (l ≡ Root → ⊥) → OneOf but_Root (tag_of the_type l)
 not_root-tag Root h = absurd (h refl)
@@ -180,10 +160,9 @@ not_root-tag (Scope a b c) h = hit but_Root 6 tt
 not_root-tag Unbound h = hit but_Root 7 tt
 not_root-tag (Value a b) h = hit but_Root 8 tt
 not_root-tag (Word a) h = hit but_Root 9 tt
-not_root-tag (Bad x k c) h = hit but_Root 10 tt
 
 abbrev but_Node : List ℕ
-but_Node = 0 ∷ 2 ∷ 3 ∷ 4 ∷ 5 ∷ 6 ∷ 7 ∷ 8 ∷ 9 ∷ 10 ∷ []
+but_Node = 0 ∷ 2 ∷ 3 ∷ 4 ∷ 5 ∷ 6 ∷ 7 ∷ 8 ∷ 9 ∷ []
 
 pub not_node-tag : (l : Line) → ((a b c d e f g : ℕ) → l ≡ Node a b c d e f g → ⊥) → OneOf but_Node (tag_of the_type l)
 not_node-tag Root h = hit but_Node 0 tt
@@ -196,10 +175,9 @@ not_node-tag (Scope a b c) h = hit but_Node 6 tt
 not_node-tag Unbound h = hit but_Node 7 tt
 not_node-tag (Value a b) h = hit but_Node 8 tt
 not_node-tag (Word a) h = hit but_Node 9 tt
-not_node-tag (Bad x k c) h = hit but_Node 10 tt
 
 abbrev but_Parameter : List ℕ
-but_Parameter = 0 ∷ 1 ∷ 3 ∷ 4 ∷ 5 ∷ 6 ∷ 7 ∷ 8 ∷ 9 ∷ 10 ∷ []
+but_Parameter = 0 ∷ 1 ∷ 3 ∷ 4 ∷ 5 ∷ 6 ∷ 7 ∷ 8 ∷ 9 ∷ []
 
 pub not_parameter-tag : (l : Line) → (l ≡ Parameter → ⊥) → OneOf but_Parameter (tag_of the_type l)
 not_parameter-tag Root h = hit but_Parameter 0 tt
@@ -212,10 +190,9 @@ not_parameter-tag (Scope a b c) h = hit but_Parameter 6 tt
 not_parameter-tag Unbound h = hit but_Parameter 7 tt
 not_parameter-tag (Value a b) h = hit but_Parameter 8 tt
 not_parameter-tag (Word a) h = hit but_Parameter 9 tt
-not_parameter-tag (Bad x k c) h = hit but_Parameter 10 tt
 
 abbrev but_Field_and_Group : List ℕ
-but_Field_and_Group = 0 ∷ 1 ∷ 2 ∷ 5 ∷ 6 ∷ 7 ∷ 8 ∷ 9 ∷ 10 ∷ []
+but_Field_and_Group = 0 ∷ 1 ∷ 2 ∷ 5 ∷ 6 ∷ 7 ∷ 8 ∷ 9 ∷ []
 
 pub not_a_field-tag : (l : Line) → ((a b c d : ℕ) → l ≡ Field a b c d → ⊥) → ((a b : ℕ) → l ≡ Group a b → ⊥)
     → OneOf but_Field_and_Group (tag_of the_type l)
@@ -229,10 +206,9 @@ not_a_field-tag (Scope a b c) u v = hit but_Field_and_Group 6 tt
 not_a_field-tag Unbound u v = hit but_Field_and_Group 7 tt
 not_a_field-tag (Value a b) u v = hit but_Field_and_Group 8 tt
 not_a_field-tag (Word a) u v = hit but_Field_and_Group 9 tt
-not_a_field-tag (Bad x k c) u v = hit but_Field_and_Group 10 tt
 
 abbrev but_Typ : List ℕ
-but_Typ = 0 ∷ 1 ∷ 2 ∷ 3 ∷ 4 ∷ 6 ∷ 7 ∷ 8 ∷ 9 ∷ 10 ∷ []
+but_Typ = 0 ∷ 1 ∷ 2 ∷ 3 ∷ 4 ∷ 6 ∷ 7 ∷ 8 ∷ 9 ∷ []
 
 pub not_type-tag : (l : Line) → ((a b c d : ℕ) → l ≡ Typ a b c d → ⊥) → OneOf but_Typ (tag_of the_type l)
 not_type-tag Root h = hit but_Typ 0 tt
@@ -245,10 +221,9 @@ not_type-tag (Scope a b c) h = hit but_Typ 6 tt
 not_type-tag Unbound h = hit but_Typ 7 tt
 not_type-tag (Value a b) h = hit but_Typ 8 tt
 not_type-tag (Word a) h = hit but_Typ 9 tt
-not_type-tag (Bad x k c) h = hit but_Typ 10 tt
 
 abbrev but_Scope : List ℕ
-but_Scope = 0 ∷ 1 ∷ 2 ∷ 3 ∷ 4 ∷ 5 ∷ 7 ∷ 8 ∷ 9 ∷ 10 ∷ []
+but_Scope = 0 ∷ 1 ∷ 2 ∷ 3 ∷ 4 ∷ 5 ∷ 7 ∷ 8 ∷ 9 ∷ []
 
 pub not_scope-tag : (l : Line) → ((a b c : ℕ) → l ≡ Scope a b c → ⊥) → OneOf but_Scope (tag_of the_type l)
 not_scope-tag Root h = hit but_Scope 0 tt
@@ -261,10 +236,9 @@ not_scope-tag (Scope a b c) h = absurd (h a b c refl)
 not_scope-tag Unbound h = hit but_Scope 7 tt
 not_scope-tag (Value a b) h = hit but_Scope 8 tt
 not_scope-tag (Word a) h = hit but_Scope 9 tt
-not_scope-tag (Bad x k c) h = hit but_Scope 10 tt
 
 abbrev but_Unbound : List ℕ
-but_Unbound = 0 ∷ 1 ∷ 2 ∷ 3 ∷ 4 ∷ 5 ∷ 6 ∷ 8 ∷ 9 ∷ 10 ∷ []
+but_Unbound = 0 ∷ 1 ∷ 2 ∷ 3 ∷ 4 ∷ 5 ∷ 6 ∷ 8 ∷ 9 ∷ []
 
 pub not_unbound-tag : (l : Line) → (l ≡ Unbound → ⊥) → OneOf but_Unbound (tag_of the_type l)
 not_unbound-tag Root h = hit but_Unbound 0 tt
@@ -277,10 +251,9 @@ not_unbound-tag (Scope a b c) h = hit but_Unbound 6 tt
 not_unbound-tag Unbound h = absurd (h refl)
 not_unbound-tag (Value a b) h = hit but_Unbound 8 tt
 not_unbound-tag (Word a) h = hit but_Unbound 9 tt
-not_unbound-tag (Bad x k c) h = hit but_Unbound 10 tt
 
 abbrev but_Value : List ℕ
-but_Value = 0 ∷ 1 ∷ 2 ∷ 3 ∷ 4 ∷ 5 ∷ 6 ∷ 7 ∷ 9 ∷ 10 ∷ []
+but_Value = 0 ∷ 1 ∷ 2 ∷ 3 ∷ 4 ∷ 5 ∷ 6 ∷ 7 ∷ 9 ∷ []
 
 pub not_value-tag : (l : Line) → ((a b : ℕ) → l ≡ Value a b → ⊥) → OneOf but_Value (tag_of the_type l)
 not_value-tag Root h = hit but_Value 0 tt
@@ -293,10 +266,9 @@ not_value-tag (Scope a b c) h = hit but_Value 6 tt
 not_value-tag Unbound h = hit but_Value 7 tt
 not_value-tag (Value a b) h = absurd (h a b refl)
 not_value-tag (Word a) h = hit but_Value 9 tt
-not_value-tag (Bad x k c) h = hit but_Value 10 tt
 
 abbrev pub but_Word : List ℕ
-but_Word = 0 ∷ 1 ∷ 2 ∷ 3 ∷ 4 ∷ 5 ∷ 6 ∷ 7 ∷ 8 ∷ 10 ∷ []
+but_Word = 0 ∷ 1 ∷ 2 ∷ 3 ∷ 4 ∷ 5 ∷ 6 ∷ 7 ∷ 8 ∷ []
 
 pub not_word-tag : (l : Line) → ((a : ℕ) → l ≡ Word a → ⊥) → OneOf but_Word (tag_of the_type l)
 not_word-tag Root h = hit but_Word 0 tt
@@ -309,23 +281,6 @@ not_word-tag (Scope a b c) h = hit but_Word 6 tt
 not_word-tag Unbound h = hit but_Word 7 tt
 not_word-tag (Value a b) h = hit but_Word 8 tt
 not_word-tag (Word a) h = absurd (h a refl)
-not_word-tag (Bad x k c) h = hit but_Word 10 tt
-
-abbrev but_Bad : List ℕ
-but_Bad = 0 ∷ 1 ∷ 2 ∷ 3 ∷ 4 ∷ 5 ∷ 6 ∷ 7 ∷ 8 ∷ 9 ∷ []
-
-pub not_bad-tag : (l : Line) → ((x k c : ℕ) → l ≡ Bad x k c → ⊥) → OneOf but_Bad (tag_of the_type l)
-not_bad-tag Root h = hit but_Bad 0 tt
-not_bad-tag (Node a b c d e f g) h = hit but_Bad 1 tt
-not_bad-tag Parameter h = hit but_Bad 2 tt
-not_bad-tag (Field a b c d) h = hit but_Bad 3 tt
-not_bad-tag (Group a b) h = hit but_Bad 4 tt
-not_bad-tag (Typ a b c d) h = hit but_Bad 5 tt
-not_bad-tag (Scope a b c) h = hit but_Bad 6 tt
-not_bad-tag Unbound h = hit but_Bad 7 tt
-not_bad-tag (Value a b) h = hit but_Bad 8 tt
-not_bad-tag (Word a) h = hit but_Bad 9 tt
-not_bad-tag (Bad x k c) h = absurd (h x k c refl)
 
 -- from two numbers that are not equal, anything
 pub never : {A : Type 0} → ◌≡◌ {A = ℕ} 0 1 → A

@@ -2,25 +2,24 @@
 use mathlib.Core.Path.{◌≡◌, refl, sym, ap, ◌∙◌}
 use mathlib.Core.Bool.{Bool, true, false}
 use mathlib.Core.List.{List, [], ◌∷◌}
-use Rattle.std.specs.Prelude.{Option, None, Some}
-use Prim.Native.Nat.{ℕ, zero, suc, ◌+◌, ◌-◌, ◌<◌, ◌≤◌}
+use Rattle.std.specs.Prelude.{Option, None, Some, Result, Ok}
+use Prim.Native.Nat.{ℕ, zero, suc, ◌+◌, ◌-◌, ◌<◌}
 use native.Mathlib.Omega.{arith}
 use native.Mathlib.Numerals.{sub-one}
 use lib.ListN.{length}
-use types.Run.{OneOf}
-use denote.Enum.Declared.{tag_of}
 use Rattle.text.specs.Bytes.{Str}
-use Rattle.row.specs.contracts.Line.{the_type}
 use Rattle.row.specs.Rows.{rest_of}
 use Rattle.row.specs.Line.{Fault, misplaced, line_said, line_at, fault_of}
+use Rattle.row.specs.declared.BadLine.{BadLine}
 use Rattle.row.specs.declared.Line.{Line}
 use Rattle.tree.specs.Tree.{Ty, Value, Slot}
 use Rattle.tree.specs.Reader.{Rows, Reading, got, no, Reader, ◌then◌, map_r, told, on_word}
 use Rattle.tree.specs.Read.{read_type, value_of, read_words_up_to, has_words, read_words, read_slot}
-use Rattle.tree.specs.Walked.{passed, walked, walked_with}
-use Rattle.tree.specs.declared.Walk.{Walk}
-use Rattle.tree.proofs.OtherLines.{not-value, not-word}
-use Rattle.tree.proofs.WalkLaws.{passed-map, passed_then, passed-walk, fault_or, told_wrong}
+use Rattle.tree.specs.Walked.{passed, counted}
+use Rattle.tree.specs.declared.Counted.{Counted}
+use Rattle.tree.specs.declared.RefusedRow.{RefusedRow}
+use Rattle.tree.proofs.ElseLaws.{OtherThan, else-value, else-word}
+use Rattle.tree.proofs.WalkLaws.{passed-map, passed_then, fault_or, told_wrong}
 use Rattle.row.specs.declared.Line.TheVariants as line
 
 words_more : (n : ℕ) (rs : Rows) → 0 < n
@@ -43,10 +42,10 @@ count-start most rs =
     go (got ws q) = let e : 0 + length ws ≡ length ws = omega arith in rw e refl
     go (no k q) = refl
 
-pub count-full : (most k : ℕ) (rs : Rows) → most ≤ k → counting most k rs ≡ got k rs
+pub count-full : (most k : ℕ) (rs : Rows) → k ≡ most → counting most k rs ≡ got most rs
 unfolding counting read_words_up_to
 count-full most k rs h =
-    let e : most - k ≡ 0 = omega arith in let f : k + 0 ≡ k = omega arith in rw e (ap (λ (n : ℕ). got n rs) f)
+    let e : most - k ≡ 0 = omega arith in let f : k + 0 ≡ most = omega arith in rw e (ap (λ (n : ℕ). got n rs) f)
 
 -- what follows a slot's type: its V row and its words
 after_type : ℕ → Reader (List ℕ)
@@ -68,8 +67,8 @@ pub slot-type : (o e p : ℕ) (k : Fault) (rs q : Rows) → no k q ≡ passed (r
 slot-type o e p k rs q h = sym (slot-passed o e p rs ∙ rw (← h))
 
 -- what the code says of the first row, and the rows after it
-module _ (rs rest : Rows) (l : Line) (here : line_said l ≡ line_at rs) (after : rest ≡ rest_of rs) where
-  pub count-on : (most k w : ℕ) → k < most → l ≡ line.Word w → counting most k rs ≡ counting most (k + 1) rest
+module _ (rs rest : Rows) (l : Result Line BadLine) (here : line_said l ≡ line_at rs) (after : rest ≡ rest_of rs) where
+  pub count-on : (most k w : ℕ) → k < most → l ≡ Ok (line.Word w) → counting most k rs ≡ counting most (k + 1) rest
   unfolding line_said counting
   count-on most k w h is =
       let e : most - k - 1 ≡ most - (k + 1) = omega arith in
@@ -80,11 +79,11 @@ module _ (rs rest : Rows) (l : Line) (here : line_said l ≡ line_at rs) (after 
       go (got ws q) = let e : k + length (w ∷ ws) ≡ k + 1 + length ws = omega arith in ap (λ (n : ℕ). got n q) e
       go (no j q) = refl
 
-  pub count-stop : (most k : ℕ) → k < most → OneOf (0 ∷ 1 ∷ 2 ∷ 3 ∷ 4 ∷ 5 ∷ 6 ∷ 7 ∷ 8 ∷ 10 ∷ []) (tag_of the_type l)
+  pub count-stop : (most k : ℕ) → k < most → OtherThan 9 l
       → counting most k rs ≡ told (fault_of 87 (line_said l)) (got k) rs
   unfolding counting
   count-stop most k h other =
-      rw (words_more (most - k) rs (omega arith), ← here, not-word {A = Reader _} l _ _ other, ← here)
+      rw (words_more (most - k) rs (omega arith), ← here, else-word {A = Reader _} l _ _ other, ← here)
       (go (fault_of 87 (line_said l)))
     where
       go : (o : Option Fault)
@@ -94,28 +93,28 @@ module _ (rs rest : Rows) (l : Line) (here : line_said l ≡ line_at rs) (after 
 
   module _ (has : Bool) (is : has ≡ true) where
     pub words-first :
-        (s : Str) (w : Walk) (x k : ℕ) → l ≡ line.Word x → walked_with s w k ≡ map_r length (read_words_up_to 254) rest
-        → walked s w ≡ passed (read_words has rs)
+        (s : Str) (w : Result Counted RefusedRow) (x : ℕ) → l ≡ Ok (line.Word x)
+        → counted s w ≡ map_r length (read_words_up_to 254) rest → passed (counted s w) ≡ passed (read_words has rs)
     unfolding line_said read_words
-    words-first s w x k i e =
-        passed-walk s w k ∙ ap (λ (g : Reading ℕ). passed g) e ∙ passed-map length (read_words_up_to 254 rest)
+    words-first s w x i e =
+        ap (λ (g : Reading ℕ). passed g) e ∙ passed-map length (read_words_up_to 254 rest)
         ∙ sym (rw (is, ← here, i, ← after) (passed-map _ (read_words_up_to 254 rest)))
 
     pub words-missing :
-        OneOf (0 ∷ 1 ∷ 2 ∷ 3 ∷ 4 ∷ 5 ∷ 6 ∷ 7 ∷ 8 ∷ 10 ∷ []) (tag_of the_type l)
+        OtherThan 9 l
         → no (fault_or (fault_of 87 (line_said l))) rs ≡ passed (read_words has rs)
     unfolding read_words
     words-missing o =
-        rw (is, ← here, not-word {A = Reader _} l _ _ o, ← here) (ap passed (sym (told_wrong (fault_of 87 (line_said l)) rs)))
+        rw (is, ← here, else-word {A = Reader _} l _ _ o, ← here) (ap passed (sym (told_wrong (fault_of 87 (line_said l)) rs)))
 
   -- the first row is where a slot's type ends
   module _ (o e p : ℕ) (from : Rows) (ended : got tt rs ≡ passed (read_type 16 from)) where
     pub slot-value :
-        OneOf (0 ∷ 1 ∷ 2 ∷ 3 ∷ 4 ∷ 5 ∷ 6 ∷ 7 ∷ 9 ∷ 10 ∷ []) (tag_of the_type l)
+        OtherThan 8 l
         → no (fault_or (fault_of 86 (line_said l))) rs ≡ passed (read_slot o e p from)
     unfolding after_type value_of
     slot-value z =
-        sym (slot-passed o e p from ∙ rw (← ended, ← here, not-value {A = Reader _} l _ _ z, ← here)
+        sym (slot-passed o e p from ∙ rw (← ended, ← here, else-value {A = Reader _} l _ _ z, ← here)
         (go (fault_of 86 (line_said l))))
       where
         go : (k : Option Fault)
@@ -124,7 +123,7 @@ module _ (rs rest : Rows) (l : Line) (here : line_said l ≡ line_at rs) (after 
         go None = refl
 
     pub slot-words :
-        (w : Reading (Unit {0})) (k b : ℕ) (has : Bool) → l ≡ line.Value k b → has ≡ has_words e k
+        (w : Reading (Unit {0})) (k b : ℕ) (has : Bool) → l ≡ Ok (line.Value k b) → has ≡ has_words e k
         → w ≡ passed (read_words has rest) → w ≡ passed (read_slot o e p from)
     unfolding line_said after_type value_of
     slot-words w k b has i m h = h ∙ sym (slot-passed o e p from ∙ rw (← ended, ← here, i, ← after, ← m))

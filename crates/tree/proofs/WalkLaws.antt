@@ -1,29 +1,27 @@
 -- Laws of walks: one turn of each walk over the rows of a type, said over plain rows, the first row's line and the rows after
 -- it. Assumes nothing.
 use mathlib.Core.Path.{◌≡◌, refl, sym, ap, ◌∙◌}
-use mathlib.Core.List.{[], ◌∷◌}
-use Rattle.std.specs.Prelude.{Option}
-use Rattle.std.specs.Prelude.{Option, None, Some}
-use Prim.Native.Nat.{ℕ, zero, suc, ◌-◌, ◌<◌, ◌≤◌}
+use mathlib.Core.Bool.{Bool, true, false}
+use Rattle.std.specs.Prelude.{Option, None, Some, Result, Ok, Err}
+use Prim.Native.Nat.{ℕ, zero, suc, ◌+◌, ◌-◌, ◌<◌, ◌≤◌}
 use native.Mathlib.Omega.{arith}
-use native.Mathlib.Numerals.{sub-one}
+use native.Mathlib.Numerals.{add-one, sub-one}
 use borrow.Author.Tests.{eq-eqb, ne_eqb, lt-ltb, le-ltb}
+use lib.Dec.{eqb}
 use lib.ListN.{drop}
-use types.Run.{OneOf}
-use denote.Enum.Declared.{tag_of}
-use Rattle.text.specs.Bytes.{Str}
-use Rattle.row.specs.contracts.Line.{the_type}
+use Rattle.text.specs.Bytes.{Str, cond}
+use Rattle.terms.specs.Refusals.{number}
 use Rattle.row.specs.Rows.{rows, rest_of}
 use Rattle.row.specs.Line.{Fault, fault, misplaced, line_said, line_at, fault_of}
+use Rattle.row.specs.declared.BadLine.{BadLine}
 use Rattle.row.specs.declared.Line.{Line}
 use Rattle.row.specs.declared.Line.TheVariants.{Typ, Scope, Unbound}
 use Rattle.tree.specs.Tree.{Ty, Binds, end, stop, bound}
 use Rattle.tree.specs.Reader.{Rows, Reading, got, no, Reader, ◌then◌, map_r, told, times, on_type}
 use Rattle.tree.specs.Read.{read_binding, read_scope, type_from, read_type}
-use Rattle.tree.specs.Walked.{passed, walked, walked_with, refused_by}
-use Rattle.tree.specs.declared.Walk.{Walk}
-use Rattle.tree.specs.declared.Walk.TheVariants.{Next, Refused}
-use Rattle.tree.proofs.OtherLines.{never, not-type, not-scope, not-unbound}
+use Rattle.tree.specs.Walked.{passed, refused_row, walked, faulty_at, misplaced_at, end_at, wrong_at}
+use Rattle.tree.specs.declared.RefusedRow.{RefusedRow}
+use Rattle.tree.proofs.ElseLaws.{OtherThan, good-fault, else-type, else-scope, else-unbound}
 
 pub passed-map : {A B : Type 0} (f : A → B) (g : Reading A) → passed (g then λ a. got (f a)) ≡ passed g
 passed-map f (got a rs) = refl
@@ -34,11 +32,6 @@ pub passed_then :
     → ((a : A) (rs : Rows) → passed (k a rs) ≡ h rs) → passed (g then k) ≡ (passed g then λ u. h)
 passed_then (got a rs) k h e = e a rs
 passed_then (no n rs) k h e = refl
-
--- a walk without what it also gives
-pub passed-walk : {A : Type 0} (s : Str) (w : Walk) (a : A) → walked s w ≡ passed (walked_with s w a)
-passed-walk s (Next at) a = refl
-passed-walk s (Refused k c at) a = refl
 
 -- ---- lines that may not stand where they stand
 
@@ -59,46 +52,56 @@ told_wrong (Some k) rs = refl
 told_wrong None rs = refl
 
 pub walked_wrong :
-    (s : Str) (at : ℕ) (o : Option Fault) (r : Walk) → r ≡ refused_by o at (Refused 2 1 at)
-    → walked s r ≡ no (fault_or o) (rows (drop at s))
-walked_wrong s at (Some k) r e = rw e
-walked_wrong s at None r e = rw e
+    {A : Type 0} (s : Str) (letter at : ℕ) (l : Result Line BadLine)
+    → refused_row {A = A} s (wrong_at letter l at) ≡ no (fault_or (fault_of letter (line_said l))) (rows (drop at s))
+unfolding line_said
+walked_wrong s letter at (Ok l) = rw (good-fault letter l)
+walked_wrong {A} s letter at (Err b) = go (eqb b.letter letter)
+  where
+    go : (t : Bool)
+        → refused_row {A = A} s (elim (cond {A = Result ℕ RefusedRow} t (Err (faulty_at b at)) (Ok at))
+        [ Ok q ↦ misplaced_at at | Err r ↦ r ])
+        ≡ no (fault_or (cond t (Some (fault (number b.refusal) b.column)) None)) (rows (drop at s))
+    go true = refl
+    go false = refl
 
--- a walk that ends at a position, or at the fault there
-module _ (s : Str) (at : ℕ) (o : Option Fault) (r : Walk) (e : r ≡ refused_by o at (Next at)) where
-  pub walked_end : {A : Type 0} (a : A) → walked_with s r a ≡ told o (got a) (rows (drop at s))
-  walked_end a = go o e
+-- a walk that ends has come no further
+pub end-here : (letter at : ℕ) (l : Result Line BadLine) (q : ℕ) → end_at letter l at ≡ Ok q → at ≡ q
+end-here letter at (Ok l) q e = cc
+end-here letter at (Err b) q e = go (eqb b.letter letter) e
+  where
+    go : (t : Bool) → cond {A = Result ℕ RefusedRow} t (Err (faulty_at b at)) (Ok at) ≡ Ok q → at ≡ q
+    go true e = cc
+    go false e = cc
+
+-- where a line with a letter may stand, a reader goes on from there, unless a bad one is refused
+module _ {A : Type 0} (f : Reader A) (s : Str) (letter at : ℕ) where
+  pub end-next :
+      (l : Result Line BadLine) (q : ℕ) → end_at letter l at ≡ Ok q
+      → told (fault_of letter (line_said l)) f (rows (drop at s)) ≡ f (rows (drop q s))
+  unfolding line_said
+  end-next (Ok l) q e = rw (good-fault letter l, end-here letter at (Ok l) q e)
+  end-next (Err b) q e = rw (end-here letter at (Err b) q e) (go (eqb b.letter letter) e)
     where
-      go : (o : Option Fault) → r ≡ refused_by o at (Next at) → walked_with s r a ≡ told o (got a) (rows (drop at s))
-      go (Some k) e = rw e
-      go None e = rw e
+      go : (t : Bool) → cond {A = Result ℕ RefusedRow} t (Err (faulty_at b at)) (Ok at) ≡ Ok q
+          → told (cond t (Some (fault (number b.refusal) b.column)) None) f (rows (drop q s)) ≡ f (rows (drop q s))
+      go true e = cc
+      go false e = refl
 
-  pub told-next : {A : Type 0} (f : Reader A) (q : ℕ) → r ≡ Next q → told o f (rows (drop at s)) ≡ f (rows (drop q s))
-  told-next f q i = go o e
+  pub end-refused :
+      (l : Result Line BadLine) (r : RefusedRow) → end_at letter l at ≡ Err r
+      → told (fault_of letter (line_said l)) f (rows (drop at s)) ≡ refused_row s r
+  unfolding line_said
+  end-refused (Ok l) r e = cc
+  end-refused (Err b) r e = go (eqb b.letter letter) e
     where
-      go : (o : Option Fault) → r ≡ refused_by o at (Next at) → told o f (rows (drop at s)) ≡ f (rows (drop q s))
-      go (Some k) e = never cc
-      go None e = let z : at ≡ q = cc in rw z
-
-  pub told-refused : {A : Type 0} (f : Reader A) (k c q : ℕ) → r ≡ Refused k c q
-      → told o f (rows (drop at s)) ≡ no (fault k c) (rows (drop q s))
-  told-refused f k c q i = go o e
-    where
-      go : (o : Option Fault) → r ≡ refused_by o at (Next at) → told o f (rows (drop at s)) ≡ no (fault k c) (rows (drop q s))
-      go (Some f) e =
-          let x : f.number ≡ k = cc in
-          let y : f.column ≡ c = cc in
-          let z : at ≡ q = cc in
-          rw (← x, ← y, z)
-      go None e = never cc
-
--- a walk by where it came to, or what it refused
-module _ (s : Str) (r : Walk) (g : Reading (Unit {0})) (e : walked s r ≡ g) where
-  pub came : (q : ℕ) → r ≡ Next q → got tt (rows (drop q s)) ≡ g
-  came q i = rw i at e
-
-  pub refused : (k c q : ℕ) → r ≡ Refused k c q → no (fault k c) (rows (drop q s)) ≡ g
-  refused k c q i = rw i at e
+      go : (t : Bool)
+          → cond {A = Result ℕ RefusedRow} t (Err (faulty_at b at)) (Ok at) ≡ Err r
+          → told (cond t (Some (fault (number b.refusal) b.column)) None) f (rows (drop at s)) ≡ refused_row s r
+      go true e =
+          let z : faulty_at b at ≡ r = cc in
+          rw (← z)
+      go false e = cc
 
 -- one turn of a loop over a reader that is repeated
 module _ {A : Type 0} (one : Reader (A → A)) (none : A) (s : Str) where
@@ -106,43 +109,41 @@ module _ {A : Type 0} (one : Reader (A → A)) (none : A) (s : Str) where
   unfolding times
   times_none n at h = let z : n ≡ 0 = omega arith in rw z
 
-  times_more :
-      (n : ℕ) (rs : Rows) → 0 < n
-      → passed (times one none n rs) ≡ (passed (one rs) then λ u rest. passed (times one none (n - 1) rest))
-  unfolding times
-  times_more zero rs h = let z : ⊥ = omega arith in absurd z
-  times_more (suc n) rs h = rw (sub-one (suc n)) (passed_then (one rs) _ _ (λ f rest. passed-map f (times one none n rest)))
+  module _ (n m : ℕ) (more : n ≡ m + 1) where
+    times_more : (rs : Rows) → passed (times one none n rs) ≡ (passed (one rs) then λ u rest. passed (times one none m rest))
+    unfolding times
+    times_more rs = rw (more, add-one) (passed_then (one rs) _ _ (λ f rest. passed-map f (times one none m rest)))
 
-  pub times-on :
-      (n at q : ℕ) (r : Walk) → 0 < n → walked s r ≡ passed (one (rows (drop at s))) → r ≡ Next q
-      → passed (times one none n (rows (drop at s))) ≡ passed (times one none (n - 1) (rows (drop q s)))
-  times-on n at q r h e i = times_more n (rows (drop at s)) h ∙ rw (← e, i)
+    pub times-on :
+        (at q : ℕ) (r : Result ℕ RefusedRow) → walked s r ≡ passed (one (rows (drop at s))) → r ≡ Ok q
+        → passed (times one none n (rows (drop at s))) ≡ passed (times one none m (rows (drop q s)))
+    times-on at q r e i = times_more (rows (drop at s)) ∙ rw (← e, i)
 
-  pub times-stop :
-      (n at k c q : ℕ) (r : Walk) → 0 < n → walked s r ≡ passed (one (rows (drop at s))) → r ≡ Refused k c q
-      → passed (times one none n (rows (drop at s))) ≡ no (fault k c) (rows (drop q s))
-  times-stop n at k c q r h e i = times_more n (rows (drop at s)) h ∙ rw (← e, i)
+    pub times-stop :
+        (at : ℕ) (r : Result ℕ RefusedRow) (f : RefusedRow) → walked s r ≡ passed (one (rows (drop at s))) → r ≡ Err f
+        → passed (times one none n (rows (drop at s))) ≡ refused_row s f
+    times-stop at r f e i = times_more (rows (drop at s)) ∙ rw (← e, i)
 
 -- what the code says of the first row, and the rows after it
-module _ (rs rest : Rows) (l : Line) (here : line_said l ≡ line_at rs) (after : rest ≡ rest_of rs) where
+module _ (rs rest : Rows) (l : Result Line BadLine) (here : line_said l ≡ line_at rs) (after : rest ≡ rest_of rs) where
   module _ (ty : Reader Ty) where
-    pub binding-unbound : l ≡ Unbound → got tt rest ≡ passed (read_binding ty rs)
+    pub binding-unbound : l ≡ Ok Unbound → got tt rest ≡ passed (read_binding ty rs)
     unfolding line_said read_binding
     binding-unbound i = rw (← here, i, ← after)
 
     pub binding-other :
-        OneOf (0 ∷ 1 ∷ 2 ∷ 3 ∷ 4 ∷ 5 ∷ 6 ∷ 8 ∷ 9 ∷ 10 ∷ []) (tag_of the_type l)
+        OtherThan 7 l
         → passed (read_binding ty rs) ≡ told (fault_of 85 (line_said l)) (λ rs. passed (ty rs)) rs
     unfolding read_binding
     binding-other o =
-        rw (← here, not-unbound {A = Reader _} l _ _ o, ← here) (go (fault_of 85 (line_said l)))
+        rw (← here, else-unbound {A = Reader _} l _ _ o, ← here) (go (fault_of 85 (line_said l)))
       where
         go : (k : Option Fault)
             → passed {A = Binds → Binds} (told k (map_r (λ t bs. bound t bs) ty) rs) ≡ told k (λ rs. passed (ty rs)) rs
         go (Some k) = refl
         go None = passed-map _ (ty rs)
 
-    module _ (i b n : ℕ) (is : l ≡ Scope i b n) where
+    module _ (i b n : ℕ) (is : l ≡ Ok (Scope i b n)) where
       pub scope-inherit : b ≡ 0 → got tt rest ≡ passed (read_scope ty rs)
       unfolding line_said read_scope
       scope-inherit h = rw (← here, is, eq-eqb b 0 h, ← after)
@@ -154,11 +155,11 @@ module _ (rs rest : Rows) (l : Line) (here : line_said l ≡ line_at rs) (after 
       scope-bind w h e = e ∙ sym (rw (← here, is, ne_eqb b 0 h, ← after) (passed-map _ (times (read_binding ty) stop n rest)))
 
     pub scope_other :
-        OneOf (0 ∷ 1 ∷ 2 ∷ 3 ∷ 4 ∷ 5 ∷ 7 ∷ 8 ∷ 9 ∷ 10 ∷ []) (tag_of the_type l)
+        OtherThan 6 l
         → no (fault_or (fault_of 83 (line_said l))) rs ≡ passed (read_scope ty rs)
     unfolding read_scope
     scope_other o =
-        rw (← here, not-scope {A = Reader _} l _ _ o, ← here) (ap passed (sym (told_wrong (fault_of 83 (line_said l)) rs)))
+        rw (← here, else-scope {A = Reader _} l _ _ o, ← here) (ap passed (sym (told_wrong (fault_of 83 (line_said l)) rs)))
 
   module _ (left : ℕ) where
     type_of-more : (left ≡ 0 → ⊥) → read_type left rs ≡ on_type (type_from (read_type (left - 1))) (no misplaced) rs
@@ -170,18 +171,18 @@ module _ (rs rest : Rows) (l : Line) (here : line_said l ≡ line_at rs) (after 
         go (suc m) h = rw (sub-one (suc m))
 
     pub type_other :
-        OneOf (0 ∷ 1 ∷ 2 ∷ 3 ∷ 4 ∷ 6 ∷ 7 ∷ 8 ∷ 9 ∷ 10 ∷ []) (tag_of the_type l)
+        OtherThan 5 l
         → no (fault_or (fault_of 84 (line_said l))) rs ≡ passed (read_type left rs)
     unfolding read_type
     type_other o = go left
       where
         go : (m : ℕ) → no (fault_or (fault_of 84 (line_said l))) rs ≡ passed (read_type m rs)
         go zero =
-            rw (← here, not-type {A = Reader _} l _ _ o, ← here) (ap passed (sym (told_wrong (fault_of 84 (line_said l)) rs)))
+            rw (← here, else-type {A = Reader _} l _ _ o, ← here) (ap passed (sym (told_wrong (fault_of 84 (line_said l)) rs)))
         go (suc m) =
-            rw (← here, not-type {A = Reader _} l _ _ o, ← here) (ap passed (sym (told_wrong (fault_of 84 (line_said l)) rs)))
+            rw (← here, else-type {A = Reader _} l _ _ o, ← here) (ap passed (sym (told_wrong (fault_of 84 (line_said l)) rs)))
 
-    module _ (k a b c : ℕ) (is : l ≡ Typ k a b c) where
+    module _ (k a b c : ℕ) (is : l ≡ Ok (Typ k a b c)) where
       pub type-deep : left ≡ 0 → no (fault 4 1) rs ≡ passed (read_type left rs)
       unfolding line_said read_type
       type-deep h = rw (h, ← here, is)

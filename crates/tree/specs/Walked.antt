@@ -1,37 +1,48 @@
 -- What the code says of a reading: not the tree, but where the reading came to, or what it refused where. Assumes nothing.
-use Rattle.std.specs.Prelude.{Option, None, Some}
-use Rattle.std.specs.Prelude.{ℕ, drop}
-use Rattle.text.specs.Bytes.{Str}
+use Rattle.std.specs.Prelude.{ℕ, eqb, drop, Result, Ok, Err}
+use Rattle.text.specs.Bytes.{Str, cond}
 use Rattle.row.specs.Rows.{rows}
-use Rattle.row.specs.Line.{Fault, fault, Content, fault_of}
+use Rattle.row.specs.Line.{fault}
+use Rattle.row.specs.declared.Line.{Line}
+use Rattle.row.specs.declared.BadLine.{BadLine}
+use Rattle.terms.specs.declared.refusals.Refusal.TheVariants as refusal
+use Rattle.terms.specs.Refusals.{number}
 use Rattle.tree.specs.Reader.{Reading, got, no}
-use Rattle.tree.specs.declared.Walk.{Walk}
-use Rattle.tree.specs.declared.Walk.TheVariants.{Next, Refused}
+use Rattle.tree.specs.declared.RefusedRow.{RefusedRow}
+use Rattle.tree.specs.declared.Counted.{Counted}
 
 -- a reading without what was read
 abbrev pub passed : {A : Type 0} → Reading A → Reading (Unit {0})
 passed (got a rs) = got tt rs
 passed (no k rs) = no k rs
 
--- the rows that a walk's position stands for
-abbrev pub walked : Str → Walk → Reading (Unit {0})
-walked s (Next at) = got tt (rows (drop at s))
-walked s (Refused k c at) = no (fault k c) (rows (drop at s))
+-- a reading that is refused at a row
+abbrev pub refused_row : {A : Type 0} → Str → RefusedRow → Reading A
+refused_row s r = no (fault (number r.refusal) r.column) (rows (drop r.at s))
 
--- a walk that also gives something
-abbrev pub walked_with : {A : Type 0} → Str → Walk → A → Reading A
-walked_with s (Next at) a = got a (rows (drop at s))
-walked_with s (Refused k c at) a = no (fault k c) (rows (drop at s))
+-- the rows that a walk's position stands for, or the row that it refuses
+abbrev pub walked : Str → Result ℕ RefusedRow → Reading (Unit {0})
+walked s (Ok at) = got tt (rows (drop at s))
+walked s (Err r) = refused_row s r
 
--- a walk that is refused by a fault, if there is one, and else another
-abbrev pub refused_by : Option Fault → ℕ → Walk → Walk
-refused_by (Some k) at other = Refused k.number k.column at
-refused_by None at other = other
+-- a walk over rows that are counted
+abbrev pub counted : Str → Result Counted RefusedRow → Reading ℕ
+counted s (Ok c) = got c.count (rows (drop c.next s))
+counted s (Err r) = refused_row s r
 
--- where a line with a letter may stand, and l stands there: a bad one is refused by its fault, and at any other the walk ends
-abbrev pub end_at : ℕ → Content → ℕ → Walk
-end_at letter l at = refused_by (fault_of letter l) at (Next at)
+-- a bad line that stands at a place is refused by its fault
+abbrev pub faulty_at : BadLine → ℕ → RefusedRow
+faulty_at b at = record { refusal = b.refusal; column = b.column; at = at }
 
--- where a line with a letter must stand, and l stands there: a bad one is refused by its fault, and any other by 2
-abbrev pub wrong_at : ℕ → Content → ℕ → Walk
-wrong_at letter l at = refused_by (fault_of letter l) at (Refused 2 1 at)
+-- a line that may not stand at a place
+abbrev pub misplaced_at : ℕ → RefusedRow
+misplaced_at at = record { refusal = refusal.BadLine; column = 1; at = at }
+
+-- where a line with a letter may stand, and this one stands: a bad one is refused by its fault, and at any other the walk ends
+abbrev pub end_at : ℕ → Result Line BadLine → ℕ → Result ℕ RefusedRow
+end_at letter (Ok l) at = Ok at
+end_at letter (Err b) at = cond (eqb b.letter letter) (Err (faulty_at b at)) (Ok at)
+
+-- where a line with a letter must stand, and this one stands: a bad one is refused by its fault, and any other by 2
+abbrev pub wrong_at : ℕ → Result Line BadLine → ℕ → RefusedRow
+wrong_at letter line at = elim (end_at letter line at) [ Ok q ↦ misplaced_at at | Err r ↦ r ]

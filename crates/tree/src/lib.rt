@@ -1,161 +1,125 @@
 // Walks over the parts of a sheet: a type with its brand, a slot's default and words. Each gives the position after the part,
-// or its refusal with the column and the position of the bad line.
+// or the row that is refused.
 #![tactic(auto)]
 
 ghost use Rattle.std.specs.Prelude.{◌≡◌, ℕ, drop, length};
 ghost use Rattle.row.specs.Rows.{rows};
-ghost use Rattle.row.specs.Line.{line_said};
 ghost use Rattle.tree.specs.Tree.{end, stop};
 ghost use Rattle.tree.specs.Reader.{map_r, times};
 ghost use Rattle.tree.specs.Read.{read_type, read_scope, read_binding, read_words_up_to, read_words, has_words, read_slot};
-ghost use Rattle.tree.specs.Walked.{passed, walked, walked_with, end_at, wrong_at};
+ghost use Rattle.tree.specs.Walked.{passed, walked, counted, end_at, wrong_at};
 
-use row::Line;
-use terms::{kinds, refusals};
+use row::{BadLine, Line};
+use terms::{Refusal, kinds};
 
-// Where a walk came to: the next row, or the row that is refused, with the number of the refusal and its column.
+// A row that is refused: why, the column, and where it stands.
 #[derive(Clone, Copy)]
-pub enum Walk {
-    Next {
-        at: usize,
-    },
-    Refused {
-        number: u64,
-        column: usize,
-        at: usize,
-    },
+pub struct RefusedRow {
+    pub refusal: Refusal,
+    pub column: usize,
+    pub at: usize,
 }
 
-// A walk over W rows, and how many they are.
+// W rows that stand one after the other: how many, and where the row after them stands.
 #[derive(Clone, Copy)]
 pub struct Counted {
-    pub walk: Walk,
     pub count: u64,
+    pub next: usize,
 }
 
 // Where a line with a letter may stand and this one stands: a bad line with that letter is refused by its fault; at any other the
 // walk ends.
-pub fn end_at(line: Line, letter: u8, at: usize) -> Walk
-    ensures { result ≡ end_at letter (line_said line) at }
+pub fn end_at(line: Result<Line, BadLine>, letter: u8, at: usize) -> Result<usize, RefusedRow>
+    ensures { result ≡ end_at letter line at }
 {
     match line {
-        Line::Bad {
-            letter: other,
-            number,
-            column,
-        } => {
-            if other == letter {
-                return Walk::Refused { number, column, at };
-            }
-            Walk::Next { at }
-        }
-        _ => Walk::Next { at },
+        Err(bad) if bad.letter == letter => Err(RefusedRow {
+            refusal: bad.refusal,
+            column: bad.column,
+            at,
+        }),
+        _ => Ok(at),
     }
 }
 
 // Where a line with a letter must stand and this one stands: a bad line with that letter is refused by its fault, any other as
 // one that may not stand there.
-pub fn wrong_at(line: Line, letter: u8, at: usize) -> Walk
-    ensures { result ≡ wrong_at letter (line_said line) at }
+pub fn wrong_at(line: Result<Line, BadLine>, letter: u8, at: usize) -> RefusedRow
+    ensures { result ≡ wrong_at letter line at }
 {
     match end_at(line, letter, at) {
-        Walk::Next { at: _ } => Walk::Refused {
-            number: refusals::BAD_LINE,
+        Ok(_) => RefusedRow {
+            refusal: Refusal::BadLine,
             column: 1,
             at,
         },
-        Walk::Refused {
-            number,
-            column,
-            at: _,
-        } => Walk::Refused { number, column, at },
+        Err(refused) => refused,
     }
 }
 
 // One type with so many levels left: a T row, and what belongs to it.
 #[cycle(binding_binds_scope_scopes_typ)]
-fn typ(s: &[u8], at: usize, left: usize) -> Walk
+fn typ(s: &[u8], at: usize, left: usize) -> Result<usize, RefusedRow>
     ensures { walked s.now result ≡ passed (read_type left (rows (drop at s.now))) }
 {
-    let g = row::next(s, at);
-    let l = g.line;
-    let e = g.next;
-    match l {
+    let row = row::next(s, at);
+    let Ok(
         Line::Typ {
             kind,
             a: _,
             b,
             c: _,
-        } => {
-            if left == 0 {
-                return Walk::Refused {
-                    number: refusals::TOO_DEEP,
-                    column: 1,
-                    at,
-                };
-            }
-            match kind {
-                kinds::LIST => typ(s, e, left - 1),
-                kinds::ENUM..=kinds::INTERFACE => scopes(s, e, b, left - 1),
-                _ => Walk::Next { at: e },
-            }
-        }
-        _ => wrong_at(l, b'T', at),
+        },
+    ) = row.line
+    else {
+        return Err(wrong_at(row.line, b'T', at));
+    };
+    if left == 0 {
+        return Err(RefusedRow {
+            refusal: Refusal::TooDeep,
+            column: 1,
+            at,
+        });
+    }
+    match kind {
+        kinds::LIST => typ(s, row.next, left - 1),
+        kinds::ENUM..=kinds::INTERFACE => scopes(s, row.next, b, left - 1),
+        _ => Ok(row.next),
     }
 }
 
 // So many scopes, whose bindings have so many levels left.
 #[cycle(binding_binds_scope_scopes_typ)]
-fn scopes(s: &[u8], from: usize, count: u64, left: usize) -> Walk
+fn scopes(s: &[u8], from: usize, count: u64, left: usize) -> Result<usize, RefusedRow>
     ensures { walked s.now result
         ≡ passed (times (read_scope (read_type left)) end count (rows (drop from s.now))) }
 {
     let mut at = from;
-    let mut n = count;
-    while 0 < n {
-        match scope(s, at, left) {
-            Walk::Next { at: q } => {
-                at = q;
-            }
-            Walk::Refused {
-                number,
-                column,
-                at: q,
-            } => {
-                return Walk::Refused {
-                    number,
-                    column,
-                    at: q,
-                };
-            }
-        }
-        n -= 1;
+    for _ in 0..count {
+        at = scope(s, at, left)?;
     }
-    Walk::Next { at }
+    Ok(at)
 }
 
 // One scope: an S row and its bindings.
 #[cycle(binding_binds_scope_scopes_typ)]
-fn scope(s: &[u8], at: usize, left: usize) -> Walk
+fn scope(s: &[u8], at: usize, left: usize) -> Result<usize, RefusedRow>
     ensures { walked s.now result ≡ passed (read_scope (read_type left) (rows (drop at s.now))) }
 {
-    let g = row::next(s, at);
-    let l = g.line;
-    let e = g.next;
-    match l {
-        Line::Scope { id: _, bind, count } => {
-            if bind == 0 {
-                return Walk::Next { at: e };
-            }
-            binds(s, e, count, left)
-        }
-        _ => wrong_at(l, b'S', at),
+    let row = row::next(s, at);
+    let Ok(Line::Scope { bind, count, .. }) = row.line else {
+        return Err(wrong_at(row.line, b'S', at));
+    };
+    if bind == 0 {
+        return Ok(row.next);
     }
+    binds(s, row.next, count, left)
 }
 
-// So many bindings, whose types have so many levels left: in each turn the U rows that stand there, or one binding.
+// So many bindings, whose types have so many levels left: in each turn the U rows that stand there, or one binding. A turn may
+// pass over many rows, so the loop counts what is left.
 #[cycle(binding_binds_scope_scopes_typ)]
-fn binds(s: &[u8], from: usize, count: u64, left: usize) -> Walk
+fn binds(s: &[u8], from: usize, count: u64, left: usize) -> Result<usize, RefusedRow>
     ensures { walked s.now result
         ≡ passed (times (read_binding (read_type left)) stop count (rows (drop from s.now))) }
 {
@@ -168,73 +132,43 @@ fn binds(s: &[u8], from: usize, count: u64, left: usize) -> Walk
             n -= u;
             continue;
         }
-        match binding(s, at, left) {
-            Walk::Next { at: q } => {
-                at = q;
-            }
-            Walk::Refused {
-                number,
-                column,
-                at: q,
-            } => {
-                return Walk::Refused {
-                    number,
-                    column,
-                    at: q,
-                };
-            }
-        }
+        at = binding(s, at, left)?;
         n -= 1;
     }
-    Walk::Next { at }
+    Ok(at)
 }
 
 // One binding: a U row, or a type.
 #[cycle(binding_binds_scope_scopes_typ)]
-fn binding(s: &[u8], at: usize, left: usize) -> Walk
+fn binding(s: &[u8], at: usize, left: usize) -> Result<usize, RefusedRow>
     ensures { walked s.now result ≡ passed (read_binding (read_type left) (rows (drop at s.now))) }
 {
-    let g = row::next(s, at);
-    let l = g.line;
-    let e = g.next;
-    match l {
-        Line::Unbound => Walk::Next { at: e },
-        _ => match end_at(l, b'U', at) {
-            Walk::Next { at: q } => typ(s, q, left),
-            Walk::Refused {
-                number,
-                column,
-                at: q,
-            } => Walk::Refused {
-                number,
-                column,
-                at: q,
-            },
-        },
-    }
+    let row = row::next(s, at);
+    let Ok(Line::Unbound) = row.line else {
+        let at = end_at(row.line, b'U', at)?;
+        return typ(s, at, left);
+    };
+    Ok(row.next)
 }
 
 // The W rows that stand there, up to so many.
-pub fn words_up_to(s: &[u8], from: usize, most: u64) -> Counted
-    ensures { walked_with s.now result.walk result.count
+pub fn words_up_to(s: &[u8], from: usize, most: u64) -> Result<Counted, RefusedRow>
+    ensures { counted s.now result
         ≡ map_r length (read_words_up_to most) (rows (drop from s.now)) }
 {
     let mut at = from;
-    let mut count: u64 = 0;
-    while count < most {
-        let g = row::next(s, at);
-        let line = g.line;
-        let Line::Word { value: _ } = line else {
-            let walk = end_at(line, b'W', at);
-            return Counted { walk, count };
+    for count in 0..most {
+        let row = row::next(s, at);
+        let Ok(Line::Word { .. }) = row.line else {
+            let next = end_at(row.line, b'W', at)?;
+            return Ok(Counted { count, next });
         };
-        at = g.next;
-        count += 1;
+        at = row.next;
     }
-    Counted {
-        walk: Walk::Next { at },
-        count,
-    }
+    Ok(Counted {
+        count: most,
+        next: at,
+    })
 }
 
 // Whether W rows belong to a slot, by its explicit flag and the kind of its V row.
@@ -251,45 +185,29 @@ pub fn has_words(explicit: u64, kind: u64) -> bool
 }
 
 // The W rows of a slot: 1 to 255 where they belong, else none.
-fn words(s: &[u8], at: usize, has: bool) -> Walk
+fn words(s: &[u8], at: usize, has: bool) -> Result<usize, RefusedRow>
     ensures { walked s.now result ≡ passed (read_words has (rows (drop at s.now))) }
 {
-    if has {
-        let g = row::next(s, at);
-        let l = g.line;
-        let e = g.next;
-        let Line::Word { value: _ } = l else {
-            return wrong_at(l, b'W', at);
-        };
-        let w = words_up_to(s, e, 254);
-        return w.walk;
+    if !has {
+        return Ok(at);
     }
-    Walk::Next { at }
+    let row = row::next(s, at);
+    let Ok(Line::Word { .. }) = row.line else {
+        return Err(wrong_at(row.line, b'W', at));
+    };
+    let words = words_up_to(s, row.next, 254)?;
+    Ok(words.next)
 }
 
 // What belongs to an F row with this explicit flag: a type, a V row and its words.
-pub fn slot(s: &[u8], at: usize, explicit: u64) -> Walk
+pub fn slot(s: &[u8], at: usize, explicit: u64) -> Result<usize, RefusedRow>
     ensures { (o p : ℕ) → walked s.now result
         ≡ passed (read_slot o explicit p (rows (drop at s.now))) }
 {
-    match typ(s, at, 16) {
-        Walk::Next { at: v } => {
-            let g = row::next(s, v);
-            let l = g.line;
-            let e = g.next;
-            let Line::Value { kind, bits: _ } = l else {
-                return wrong_at(l, b'V', v);
-            };
-            words(s, e, has_words(explicit, kind))
-        }
-        Walk::Refused {
-            number,
-            column,
-            at: q,
-        } => Walk::Refused {
-            number,
-            column,
-            at: q,
-        },
-    }
+    let end = typ(s, at, 16)?;
+    let row = row::next(s, end);
+    let Ok(Line::Value { kind, .. }) = row.line else {
+        return Err(wrong_at(row.line, b'V', end));
+    };
+    words(s, row.next, has_words(explicit, kind))
 }

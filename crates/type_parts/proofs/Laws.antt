@@ -1,7 +1,7 @@
 -- Laws of the parts of a type's text: texts in other groupings, arguments one after the other. Assumes nothing.
 use mathlib.Core.Path.{◌≡◌, refl, sym, ap, ◌∙◌, subst}
 use mathlib.Core.List.{List, [], ◌∷◌, ◌++◌, append_assoc, append-nil, map}
-use Rattle.std.specs.Prelude.{Option, None, Some}
+use Rattle.std.specs.Prelude.{Option, None, Some, Result, Ok, Err}
 use Prim.Native.Nat.{ℕ, zero, suc, ◌-◌, ◌<◌, ◌≤◌}
 use native.Mathlib.Numerals.{sub-one}
 use native.Mathlib.Omega.{arith}
@@ -19,29 +19,24 @@ use Rattle.tree.specs.Reader.{Rows}
 use Rattle.codegen_types.specs.TypeString.{type_string, get_qualified_module, parameter_name, parameter_string, angled}
 use Rattle.codegen_types.specs.Leaf.{bare_name, maybe_colons, leaf_arguments}
 use Rattle.codegen_types.specs.declared.Leaf.{Leaf}
-use Rattle.codegen_types.specs.declared.Lifetime.{Lifetime}
 use Rattle.codegen_types.specs.declared.Leaf.TheVariants.{Reader, Builder, Owned, Client, Server, ServerDispatch, Pipeline}
 use Rattle.codegen_types.specs.declared.Leaf.TheVariants.{GetType}
+use Rattle.codegen_types.specs.declared.Lifetime.{Lifetime}
+use Rattle.terms.specs.Refusals.{number}
+use Rattle.terms.specs.declared.refusals.Refusal.{Refusal}
 use Rattle.codegen_types.specs.Out.{Out, ok, refused, or_refused, ◌then◌}
-use Rattle.codegen_types.specs.Written.{Writes, refusal_number}
-use Rattle.codegen_types.specs.declared.Written.{Written}
 use Rattle.codegen_types.proofs.WrittenLaws.{ok-one, not-ok}
 use Rattle.codegen_types.proofs.NodeLaws.{node_missing, node-there, parameter-named}
 use Rattle.nodes.specs.Index.{names_of, nth, lookup, Indexed, EntryIs, NameAt}
 use Rattle.nodes.specs.declared.Entry.{Entry}
-use Rattle.nodes.specs.declared.Found.{Found}
-use Rattle.nodes.specs.declared.Found.TheVariants as found
-use Rattle.nodes.specs.declared.Position.{Position}
-use Rattle.nodes.specs.declared.Position.TheVariants as position
 use Rattle.type_parts.specs.Parts.{listed, sep_after, closer, texts_of, Listed, Lists, Opened}
 use Rattle.type_parts.specs.declared.Arguments.{Arguments}
-use Rattle.type_parts.specs.declared.Argued.{Argued}
 
 -- ---- texts in other groupings
 
-pub in_three : {l : List ℕ} {t : Text} {l' : List ℕ} {r : Written} (x a b c : Str)
-    → Writes (ok (x ++ (a ++ b ++ c))) l t l' r → Writes (ok (x ++ a ++ b ++ c)) l t l' r
-in_three {l} {t} {l'} {r} x a b c h = subst (λ (w : Str). Writes (ok w) l t l' r) (same x a b c) h
+pub in_three : {l : List ℕ} {t : Text} {l' : List ℕ} {u : Text} (x a b c : Str)
+    → Wrote l t (x ++ (a ++ b ++ c)) l' u → Wrote l t (x ++ a ++ b ++ c) l' u
+in_three {l} {t} {l'} {u} x a b c h = subst (λ (w : Str). Wrote l t w l' u) (same x a b c) h
   where
     same : (x a b c : Str) → x ++ (a ++ b ++ c) ≡ x ++ a ++ b ++ c
     same x a b c = simp append_assoc
@@ -69,22 +64,22 @@ refused-leaf root p GetType r b o l = refl
 
 -- ---- nodes: a claim `Q` of what the Rust gives
 
-module _ (s : Str) (sheet : Sheet) (index : List ℕ) (id : ℕ) (f : Found) (e : f ≡ lookup index id)
+module _ (s : Str) (sheet : Sheet) (index : List ℕ) (id : ℕ) (f : Option Entry) (e : f ≡ lookup index id)
     (x : Indexed s sheet.nodes index) (Q : Out Str → Type 0) where
-  pub module-none : f ≡ found.Nothing → Q (refused 5) → Q (get_qualified_module sheet id)
+  pub module-none : f ≡ None → Q (refused 5) → Q (get_qualified_module sheet id)
   module-none h q = rw (node_missing s sheet.nodes index id f e x h) q
 
-  pub module-at : (n : Entry) → f ≡ found.At n → (name : Str)
+  pub module-at : (n : Entry) → f ≡ Some n → (name : Str)
       → ((index : List ℕ) (m : Node) → EntryIs s index n m → name ≡ m.the_mod) → Q (ok name) → Q (get_qualified_module sheet id)
   module-at n h name named q = node-there s sheet.nodes index id f e x n h (λ o. Q (o then λ m. ok m.the_mod))
       (λ m y w. rw (← named index m w) q)
 
   module _ (leaf : Leaf) (k : ℕ) where
-    pub parameter-none : f ≡ found.Nothing → Q (refused 5) → Q (type_string (parameter id k) sheet leaf)
+    pub parameter-none : f ≡ None → Q (refused 5) → Q (type_string (parameter id k) sheet leaf)
     unfolding type_string
     parameter-none h q = rw (node_missing s sheet.nodes index id f e x h) q
 
-    module _ (n : Entry) (h : f ≡ found.At n) (g : Position)
+    module _ (n : Entry) (h : f ≡ Some n) (g : Option ℕ)
         (there : (m : Node) → EntryIs s index n m → NameAt s g k m.params) where
       by_name : (o : Option Str) → ((m : Node) → EntryIs s index n m → nth k m.params ≡ o)
           → Q (or_refused 13 o then λ p. parameter_string sheet.root leaf p) → Q (type_string (parameter id k) sheet leaf)
@@ -93,10 +88,10 @@ module _ (s : Str) (sheet : Sheet) (index : List ℕ) (id : ℕ) (f : Found) (e 
           (λ o. Q (o then λ m. parameter_name m.params k then λ p. parameter_string sheet.root leaf p))
           (λ m y w. rw (parameter-named m.params k, is m w) q)
 
-      pub parameter-out : g ≡ position.Nothing → Q (refused 13) → Q (type_string (parameter id k) sheet leaf)
+      pub parameter-out : g ≡ None → Q (refused 13) → Q (type_string (parameter id k) sheet leaf)
       parameter-out z q = by_name None (λ m w. rw z at (there m w)) q
 
-      pub parameter-at : (place : ℕ) → g ≡ position.At place
+      pub parameter-at : (place : ℕ) → g ≡ Some place
           → Q (parameter_string sheet.root leaf (text_at (rows (drop place s)))) → Q (type_string (parameter id k) sheet leaf)
       parameter-at place z q = by_name (Some (text_at (rows (drop place s)))) (λ m w. rw z at (there m w)) q
 
@@ -120,20 +115,24 @@ listed_cons {ws = ws} a h = record { text = a ⨾ h.text; sep = h.sep ∙ last w
     last (w ∷ ws) = refl
 
 -- arguments that are not refused, and a refusal
-pub all_listed : {l : List ℕ} {p : Arguments} {ws : List Str} {l' : List ℕ} {r : Argued} → Listed l p ws l' r.arguments
-    → refusal_number r.refusal ≡ None → Lists (ok ws) l p l' r
-all_listed {l} {p} {ws} {l'} {r} h n = record {
-  refusal = n;
-  listed = λ v e. subst (λ (x : List Str). Listed l p x l' r.arguments) (ok-one e) h;
+pub all_listed : {l : List ℕ} {p : Arguments} {ws : List Str} {l' : List ℕ} {q : Arguments} → Listed l p ws l' q
+    → Lists (ok ws) l p l' (Ok q)
+all_listed {l} {p} {ws} {l'} {q} h = record {
+  refusal = refl;
+  listed = λ v u e f. subst (λ (y : Arguments). Listed l p v l' y) (same f)
+      (subst (λ (x : List Str). Listed l p x l' q) (ok-one e) h);
 }
+  where
+    same : {u : Arguments} → ◌≡◌ {A = Result Arguments Refusal} (Ok q) (Ok u) → q ≡ u
+    same e = cc
 
-pub not_listed : {l : List ℕ} {p : Arguments} {k : ℕ} {l' : List ℕ} {r : Argued} → refusal_number r.refusal ≡ Some k
-    → Lists (refused k) l p l' r
-not_listed n = record { refusal = n; listed = λ ws e. absurd (not-ok e) }
+pub not_listed : {l : List ℕ} {p : Arguments} {k : ℕ} {l' : List ℕ} {e : Refusal} → number e ≡ k
+    → Lists (refused k) l p l' (Err e)
+not_listed n = record { refusal = ap Some n; listed = λ ws q e. absurd (not-ok e) }
 
-pub listed_of : {l : List ℕ} {p : Arguments} {ws : List Str} {l' : List ℕ} {r : Argued} → Lists (ok ws) l p l' r
-    → Listed l p ws l' r.arguments
-listed_of h = h.listed _ refl
+pub listed_of : {l : List ℕ} {p : Arguments} {ws : List Str} {l' : List ℕ} {q : Arguments} → Lists (ok ws) l p l' (Ok q)
+    → Listed l p ws l' q
+listed_of h = h.listed _ _ refl refl
 
 -- the name of the first P row, where there is one
 pub names-on : (rs : Rows) → 0 < length (names_of rs) → names_of rs ≡ text_at rs ∷ names_of (rest_of rs)

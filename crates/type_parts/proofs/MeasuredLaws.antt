@@ -3,8 +3,8 @@
 -- are counted at once. Assumes nothing.
 use mathlib.Core.Path.{◌≡◌, refl, sym, ◌∙◌}
 use mathlib.Core.List.{List, [], ◌∷◌, ◌++◌}
-use Prim.Native.Nat.{ℕ, zero, suc, ◌+◌, ◌-◌, ◌*◌, ◌/◌, ◌^◌, ◌<◌, ◌≤◌, min}
-use native.Mathlib.Nat.{suc-mul, zero-mul, div-lt_iff_lt-mul, le-div_iff_mul-le}
+use Prim.Native.Nat.{ℕ, zero, suc, ◌+◌, ◌-◌, ◌*◌, ◌^◌, ◌<◌, ◌≤◌, min}
+use native.Mathlib.Nat.{suc-mul, zero-mul}
 use native.Mathlib.Omega.{arith}
 use lib.ListN.{length, replicate, length-append, length-replicate}
 use Rattle.text.specs.Bytes.{Str, ascii, unit}
@@ -67,14 +67,6 @@ listed_swap {p} {p'} x y h = record {
 }
 
 -- ---- arguments counted at once
-
--- whether a product takes the count past the largest usize, where it stops
-module _ (at n size : ℕ) (some : 0 < size) (b : at ≤ 2 ^ 64 - 1) where
-  pub count-stops : (2 ^ 64 - 1 - at) / size < n → 2 ^ 64 - 1 ≡ min (at + n * size) (2 ^ 64 - 1)
-  count-stops h = omega (arith, (div-lt_iff_lt-mul some).0 h)
-
-  pub count_fits : n ≤ (2 ^ 64 - 1 - at) / size → at + n * size ≤ 2 ^ 64 - 1
-  count_fits h = omega (arith, (le-div_iff_mul-le some).0 h)
 
 sep-some : (b : ℕ) (ws : List Str) → 0 < length ws → 44 ≡ sep_after b ws
 unfolding sep_after

@@ -1,37 +1,28 @@
 // The parts of a type's text that lie outside the cycle of `type_string` and `do_branding`.
 #![tactic(auto)]
 
-ghost use Rattle.std.specs.Prelude.{◌≡◌, ◌++◌, ◌+◌, ◌-◌, ◌*◌, ◌^◌, ◌<◌, min, drop, replicate};
+ghost use Rattle.std.specs.Prelude.{◌≡◌, ◌++◌, ◌+◌, ◌-◌, ◌*◌, ◌^◌, min, drop, replicate};
 ghost use Rattle.text.specs.Bytes.{Str, ascii};
-ghost use Rattle.text.specs.Text.{Wrote, WroteSome, state_at};
+ghost use Rattle.text.specs.Text.{Wrote, state_at};
 ghost use Rattle.row.specs.Rows.{rows};
 ghost use Rattle.tree.specs.Tree.{parameter};
-ghost use Rattle.nodes.specs.Index.{ForAll};
-ghost use Rattle.codegen_types.specs.Out.{ok};
-ghost use Rattle.codegen_types.specs.Written.{Writes};
+ghost use Rattle.nodes.specs.Index.{ForAll, InSource};
+ghost use Rattle.codegen_types.specs.Written.{Writes, Within};
 ghost use Rattle.codegen_types.specs.Leaf.{display, bare_name, lifetime_comma};
 ghost use Rattle.codegen_types.specs.TypeString.{plain_string, list_module};
 ghost use Rattle.codegen_types.specs.TypeString.{any_owned, parameter_string, get_qualified_module, type_string};
 ghost use Rattle.type_parts.specs.Parts.{Listed, Opened, closer, texts_of};
 
-use codegen_types::{Leaf, Lifetime, Refusal, Written};
-use nodes::{Found, Position};
-use terms::{kinds, refusals};
+use codegen_types::{Leaf, Lifetime};
+use nodes::Source;
+use terms::{Refusal, kinds};
 use text::Text;
 
-// The arguments of a brand while they are written: the text so far, and the byte that stands before the next one, `<` or a comma.
+// The arguments of a brand while they are written: the text so far, and the byte before the next one, `<` or a comma.
 #[derive(Clone, Copy)]
 pub struct Arguments {
     pub text: Text,
     pub sep: u8,
-}
-
-// What a writer of arguments leaves: those that are written, and the refusal of what it was to write, if there is one. Arguments
-// that are refused count for nothing.
-#[derive(Clone, Copy)]
-pub struct Argued {
-    pub arguments: Arguments,
-    pub refusal: Refusal,
 }
 
 // How many bytes stand behind the root in the text of a parameter that is not bound.
@@ -89,74 +80,74 @@ pub fn any_owned(root: &[u8], t: Text, buf: &mut [u8]) -> Text
 }
 
 // An associated type of a parameter, as `<T as ::capnp::traits::Owned>::Reader<'a>`.
-fn projected(root: &[u8], name: &[u8], tail: &[u8], t: Text, buf: &mut [u8]) -> Written
-    ensures { Writes (ok (ascii "<" ++ name.now ++ ascii " as " ++ root.now ++ tail.now))
-        buf.old t buf.new result }
+fn projected(root: &[u8], name: &[u8], tail: &[u8], t: Text, buf: &mut [u8]) -> Text
+    ensures { Wrote buf.old t (ascii "<" ++ name.now ++ ascii " as " ++ root.now ++ tail.now) buf.new result }
 {
     let t = t.byte(buf, b'<');
     let t = t.bytes(buf, name);
     let t = t.bytes(buf, b" as ");
     let t = t.bytes(buf, root);
-    codegen_types::whole(t.bytes(buf, tail))
+    t.bytes(buf, tail)
 }
 
 // A parameter's text by its name: 7 under Client, Server, ServerDispatch and GetType.
-fn parameter_text(root: &[u8], name: &[u8], leaf: Leaf, t: Text, buf: &mut [u8]) -> Written
-    ensures text { Writes (parameter_string root.now leaf name.now) buf.old t
-        buf.new result }
-    ensures some { WroteSome buf.old t buf.new result.text }
+#[tactic(auto, unfolding(codegen_types::specs::TypeString::parameter_string))]
+fn parameter_text(
+    root: &[u8],
+    name: &[u8],
+    leaf: Leaf,
+    t: Text,
+    buf: &mut [u8],
+) -> Result<Text, Refusal>
+    ensures text { Writes (parameter_string root.now leaf name.now) buf.old t buf.new result }
+    ensures within { Within buf.old t buf.new result }
 {
-    match leaf {
-        Leaf::Reader(lifetime) => match lifetime {
-            Lifetime::A => projected(root, name, b"::traits::Owned>::Reader<'a>", t, buf),
-            Lifetime::Anonymous => projected(root, name, b"::traits::Owned>::Reader<'_>", t, buf),
-        },
-        Leaf::Builder(lifetime) => match lifetime {
-            Lifetime::A => projected(root, name, b"::traits::Owned>::Builder<'a>", t, buf),
-            Lifetime::Anonymous => projected(root, name, b"::traits::Owned>::Builder<'_>", t, buf),
-        },
-        Leaf::Owned => codegen_types::whole(t.bytes(buf, name)),
-        Leaf::Pipeline => projected(root, name, b"::traits::Pipelined>::Pipeline", t, buf),
-        _ => codegen_types::refused(refusals::PARAMETER_LEAF, t),
-    }
+    let tail: &[u8] = match leaf {
+        Leaf::Reader(Lifetime::A) => b"::traits::Owned>::Reader<'a>",
+        Leaf::Reader(Lifetime::Anonymous) => b"::traits::Owned>::Reader<'_>",
+        Leaf::Builder(Lifetime::A) => b"::traits::Owned>::Builder<'a>",
+        Leaf::Builder(Lifetime::Anonymous) => b"::traits::Owned>::Builder<'_>",
+        Leaf::Pipeline => b"::traits::Pipelined>::Pipeline",
+        Leaf::Owned => return Ok(t.bytes(buf, name)),
+        Leaf::Client | Leaf::Server | Leaf::ServerDispatch | Leaf::GetType => {
+            return Err(Refusal::ParameterLeaf);
+        }
+    };
+    Ok(projected(root, name, tail, t, buf))
 }
 
 // An AnyPointer that is the parameter with a number of a node: 5 where the node is not there, 13 where it has no such parameter.
 pub fn parameter(
-    root: &[u8],
-    s: &[u8],
-    index: &[u64],
+    source: &Source<'_>,
     id: u64,
     k: u64,
     leaf: Leaf,
     t: Text,
     buf: &mut [u8],
-) -> Written
-    ensures text { ForAll root.now s.now index.now
+) -> Result<Text, Refusal>
+    ensures text { InSource source.now
         (λ sheet. Writes (type_string (parameter id k) sheet leaf) buf.old t buf.new result) }
-    ensures some { WroteSome buf.old t buf.new result.text }
+    ensures within { Within buf.old t buf.new result }
 {
-    let Found::At(node) = nodes::find(index, id) else {
-        return codegen_types::refused(refusals::NO_NODE, t);
-    };
-    let Position::At(place) = nodes::parameter(s, index, node, k) else {
-        return codegen_types::refused(refusals::PARAMETER_INDEX, t);
-    };
-    let name = row::text(s, place);
-    parameter_text(root, name, leaf, t, buf)
+    let node = source.find(id).ok_or(Refusal::NoNode)?;
+    let place = source.parameter(node, k).ok_or(Refusal::ParameterIndex)?;
+    let name = row::text(source.bytes, place);
+    parameter_text(source.root, name, leaf, t, buf)
 }
 
 // The module of a node: 5 where the node is not there.
-pub fn qualified_module(s: &[u8], index: &[u64], id: u64, t: Text, buf: &mut [u8]) -> Written
-    ensures text { (root : Str) → ForAll root s.now index.now
+pub fn qualified_module(
+    source: &Source<'_>,
+    id: u64,
+    t: Text,
+    buf: &mut [u8],
+) -> Result<Text, Refusal>
+    ensures text { (root : Str) → ForAll root source.now.bytes.now source.now.index.now
         (λ sheet. Writes (get_qualified_module sheet id) buf.old t buf.new result) }
-    ensures some { WroteSome buf.old t buf.new result.text }
+    ensures within { Within buf.old t buf.new result }
 {
-    let Found::At(node) = nodes::find(index, id) else {
-        return codegen_types::refused(refusals::NO_NODE, t);
-    };
-    let name = nodes::module(s, node);
-    codegen_types::whole(t.bytes(buf, name))
+    let node = source.find(id).ok_or(Refusal::NoNode)?;
+    Ok(t.bytes(buf, source.module(node)))
 }
 
 // So many texts of the rows from a position on: the own names of a node's parameters, where the position is that of its P rows.
@@ -164,90 +155,72 @@ pub fn inherited(s: &[u8], from: usize, count: u64, first: Arguments, buf: &mut 
     ensures { Listed buf.old first (texts_of count (rows (drop from s.now))) buf.new result }
 {
     let mut at = from;
-    let mut n = count;
     let mut p = first;
-    while 0 < n {
+    for _ in 0..count {
         let g = row::next(s, at);
         let name = row::text_before(s, at, g.next);
-        let t = p.text;
-        let t = t.byte(buf, p.sep);
+        let t = p.text.byte(buf, p.sep);
         let t = t.bytes(buf, name);
         p = Arguments { text: t, sep: b',' };
         at = g.next;
-        n -= 1;
     }
     p
 }
 
 // The state after so many texts of so many bytes each, all of them past the end of the buffer: they are counted at once.
 fn counted(count: u64, size: usize, t: Text) -> Text
-    requires { 0 < size }
     ensures { result ≡ state_at (min (t.at + count * size) (2 ^ 64 - 1)) }
 {
-    let at = t.fill();
-    if (usize::MAX - at) / size < count as usize {
-        return Text::at(usize::MAX);
-    }
-    Text::at(at + count as usize * size)
+    let bytes = size.saturating_mul(count as usize);
+    Text::at(t.fill().saturating_add(bytes))
 }
 
 // So many parameters that are not bound. Past the end of the buffer all that are left have one size and are not looked at.
 pub fn unbound(root: &[u8], count: u64, first: Arguments, buf: &mut [u8]) -> Arguments
     ensures { Listed buf.old first (replicate count (any_owned root.now)) buf.new result }
 {
-    let mut n = count;
     let mut p = first;
-    while 0 < n {
-        let t = p.text;
-        if buf.len() <= t.fill() {
-            let t = counted(n, 1 + root.len() + ANY_OWNED_BYTES, t);
+    for done in 0..count {
+        if buf.len() <= p.text.fill() {
+            let t = counted(count - done, 1 + root.len() + ANY_OWNED_BYTES, p.text);
             return Arguments { text: t, sep: b',' };
         }
-        let t = t.byte(buf, p.sep);
+        let t = p.text.byte(buf, p.sep);
         let t = any_owned(root, t, buf);
         p = Arguments { text: t, sep: b',' };
-        n -= 1;
     }
     p
-}
-
-// A brand's text up to its arguments, and the byte that stands before the next of them.
-fn brand_head(text: &[u8], sep: u8, t: Text, buf: &mut [u8]) -> Arguments
-    ensures { (Wrote buf.old t text.now buf.new result.text) × (result.sep ≡ sep) }
-{
-    let t = t.bytes(buf, text);
-    Arguments { text: t, sep }
 }
 
 // A brand's text between its module and its arguments, with the leaf's own argument.
 pub fn opening(leaf: Leaf, t: Text, buf: &mut [u8]) -> Arguments
     ensures { Opened buf.old t leaf buf.new result }
 {
-    match leaf {
-        Leaf::Reader(lifetime) => match lifetime {
-            Lifetime::A => brand_head(b"::Reader<'a", b',', t, buf),
-            Lifetime::Anonymous => brand_head(b"::Reader<'_", b',', t, buf),
-        },
-        Leaf::Builder(lifetime) => match lifetime {
-            Lifetime::A => brand_head(b"::Builder<'a", b',', t, buf),
-            Lifetime::Anonymous => brand_head(b"::Builder<'_", b',', t, buf),
-        },
-        Leaf::Owned => brand_head(b"::Owned", b'<', t, buf),
-        Leaf::Client => brand_head(b"::Client", b'<', t, buf),
-        Leaf::Server => brand_head(b"::Server", b'<', t, buf),
-        Leaf::ServerDispatch => brand_head(b"::ServerDispatch::<_T", b',', t, buf),
-        Leaf::Pipeline => brand_head(b"::Pipeline", b'<', t, buf),
-        Leaf::GetType => brand_head(b"::get_type::", b'<', t, buf),
+    let (text, sep): (&[u8], u8) = match leaf {
+        Leaf::Reader(Lifetime::A) => (b"::Reader<'a", b','),
+        Leaf::Reader(Lifetime::Anonymous) => (b"::Reader<'_", b','),
+        Leaf::Builder(Lifetime::A) => (b"::Builder<'a", b','),
+        Leaf::Builder(Lifetime::Anonymous) => (b"::Builder<'_", b','),
+        Leaf::Owned => (b"::Owned", b'<'),
+        Leaf::Client => (b"::Client", b'<'),
+        Leaf::Server => (b"::Server", b'<'),
+        Leaf::ServerDispatch => (b"::ServerDispatch::<_T", b','),
+        Leaf::Pipeline => (b"::Pipeline", b'<'),
+        Leaf::GetType => (b"::get_type::", b'<'),
+    };
+    Arguments {
+        text: t.bytes(buf, text),
+        sep,
     }
 }
 
 // The end of a brand's arguments.
+#[tactic(auto, unfolding(text::specs::Text::put, text::specs::Text::adv))]
 pub fn close(p: Arguments, buf: &mut [u8]) -> Text
     ensures { Wrote buf.old p.text (closer p.sep) buf.new result }
 {
-    let t = p.text;
     if p.sep == b',' {
-        return t.byte(buf, b'>');
+        return p.text.byte(buf, b'>');
     }
-    t
+    p.text
 }

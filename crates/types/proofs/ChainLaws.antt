@@ -2,12 +2,16 @@
 -- again is refused with 4: where the arguments of its nodes are given, `accumulate` goes round until its 17th node. By induction
 -- on the nodes that are left to it. Assumes nothing.
 use mathlib.Core.Path.{◌≡◌, refl, sym, ap, ◌∙◌, subst}
-use mathlib.Core.Bool.{Bool, true, false, not}
+use mathlib.Core.Bool.{Bool, true, false}
 use mathlib.Core.List.{List, [], ◌∷◌, ◌++◌}
+use Rattle.std.specs.Prelude.{Option, None, Some, Ok, Err}
+use Rattle.std.specs.Option.{ok_or}
+use Rattle.terms.specs.declared.refusals.Refusal.{Refusal}
+use Rattle.terms.specs.declared.refusals.Refusal.TheVariants.{TooDeep, NoNode}
 use Prim.Native.Nat.{ℕ, zero, suc, ◌+◌, ◌-◌, ◌<◌, ◌≤◌}
 use native.Mathlib.Omega.{arith}
 use native.Mathlib.Numerals.{add-one}
-use borrow.Author.Tests.{eq-eqb, ne_eqb, lt-ltb, le-ltb, eqb-true, eqb-false, ltb-true, ltb-false}
+use borrow.Author.Tests.{eq-eqb, ne_eqb, lt-ltb, le-ltb, eqb-true, ltb-true, ltb-false}
 use lib.Dec.{eqb, ltb}
 use native.Mathlib.Decide.{ℕ_discrete}
 use lib.ListN.{length, drop, take, set, get_or, drop_of_length-le, length-set}
@@ -22,16 +26,9 @@ use Rattle.codegen_types.proofs.Laws.{accumulate-none, accumulate-more}
 use Rattle.tree.proofs.OtherLines.{never}
 use Rattle.nodes.specs.Index.{Indexed, EntryIs, lookup, names_of, sheet_of}
 use Rattle.nodes.specs.declared.Entry.{Entry}
-use Rattle.nodes.specs.declared.Found.{Found}
-use Rattle.nodes.specs.declared.Found.TheVariants.{At, Nothing}
 use Rattle.codegen_types.proofs.NodeLaws.{node_missing, node-there}
-use Rattle.types.specs.Find.{before, step_of, or_five, ChainOf}
-use Rattle.types.specs.Find.{end_of}
+use Rattle.types.specs.Find.{before, end_of, step_of, or_five, ChainOf}
 use Rattle.types.specs.declared.Links.{Links}
-use Rattle.types.specs.declared.Step.{Step}
-use Rattle.types.specs.declared.Step.TheVariants as step
-use Rattle.codegen_types.specs.declared.Refusal.{Refusal}
-use Rattle.codegen_types.specs.declared.Refusal.TheVariants.{None, Number}
 
 -- ---- the chain
 
@@ -170,49 +167,34 @@ module _ (root s : Str) (scopes : List (ℕ × Scope)) where
 
 -- ---- the way along the chain
 
-step_differs : {n : Entry} {j : ℕ} → step.Node n ≡ step.Refused j → ⊥
-step_differs e = subst go e tt
-  where
-    go : Step → Type 0
-    go (step.Node n) = Unit {0}
-    go (step.Refused j) = ⊥
-
 -- one step by what its tests and its search show
 module _ (index ids : List ℕ) (id : ℕ) where
-  pub step-full : 16 ≤ length ids → step.Refused 4 ≡ step_of index ids id
+  pub step-full : 16 ≤ length ids → Err TooDeep ≡ step_of index ids id
   step-full h = rw (le-ltb (length ids) 16 h) refl
 
   module _ (few : length ids < 16) (seen : Bool) (e : seen ≡ among id ids) where
-    pub step-seen : seen ≡ true → step.Refused 4 ≡ step_of index ids id
+    pub step-seen : seen ≡ true → Err TooDeep ≡ step_of index ids id
     step-seen z = rw (lt-ltb (length ids) 16 few, ← e, z) refl
 
-    pub step-to : seen ≡ false → (f : Found) → f ≡ lookup index id → or_five f ≡ step_of index ids id
-    step-to z f g = rw (lt-ltb (length ids) 16 few, ← e, z, g) refl
-
-refused-one : {i j : ℕ} → step.Refused i ≡ step.Refused j → i ≡ j
-refused-one {i} {j} e = ap number e
-  where
-    number : Step → ℕ
-    number (step.Refused k) = k
-    number (step.Node n) = 0
+    pub step-to : seen ≡ false → (f : Option Entry) → f ≡ lookup index id → ok_or f NoNode ≡ step_of index ids id
+    step-to z f g = rw (lt-ltb (length ids) 16 few, ← e, z, ← g) (go f)
+      where
+        go : (f : Option Entry) → ok_or f NoNode ≡ or_five f
+        go (Some n) = refl
+        go None = refl
 
 -- what a step that finds a node shows: there were not yet 16, it is none of those before, and it is the index's
-record Stepped (n : Entry) (few seen : Bool) (f : Found) : Type 0 where
+record Stepped (n : Entry) (few seen : Bool) (f : Option Entry) : Type 0 where
   fewer : few ≡ true
   unseen : seen ≡ false
-  found : f ≡ At n
+  found : f ≡ Some n
 
-step-node : (n : Entry) (few seen : Bool) (f : Found)
-    → step.Node n ≡ cond few (cond seen (step.Refused 4) (or_five f)) (step.Refused 4) → Stepped n few seen f
-step-node n false seen f e = absurd (step_differs e)
-step-node n true true f e = absurd (step_differs e)
-step-node n true false Nothing e = absurd (step_differs e)
-step-node n true false (At m) e =
-    record { fewer = refl; unseen = refl; found = ap (λ (x : Step). At (entry x)) (sym e) }
-  where
-    entry : Step → Entry
-    entry (step.Node x) = x
-    entry (step.Refused j) = n
+step-node : (n : Entry) (few seen : Bool) (f : Option Entry)
+    → Ok n ≡ cond few (cond seen (Err TooDeep) (or_five f)) (Err TooDeep) → Stepped n few seen f
+step-node n false seen f e = never cc
+step-node n true true f e = never cc
+step-node n true false None e = never cc
+step-node n true false (Some m) e = record { fewer = refl; unseen = refl; found = cc }
 
 new-id : (id : ℕ) (ids : List ℕ) → among id ids ≡ false → (i : ℕ) → i < length ids → get_or ids i 0 ≡ id → ⊥
 unfolding among
@@ -239,7 +221,7 @@ pub record Climbed (index : List ℕ) (id : ℕ) (ids params counts : List ℕ) 
       → accumulate (sheet_of root ns) scopes 16 id
       ≡ before root s scopes (take k ids) (take k params) (accumulate (sheet_of root ns) scopes (16 - k) current)
 
-abbrev pub chain_of : List ℕ → List ℕ → List ℕ → ℕ → Refusal → Links
+abbrev pub chain_of : List ℕ → List ℕ → List ℕ → ℕ → Option Refusal → Links
 chain_of ids params counts k r = record { ids = ids; params = params; counts = counts; count = k; refusal = r }
 
 module _ (index : List ℕ) (id : ℕ) (ids params counts : List ℕ) where
@@ -257,7 +239,7 @@ module _ (index : List ℕ) (id : ℕ) (ids params counts : List ℕ) where
   }
 
   module _ (k current : ℕ) (c : Climbed index id ids params counts k current) where
-    ended : (r : Refusal) → ((s root : Str) (ns : List Node) → Indexed s ns index → (scopes : List (ℕ × Scope))
+    ended : (r : Option Refusal) → ((s root : Str) (ns : List Node) → Indexed s ns index → (scopes : List (ℕ × Scope))
         → before root s scopes (take k ids) (take k params) (accumulate (sheet_of root ns) scopes (16 - k) current)
         ≡ before root s scopes (take k ids) (take k params) (end_of r))
         → (s : Str) → ChainOf s index id (chain_of ids params counts k r)
@@ -272,43 +254,47 @@ module _ (index : List ℕ) (id : ℕ) (ids params counts : List ℕ) where
     }
 
     -- the current node is refused: there are 16 already, it is among those before, or it is not there
-    climb-end : (j : ℕ) → step.Refused j ≡ step_of index (take k ids) current
-        → (s : Str) → ChainOf s index id (chain_of ids params counts k (Number j))
-    climb-end j e = go (ltb (length (take k ids)) 16) (among current (take k ids)) (lookup index current) refl refl refl e
+    pub climb-end : (r : Refusal) → Err r ≡ step_of index (take k ids) current
+        → (s : Str) → ChainOf s index id (chain_of ids params counts k (Some r))
+    climb-end r e = go (ltb (length (take k ids)) 16) (among current (take k ids)) (lookup index current) refl refl refl e
       where
         full : length (take k ids) ≡ k
         full = length-take-le k ids (omega (arith, c.few, c.ids_size))
 
-        go : (few seen : Bool) (f : Found) → ltb (length (take k ids)) 16 ≡ few → among current (take k ids) ≡ seen
-            → f ≡ lookup index current → step.Refused j ≡ cond few (cond seen (step.Refused 4) (or_five f)) (step.Refused 4)
-            → (s : Str) → ChainOf s index id (chain_of ids params counts k (Number j))
+        go : (few seen : Bool) (f : Option Entry) → ltb (length (take k ids)) 16 ≡ few → among current (take k ids) ≡ seen
+            → f ≡ lookup index current → Err r ≡ cond few (cond seen (Err TooDeep) (or_five f)) (Err TooDeep)
+            → (s : Str) → ChainOf s index id (chain_of ids params counts k (Some r))
         go false seen f y z w e =
             let h = ltb-false (length (take k ids)) 16 y in
-            rw (refused-one e) (ended (Number 4) (λ s root ns x scopes.
+            let q : r ≡ TooDeep = cc in
+            rw q (ended (Some TooDeep) (λ s root ns x scopes.
             rw (accumulate-none (sheet_of root ns) scopes (16 - k) current (omega (arith, full))) refl))
-        go true true f y z w e = rw (refused-one e) (ended (Number 4) (λ s root ns x scopes.
+        go true true f y z w e =
+            let q : r ≡ TooDeep = cc in
+            rw q (ended (Some TooDeep) (λ s root ns x scopes.
             again-4 root s scopes ns (take k ids) (take k params) current (16 - k) (c.path s ns x) z))
-        go true false (At n) y z w e = absurd (step_differs (sym e))
-        go true false Nothing y z w e =
+        go true false (Some n) y z w e = never cc
+        go true false None y z w e =
             let h = ltb-true (length (take k ids)) 16 y in
-            rw (refused-one e) (ended (Number 5) (λ s root ns x scopes.
+            let q : r ≡ NoNode = cc in
+            rw q (ended (Some NoNode) (λ s root ns x scopes.
             rw (
               accumulate-more (sheet_of root ns) scopes (16 - k) current (λ v. omega (arith, full)),
-              node_missing s ns index current Nothing w x refl,
+              node_missing s ns index current None w x refl,
             ) refl))
 
-    stepped : (n : Entry) → step.Node n ≡ step_of index (take k ids) current
+    stepped : (n : Entry) → Ok n ≡ step_of index (take k ids) current
         → Stepped n (ltb (length (take k ids)) 16) (among current (take k ids)) (lookup index current)
     stepped n e = step-node n (ltb (length (take k ids)) 16) (among current (take k ids)) (lookup index current) e
 
-    climb-few : (n : Entry) → step.Node n ≡ step_of index (take k ids) current → k < 16
+    pub climb-few : (n : Entry) → Ok n ≡ step_of index (take k ids) current → k < 16
     climb-few n e = omega (
       arith,
       ltb-true (length (take k ids)) 16 (stepped n e).fewer,
       length-take-le k ids (omega (arith, c.few, c.ids_size)),
     )
 
-    module _ (h : k < 16) (n : Entry) (e : step.Node n ≡ step_of index (take k ids) current) where
+    module _ (h : k < 16) (n : Entry) (e : Ok n ≡ step_of index (take k ids) current) where
       abbrev ids' : List ℕ
       ids' = set ids k current
 
@@ -404,8 +390,9 @@ module _ (index : List ℕ) (id : ℕ) (ids params counts : List ℕ) where
               rw (get_or-set_other counts k j n.count 0 z, get_or-set_other params k j n.params 0 z)
               (c.each s ns x j (omega arith))
 
-      climb-top : n.parent ≡ 0 → (s : Str) → ChainOf s index id (chain_of ids' params' counts' (k + 1) None)
-      climb-top z s = record {
+      pub climb-top : n.parent ≡ 0 → (r : Option Refusal) → r ≡ None
+          → (s : Str) → ChainOf s index id (chain_of ids' params' counts' (k + 1) r)
+      climb-top z r none s = rw none record {
         few = omega arith;
         ids_size = length-set ids k current ∙ c.ids_size;
         params-size = length-set params k n.params ∙ c.params-size;
@@ -415,7 +402,7 @@ module _ (index : List ℕ) (id : ℕ) (ids params counts : List ℕ) where
         all = turn (λ sheet scopes. ok []) (λ sheet scopes a. rw (eq-eqb n.parent 0 z) refl) s;
       }
 
-      climb-next : (n.parent ≡ 0 → ⊥) → Climbed index id ids' params' counts' (k + 1) n.parent
+      pub climb-next : (n.parent ≡ 0 → ⊥) → Climbed index id ids' params' counts' (k + 1) n.parent
       climb-next z = record {
         few = omega arith;
         ids_size = length-set ids k current ∙ c.ids_size;
@@ -432,81 +419,6 @@ module _ (index : List ℕ) (id : ℕ) (ids params counts : List ℕ) where
           link : (s : Str) (ns : List Node) → Indexed s ns index → Link s ns current n.params n.parent
           link s ns x = known s ns x (λ m. Link s ns current n.params n.parent)
               (λ m u w. record { node = m; here = u; names = w.params; parent = sym w.parent; more = z })
-
--- what is known at each turn: while there is more, the way so far; then the chain
-pub record Climbing (index : List ℕ) (id : ℕ) (ids params counts : List ℕ) (k current : ℕ) (r : Refusal) (more : Bool)
-    : Type 0 where
-  pub few : k ≤ 16
-  pub ids_size : length ids ≡ 16
-  pub params-size : length params ≡ 16
-  pub counts_size : length counts ≡ 16
-  pub on : more ≡ true → (r ≡ None) × Climbed index id ids params counts k current
-  pub done : more ≡ false → (s : Str) → ChainOf s index id (chain_of ids params counts k r)
-
-clash : {A : Type 0} → true ≡ false → A
-clash e = let z : ◌≡◌ {A = ℕ} 0 1 = cc in never z
-
-module _ (index : List ℕ) (id : ℕ) (ids params counts : List ℕ) where
-  pub climbing_start : length ids ≡ 16 → length params ≡ 16 → length counts ≡ 16
-      → Climbing index id ids params counts 0 id None true
-  climbing_start h g f = record {
-    few = omega arith;
-    ids_size = h;
-    params-size = g;
-    counts_size = f;
-    on = λ e. (refl, climb-start index id ids params counts h g f);
-    done = λ e. clash e;
-  }
-
-  module _ (k current : ℕ) (r : Refusal) (more : Bool) (c : Climbing index id ids params counts k current r more)
-      (going : more ≡ true) where
-    pub climbing-end : (j : ℕ) → step.Refused j ≡ step_of index (take k ids) current
-        → Climbing index id ids params counts k current (Number j) false
-    climbing-end j e = record {
-      few = c.few;
-      ids_size = c.ids_size;
-      params-size = c.params-size;
-      counts_size = c.counts_size;
-      on = λ z. clash (sym z);
-      done = λ z. climb-end index id ids params counts k current (c.on going).1 j e;
-    }
-
-    module _ (n : Entry) (e : step.Node n ≡ step_of index (take k ids) current) where
-      pub climbing-few : k < 16
-      climbing-few = climb-few index id ids params counts k current (c.on going).1 n e
-
-      pub climbing-next : Climbing index id (set ids k current) (set params k n.params) (set counts k n.count) (k + 1)
-          n.parent r (not (eqb n.parent 0))
-      climbing-next = go (eqb n.parent 0) refl
-        where
-          go : (t : Bool) → eqb n.parent 0 ≡ t → Climbing index id (set ids k current) (set params k n.params)
-              (set counts k n.count) (k + 1) n.parent r (not t)
-          go t z = record {
-            few = omega (arith, climbing-few);
-            ids_size = length-set ids k current ∙ c.ids_size;
-            params-size = length-set params k n.params ∙ c.params-size;
-            counts_size = length-set counts k n.count ∙ c.counts_size;
-            on = λ y. (
-              (c.on going).0,
-              climb-next index id ids params counts k current (c.on going).1 climbing-few n e
-                  (eqb-false n.parent 0 (z ∙ none t y)),
-            );
-            done = λ y s. rw (c.on going).0 (climb-top index id ids params counts k current (c.on going).1 climbing-few
-                n e (eqb-true n.parent 0 (z ∙ some t y)) s);
-          }
-            where
-              none : (t : Bool) → not t ≡ true → t ≡ false
-              none true y = clash (sym y)
-              none false y = refl
-
-              some : (t : Bool) → not t ≡ false → t ≡ true
-              some true y = refl
-              some false y = clash y
-
--- a turn leaves less to do
-pub climbing_less : (t : Bool) (k : ℕ) → k ≤ 16 → cond t (17 - (k + 1)) 0 < 17 - k
-climbing_less true k h = omega arith
-climbing_less false k h = omega arith
 
 -- ---- the chain, for those who walk along it
 

@@ -1,26 +1,26 @@
 -- Laws of what stands where in a sheet: what a reader reads is passed over by counting what is owed, and of a brand's scopes the
 -- last with an id counts. By induction on levels, counts and rows. Assumes nothing.
-use mathlib.Core.Path.{◌≡◌, refl, sym, ◌∙◌}
+use mathlib.Core.Path.{◌≡◌, refl, sym, ap, ◌∙◌}
 use mathlib.Core.Bool.{Bool, true, false}
 use mathlib.Core.List.{[], ◌∷◌, ◌++◌}
-use Rattle.std.specs.Prelude.{Option, None, Some}
-use Prim.Native.Nat.{ℕ, zero, suc, ◌+◌, ◌-◌, ◌*◌, ◌<◌, ◌≤◌}
+use Rattle.std.specs.Prelude.{Option, None, Some, Ok, Err}
+use Prim.Native.Nat.{ℕ, zero, suc, ◌+◌, ◌-◌, ◌<◌, ◌≤◌}
 use native.Mathlib.Nat.{add-zero, zero-add, suc-add}
 use native.Mathlib.Numerals.{sub-one, one-add}
 use native.Mathlib.Omega.{arith}
 use borrow.Author.Tests.{eq-eqb, ne_eqb}
 use lib.Dec.{eqb, ltb}
 use lib.ListN.{length, drop, length-drop}
-use package.types.Run.{OneOf}
 use denote.Enum.Declared.{tag_of}
 use Rattle.row.specs.contracts.Line.{the_type}
 use Rattle.row.proofs.Laws.{rows_out, rows-length}
-use Rattle.tree.proofs.OtherLines.{not-scope}
+use Rattle.tree.proofs.OtherLines.{not-scope, not_scope-tag}
 use Rattle.tree.proofs.WalkLaws.{by_told}
 use Rattle.text.specs.Bytes.{Str, cond}
 use Rattle.row.specs.Rows.{rows, rest_of, unbound_rows}
 use Rattle.row.specs.Line.{misplaced, line_said, line_of, line_at, reader, unbound_line, as_type, as_scope, as_unbound, fault_of}
 use Rattle.row.specs.Line.{Content, Root, Node, Parameter, Field, Group, Typ, Scope, Unbound, Value, Word, Bad}
+use Rattle.row.specs.declared.BadLine.{BadLine}
 use Rattle.row.specs.declared.Line.{Line}
 use Rattle.row.specs.declared.Owing.{Owing}
 use Rattle.row.specs.Part.{owed, is_part, PartAt}
@@ -305,7 +305,7 @@ pub record Onward (rs : Rows) (m : ℕ) (rest : Rows) (n : ℕ) : Type 0 where
   pub past : AllParts rs m → past_rows rs m ≡ past_rows rest n
   pub parts : AllParts rs m → AllParts rest n
 
-pub onward_start : (rs : Rows) (n : ℕ) → Onward rs n rs n
+onward_start : (rs : Rows) (n : ℕ) → Onward rs n rs n
 onward_start rs n = record { past = λ h. refl; parts = λ h. h }
 
 infixl 40 ◌on◌
@@ -339,16 +339,6 @@ run_on (suc r) rs (suc n) h =
 
 pub onward_run : (rs rest : Rows) (r n : ℕ) → r ≤ n → rs ≡ unbound_rows r ++ rest → Onward rs n rest (n - r)
 onward_run rs rest r n h e = rw e (run_on r rest n h)
-
--- a run of U rows lies within the sheet
-pub run_in : (at r l : ℕ) → (0 < r → at + 2 * r ≤ l) → at < l → at + 2 * r ≤ l
-run_in at zero l h a = omega arith
-run_in at (suc r) l h a = h (omega arith)
-
--- one byte at least is passed over, where there is one
-pub run_further : (s : Str) (at r : ℕ) (o : Owing) → at < length s → PartAt s (at + 2 * r) o → at < o.next
-run_further s at zero o h w = let e : at + 2 * 0 ≡ at = omega arith in rw e at w.further h
-run_further s at (suc r) o h w = omega (arith, w.after)
 
 -- where the walk comes to: nothing is owed, the sheet is at its end, or more is owed than it can have rows
 module _ {rs : Rows} {m : ℕ} where
@@ -467,11 +457,18 @@ unfolding last_scope
 scope-none id zero rs found h = refl
 scope-none id (suc n) rs found h = let z : ⊥ = omega arith in absurd z
 
-pub scope_other : (id n : ℕ) (rs : Rows) (found : Option Rows) (l : Line) → line_said l ≡ line_at rs
-    → OneOf (0 ∷ 1 ∷ 2 ∷ 3 ∷ 4 ∷ 5 ∷ 7 ∷ 8 ∷ 9 ∷ 10 ∷ []) (tag_of the_type l) → last_scope id n rs found ≡ found
-unfolding last_scope
+pub scope_other : (id n : ℕ) (rs : Rows) (found : Option Rows) (l : Line) → line_said (Ok l) ≡ line_at rs
+    → (tag_of the_type l ≡ 6 → ⊥) → last_scope id n rs found ≡ found
+unfolding last_scope line_said
 scope_other id zero rs found l e h = refl
-scope_other id (suc n) rs found l e h = rw (← e, not-scope l _ _ h)
+scope_other id (suc n) rs found l e h =
+    rw (← e, not-scope l _ _ (not_scope-tag l (λ i b m z. h (ap (tag_of the_type) z))))
+
+pub scope-bad : (id n : ℕ) (rs : Rows) (found : Option Rows) (b : BadLine) → line_said (Err b) ≡ line_at rs
+    → last_scope id n rs found ≡ found
+unfolding last_scope line_said
+scope-bad id zero rs found b e = refl
+scope-bad id (suc n) rs found b e = rw (← e)
 
 module _ (id n : ℕ) (rs next rest : Rows) (found : Option Rows) (l : Content) (m i b c : ℕ) (more : 0 < n)
     (line : l ≡ line_at rs) (is : l ≡ Scope i b c)

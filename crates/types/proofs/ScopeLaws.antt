@@ -3,23 +3,19 @@ use mathlib.Core.Path.{◌≡◌, refl, sym, ap, ◌∙◌}
 use mathlib.Core.Bool.{Bool, true, false}
 use mathlib.Core.List.{List, [], ◌∷◌}
 use Rattle.std.specs.Prelude.{Option, None, Some}
-use Prim.Native.Nat.{ℕ, zero, suc, ◌+◌, ◌-◌, ◌<◌, ◌≤◌}
+use Prim.Native.Nat.{ℕ, zero, suc, ◌-◌, ◌<◌, ◌≤◌}
 use native.Mathlib.Omega.{arith}
 use native.Mathlib.Numerals.{sub-one}
-use borrow.Author.Tests.{eq-eqb, ne_eqb, eqb-true, eqb-false}
+use borrow.Author.Tests.{eqb-true, eqb-false}
 use lib.Dec.{eqb}
-use native.Mathlib.Decide.{ℕ_discrete}
-use lib.ListN.{length, drop, take, set, get_or, length-set, replicate, length-replicate, get_or-replicate}
-use lib.Seq.{get_or-take, length-take-le, get_or-set_same, get_or-set_other}
-use package.types.Run.{OneOf}
-use denote.Enum.Declared.{tag_of}
-use Rattle.row.specs.contracts.Line.{the_type}
+use lib.ListN.{length, drop, take, get_or, replicate, length-replicate, get_or-replicate}
+use lib.Seq.{get_or-take, length-take-le}
 use Rattle.row.proofs.Laws.{rows_out}
 use Rattle.row.proofs.PartLaws.{scope-owed}
 use Rattle.text.specs.Bytes.{Str, cond}
 use Rattle.row.specs.Rows.{rows, rest_of}
 use Rattle.row.specs.Line as content
-use Rattle.row.specs.Line.{Content, line_said, line_at, as_scope}
+use Rattle.row.specs.Line.{Content, good_said, line_at, as_scope}
 use Rattle.row.specs.declared.Line.{Line}
 use Rattle.row.specs.declared.Line.TheVariants as line
 use Rattle.tree.specs.Tree.{Sheet, end}
@@ -32,7 +28,7 @@ use Rattle.row.specs.Part.{owed}
 use Rattle.types.specs.Find.{last_scope, past_rows, AllParts, Past}
 use Rattle.types.specs.Find.{or_none, LastScopes, Noted, ScopeIs, ScopeAt, ScopeHere}
 use Rattle.types.proofs.Laws.{on-two, parts_next, parts-split, scopes-parts}
-use Rattle.types.proofs.Laws.{scope_counts, scope-none, scope_other, scope_this, scope-next}
+use Rattle.types.proofs.Laws.{scope_counts, scope-none, scope_this, scope-next}
 
 -- ---- noting a position
 
@@ -41,43 +37,6 @@ pub record Noting (ids : List ℕ) (i at : ℕ) (places : List ℕ) (k : ℕ) (a
   pub size : length after ≡ 16
   pub each : (j : ℕ) → j < length ids → j < k → get_or after j 0 ≡ cond (eqb i (get_or ids j 0)) at (get_or places j 0)
   pub rest : (j : ℕ) → k ≤ j → get_or after j 0 ≡ get_or places j 0
-
-module _ (ids : List ℕ) (i at : ℕ) (places : List ℕ) where
-  pub note-start : length places ≡ 16 → Noting ids i at places 0 places
-  note-start h = record { size = h; each = λ j x y. let z : ⊥ = omega arith in absurd z; rest = λ j x. refl }
-
-  module _ (k : ℕ) (after : List ℕ) (w : Noting ids i at places k after) where
-    pub note-out : length ids ≤ k → Noted ids i at places after
-    note-out h = record { size = w.size; each = λ j x y. w.each j x (omega arith) }
-
-    pub note-full : 16 ≤ k → Noted ids i at places after
-    note-full h = record { size = w.size; each = λ j x y. w.each j x (omega arith) }
-
-    -- one turn, whatever stands for this id then
-    module _ (h : k < length ids) (f : k < 16) where
-      pub note-this : i ≡ get_or ids k 0 → Noting ids i at places (k + 1) (set after k at)
-      note-this e = record {
-        size = length-set after k at ∙ w.size;
-        each = λ j x y. go j x y (ℕ_discrete j k);
-        rest = λ j x. get_or-set_other after k j at 0 (λ z. omega arith) ∙ w.rest j (omega arith);
-      }
-        where
-          go : (j : ℕ) → j < length ids → j < k + 1 → Dec (j ≡ k)
-              → get_or (set after k at) j 0 ≡ cond (eqb i (get_or ids j 0)) at (get_or places j 0)
-          go j x y (yes z) = rw z (get_or-set_same after k at 0 (omega (arith, w.size)) ∙ rw (eq-eqb i (get_or ids k 0) e) refl)
-          go j x y (no z) = get_or-set_other after k j at 0 z ∙ w.each j x (omega arith)
-
-      pub note-next : (i ≡ get_or ids k 0 → ⊥) → Noting ids i at places (k + 1) after
-      note-next e = record {
-        size = w.size;
-        each = λ j x y. go j x y (ℕ_discrete j k);
-        rest = λ j x. w.rest j (omega arith);
-      }
-        where
-          go : (j : ℕ) → j < length ids → j < k + 1 → Dec (j ≡ k)
-              → get_or after j 0 ≡ cond (eqb i (get_or ids j 0)) at (get_or places j 0)
-          go j x y (yes z) = rw (z, ne_eqb i (get_or ids k 0) e) (w.rest k (omega arith))
-          go j x y (no z) = w.each j x (omega arith)
 
 -- ---- the scopes of a chain's nodes, in one pass
 
@@ -132,20 +91,18 @@ module _ (s : Str) (from count : ℕ) (ids : List ℕ) where
       each = λ p k x y. sym (w.each p k x y ∙ ap or_none (scope-none (get_or ids k 0) n (rows (drop at s)) _ h));
     }
 
-    pub pass-other : (l : Line) → line_said l ≡ line_at (rows (drop at s))
-        → OneOf (0 ∷ 1 ∷ 2 ∷ 3 ∷ 4 ∷ 5 ∷ 7 ∷ 8 ∷ 9 ∷ 10 ∷ []) (tag_of the_type l) → LastScopes s from count ids places
-    pass-other l e h = record {
-      each = λ p k x y. sym (w.each p k x y ∙ ap or_none (scope_other (get_or ids k 0) n (rows (drop at s)) _ l e h));
+    pub pass-other : ((id : ℕ) (f : Option Rows) → last_scope id n (rows (drop at s)) f ≡ f) → LastScopes s from count ids places
+    pass-other stop = record {
+      each = λ p k x y. sym (w.each p k x y ∙ ap or_none (stop (get_or ids k 0) _));
     }
 
-    module _ (more : 0 < n) (l : Line) (e : line_said l ≡ line_at (rows (drop at s))) (i b c : ℕ) (is : l ≡ line.Scope i b c)
-        (after : List ℕ) (noted : Noted ids i at places after) where
+    module _ (more : 0 < n) (i b c : ℕ) (here : line_at (rows (drop at s)) ≡ content.Scope i b c) (after : List ℕ)
+        (noted : Noted ids i at places after) where
       -- after this scope
       turn_on : AllParts (rows (drop from s)) count → (rest : Rows)
-          → rest ≡ past_rows (rest_of (rows (drop at s))) (owed (line_said (line.Scope i b c))) → (k : ℕ)
+          → rest ≡ past_rows (rest_of (rows (drop at s))) (owed (content.Scope i b c)) → (k : ℕ)
           → k < length ids → k < 16 → or_none (last_scope (get_or ids k 0) count (rows (drop from s)) None)
           ≡ or_none (last_scope (get_or ids k 0) (n - 1) rest (Some (rows (drop (get_or after k 0) s))))
-      unfolding line_said
       turn_on p rest past k x y = w.each p k x y ∙ go (eqb i (get_or ids k 0)) refl
         where
           id : ℕ
@@ -158,22 +115,18 @@ module _ (s : Str) (from count : ℕ) (ids : List ℕ) where
               ≡ or_none (last_scope id (n - 1) rest (Some (rows (drop (get_or after k 0) s))))
           go true z =
               rw (noted.each k x y, z) (ap or_none (scope_this id n (rows (drop at s)) (rest_of (rows (drop at s))) rest old _
-              (owed (content.Scope i b c)) i b c more e (ap line_said is) refl refl past (eqb-true i id z)))
+              (owed (content.Scope i b c)) i b c more (sym here) refl refl refl past (eqb-true i id z)))
           go false z =
               rw (noted.each k x y, z) (ap or_none (scope-next id n (rows (drop at s)) (rest_of (rows (drop at s))) rest old _
-              (owed (content.Scope i b c)) i b c more e (ap line_said is) refl refl past (eqb-false i id z)))
+              (owed (content.Scope i b c)) i b c more (sym here) refl refl refl past (eqb-false i id z)))
 
       pub pass-last : n ≡ 1 → LastScopes s from count ids after
       pass-last z = record {
-        each = λ p k x y. sym (turn_on p (past_rows (rest_of (rows (drop at s))) (owed (line_said (line.Scope i b c)))) refl k x y
+        each = λ p k x y. sym (turn_on p (past_rows (rest_of (rows (drop at s))) (owed (content.Scope i b c))) refl k x y
             ∙ ap or_none (scope-none (get_or ids k 0) (n - 1) _ _ (omega arith)));
       }
 
       -- it owes its count; its bindings are there, and the scopes after them
-      here : line_at (rows (drop at s)) ≡ content.Scope i b c
-      unfolding line_said
-      here = sym e ∙ ap line_said is
-
       owes : owed (content.Scope i b c) ≡ c
       owes = scope-owed (rows (drop at s)) i b c here
 
@@ -190,7 +143,6 @@ module _ (s : Str) (from count : ℕ) (ids : List ℕ) where
 
       pub pass-next : (next to : ℕ) → rows (drop next s) ≡ rest_of (rows (drop at s))
           → Past (rows (drop next s)) c (rows (drop to s)) → Passing s from count ids to (n - 1) after
-      unfolding line_said
       pass-next next to f h = record {
         size = noted.size;
         parts = λ p. rw (to_is p) (own-parts p).1;
@@ -227,9 +179,9 @@ placed left sheet s from n nodes places count k w h f g =
     (scopes-parts left n (rows (drop from s))) (scope_counts left (get_or nodes k 0) sheet n (rows (drop from s)))
 
 -- a scope's row stands at a place only where there is a scope
-pub scope-there : (left : ℕ) (sheet : Sheet) (q : Rows) (o : Option Scope) (l : Line) (i b m : ℕ) → line_said l ≡ line_at q
+pub scope-there : (left : ℕ) (sheet : Sheet) (q : Rows) (o : Option Scope) (l : Line) (i b m : ℕ) → good_said l ≡ line_at q
     → l ≡ line.Scope i b m → ScopeAt left sheet q o → ScopeHere left sheet q o
-unfolding line_said line_at
+unfolding line_at
 scope-there left sheet [] o l i b m e is h =
-    let y : ◌≡◌ {A = ℕ} 0 1 = ap (λ (l : Content). as_scope l (λ i b m. 1) 0) (sym e ∙ ap line_said is) in never y
+    let y : ◌≡◌ {A = ℕ} 0 1 = ap (λ (l : Content). as_scope l (λ i b m. 1) 0) (sym e ∙ ap good_said is) in never y
 scope-there left sheet (r ∷ rs) o l i b m e is h = h

@@ -3,8 +3,9 @@
 use mathlib.Core.Path.{◌≡◌, refl, sym, ap, ◌∙◌, subst}
 use mathlib.Core.Bool.{Bool, true, false}
 use mathlib.Core.List.{[], ◌∷◌}
-use Rattle.std.specs.Prelude.{Option, Some}
-use Prim.Native.Nat.{ℕ, zero, suc, ◌-◌, ◌<◌, ◌≤◌}
+use Rattle.std.specs.Prelude.{Option, Some, Ok, Err}
+use Prim.Native.Nat.{ℕ, zero, suc, ◌-◌, ◌<◌, ◌≤◌, min}
+use native.Mathlib.Decide.{dec_lt}
 use native.Mathlib.Omega.{arith}
 use native.Mathlib.Numerals.{sub-one}
 use borrow.Author.Tests.{eq-eqb, ne_eqb, lt-ltb, le-ltb, eqb-true, eqb-false, ltb-true, ltb-false}
@@ -15,7 +16,8 @@ use denote.Enum.Declared.{tag_of}
 use Rattle.row.specs.contracts.Line.{the_type}
 use Rattle.text.specs.Bytes.{Str, cond}
 use Rattle.row.specs.Rows.{rows, rest_of}
-use Rattle.row.specs.Line.{fault, misplaced, Content, Typ, Scope, line_said, line_at, fault_of}
+use Rattle.row.specs.Line.{fault, misplaced, Content, Typ, Scope, good_said, line_said, line_at, fault_of}
+use Rattle.row.specs.declared.BadLine.{BadLine}
 use Rattle.row.specs.declared.Line.{Line}
 use Rattle.row.specs.declared.Line.TheVariants as line
 use Rattle.tree.specs.Tree.{Ty, plain, list, enum, struct, interface, parameter, any_pointer, Scopes, end, inherit, bind, Binds}
@@ -23,7 +25,7 @@ use Rattle.tree.specs.Tree.{stop, unbound, bound, kind, Sheet}
 use Rattle.tree.specs.Reader.{Rows, Reading, got, no, Reader, ◌then◌, map_r, times, On, Has}
 use Rattle.tree.specs.Read as read
 use Rattle.tree.specs.Read.{read_type, type_from, read_binding, pointer, branded}
-use Rattle.tree.proofs.OtherLines.{not-type, not-scope, not-unbound}
+use Rattle.tree.proofs.OtherLines.{not-type, not_type-tag, not-scope, not-unbound}
 use Rattle.tree.proofs.WalkLaws.{by_told}
 use Rattle.codegen_types.specs.Out.{Out, ok, refused}
 use Rattle.codegen_types.specs.TypeString as type_string
@@ -62,16 +64,44 @@ type_row_lem s at r (suc l) P w z h =
           w.next,
         ) at h
 
--- another line as a T row
-pub row_other : (l : Line) (next : ℕ) → OneOf (0 ∷ 1 ∷ 2 ∷ 3 ∷ 4 ∷ 6 ∷ 7 ∷ 8 ∷ 9 ∷ 10 ∷ []) (tag_of the_type l)
-    → type_row (line_said l) next ≡ record { kind = 0; a = 0; b = 0; c = 0; next = next }
+-- another line as a T row, or a bad one
+pub row_other : (l : Line) (next : ℕ) → (tag_of the_type l ≡ 5 → ⊥)
+    → type_row (line_said (Ok l)) next ≡ record { kind = 0; a = 0; b = 0; c = 0; next = next }
+unfolding line_said
 row_other l next h =
+    let t = not_type-tag l (λ k a b c z. h (ap (tag_of the_type) z)) in
     rw (
-      not-type l (λ k a b c. k) 0 h,
-      not-type l (λ k a b c. a) 0 h,
-      not-type l (λ k a b c. b) 0 h,
-      not-type l (λ k a b c. c) 0 h,
+      not-type l (λ k a b c. k) 0 t,
+      not-type l (λ k a b c. a) 0 t,
+      not-type l (λ k a b c. b) 0 t,
+      not-type l (λ k a b c. c) 0 t,
     )
+
+pub row-bad : (b : BadLine) (next : ℕ)
+    → type_row (line_said (Err b)) next ≡ record { kind = 0; a = 0; b = 0; c = 0; next = next }
+unfolding line_said
+row-bad b next = refl
+
+-- the kind that a row gives
+module _ (rs : Rows) where
+  pub kind_other : (l : Line) → line_said (Ok l) ≡ line_at rs → (tag_of the_type l ≡ 5 → ⊥) → 0 ≡ kind_at rs
+  unfolding line_said
+  kind_other l e h = rw (← e, not-type l _ _ (not_type-tag l (λ k a b c z. h (ap (tag_of the_type) z)))) refl
+
+  pub kind-bad : (b : BadLine) → line_said (Err b) ≡ line_at rs → 0 ≡ kind_at rs
+  unfolding line_said
+  kind-bad b e = rw (← e) refl
+
+  pub kind-here : (k a b c : ℕ) → line_said (Ok (line.Typ k a b c)) ≡ line_at rs → min k 18 ≡ kind_at rs
+  unfolding line_said
+  kind-here k a b c e = rw (← e) (go (dec_lt k 18))
+    where
+      go : Dec (k < 18) → min k 18 ≡ cond (ltb k 18) k 18
+      go (Prim.yes h) = let z : min k 18 ≡ k = omega arith in rw (z, lt-ltb k 18 h) refl
+      go (Prim.no h) =
+          let z : min k 18 ≡ 18 = omega arith in
+          let w : 18 ≤ k = omega arith in
+          rw (z, le-ltb k 18 w) refl
 
 -- a line that was read at a position, as a T row
 pub row_at : (s : Str) (at next : ℕ) (l : Content) (r : TypeRow) → l ≡ line_at (rows (drop at s))
@@ -231,13 +261,13 @@ one-bind left rs =
     (on-all {P = λ t. OneBind (λ bs. bound t bs)} (λ t. record
     { text = λ sheet. type_string t sheet Owned; first = λ sheet bs. refl }) (read_type left rs))))
 
-pub bind-unbound : (left : ℕ) (rs : Rows) (P : (Binds → Binds) → Type 0) (l : Line) → line_said l ≡ line_at rs → l ≡ line.Unbound
+pub bind-unbound : (left : ℕ) (rs : Rows) (P : (Binds → Binds) → Type 0) (l : Line) → good_said l ≡ line_at rs → l ≡ line.Unbound
     → P (λ bs. unbound bs) → On (read_binding (read_type left) rs) P
-unfolding line_said read_binding
+unfolding read_binding
 bind-unbound left rs P l at is h = rw (← at, is) h
 
-pub bind-typed : (left : ℕ) (rs : Rows) (P : (Binds → Binds) → Type 0) (l : Line) → line_said l ≡ line_at rs
-    → OneOf (0 ∷ 1 ∷ 2 ∷ 3 ∷ 4 ∷ 5 ∷ 6 ∷ 8 ∷ 9 ∷ 10 ∷ []) (tag_of the_type l)
+pub bind-typed : (left : ℕ) (rs : Rows) (P : (Binds → Binds) → Type 0) (l : Line) → good_said l ≡ line_at rs
+    → OneOf (0 ∷ 1 ∷ 2 ∷ 3 ∷ 4 ∷ 5 ∷ 6 ∷ 8 ∷ 9 ∷ []) (tag_of the_type l)
     → On (read_type left rs) (λ t. P (λ bs. bound t bs)) → On (read_binding (read_type left) rs) P
 unfolding read_binding
 bind-typed left rs P l at other h =
@@ -272,20 +302,20 @@ unfolding read.read_scope
 scope_of-more ty rs i b m e = rw e
 
 pub scope-inherit : (left : ℕ) (sheet : Sheet) (rs : Rows) (o : Option type_string.Scope) (l : Line) (i b m : ℕ)
-    → line_said l ≡ line_at rs → l ≡ line.Scope i b m → b ≡ 0
+    → good_said l ≡ line_at rs → l ≡ line.Scope i b m → b ≡ 0
     → ScopeHere left sheet rs o → o ≡ Some type_string.inherited
-unfolding line_said ScopeHere scopes_of
+unfolding ScopeHere scopes_of
 scope-inherit left sheet rs o l i b m at is z h =
-    rw (scope_of-more (read_type left) rs i b m (sym at ∙ ap line_said is), eq-eqb b 0 z) at h
+    rw (scope_of-more (read_type left) rs i b m (sym at ∙ ap good_said is), eq-eqb b 0 z) at h
 
 pub scope-binds : (left : ℕ) (sheet : Sheet) (rs rest : Rows) (o : Option type_string.Scope) (l : Line) (i b m : ℕ)
-    → line_said l ≡ line_at rs → l ≡ line.Scope i b m → rest ≡ rest_of rs → (b ≡ 0 → ⊥)
+    → good_said l ≡ line_at rs → l ≡ line.Scope i b m → rest ≡ rest_of rs → (b ≡ 0 → ⊥)
     → ScopeHere left sheet rs o → Has (times (read_binding (read_type left)) stop m rest)
     (λ bs. o ≡ Some (type_string.binds (bindings_of bs sheet)))
-unfolding line_said ScopeHere scopes_of
+unfolding ScopeHere scopes_of
 scope-binds left sheet rs rest o l i b m at is next z h =
     go (times (read_binding (read_type left)) stop m rest) (rw (
-      scope_of-more (read_type left) rs i b m (sym at ∙ ap line_said is),
+      scope_of-more (read_type left) rs i b m (sym at ∙ ap good_said is),
       ne_eqb b 0 z,
       ← next,
     ) at h)
@@ -295,8 +325,8 @@ scope-binds left sheet rs rest o l i b m at is next z h =
     go (got bs q) w = w
     go (no k q) w = w
 
-pub scope-not : (left : ℕ) (sheet : Sheet) (rs : Rows) (o : Option type_string.Scope) (l : Line) → line_said l ≡ line_at rs
-    → OneOf (0 ∷ 1 ∷ 2 ∷ 3 ∷ 4 ∷ 5 ∷ 7 ∷ 8 ∷ 9 ∷ 10 ∷ []) (tag_of the_type l) → ScopeHere left sheet rs o → ⊥
+pub scope-not : (left : ℕ) (sheet : Sheet) (rs : Rows) (o : Option type_string.Scope) (l : Line) → good_said l ≡ line_at rs
+    → OneOf (0 ∷ 1 ∷ 2 ∷ 3 ∷ 4 ∷ 5 ∷ 7 ∷ 8 ∷ 9 ∷ []) (tag_of the_type l) → ScopeHere left sheet rs o → ⊥
 unfolding ScopeHere read.read_scope
 scope-not left sheet rs o l at other h =
     by_told {A = Scopes → Scopes} (λ g. Has g (λ f. o ≡ first_scope (scopes_of (f end) sheet)) → ⊥) (fault_of 83 (line_at rs))

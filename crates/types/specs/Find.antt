@@ -1,7 +1,7 @@
 -- Where things stand in a sheet, told by rows: what follows a type or a scope, the scope of a brand that counts, and the chain of
 -- a node's parents. Assumes nothing.
 use Rattle.std.specs.Prelude.{◌≡◌, true, List, [], ◌∷◌, ℕ, zero, suc, ◌+◌, ◌<◌, ◌≤◌, eqb, ltb, drop, take, length, get_or}
-use Rattle.std.specs.Prelude.{Option, None, Some}
+use Rattle.std.specs.Prelude.{Option, None, Some, Result, Ok, Err}
 use Rattle.text.specs.Bytes.{Str, cond}
 use Rattle.row.specs.Rows.{rows, rest_of}
 use Rattle.row.specs.Line.{Content, line_of, line_at, as_type, as_scope}
@@ -12,16 +12,14 @@ use Rattle.tree.specs.Read as read
 pub use Rattle.nodes.specs.Index.{Indexed, lookup}
 pub use Rattle.nodes.specs.Index.{sheet_of}
 unfoldable pub use Rattle.nodes.specs.Index.{names_of}
-use Rattle.nodes.specs.declared.Found.{Found}
-use Rattle.nodes.specs.declared.Found.TheVariants as found
+use Rattle.terms.specs.Refusals.{number}
+use Rattle.terms.specs.declared.refusals.Refusal.{Refusal}
+use Rattle.terms.specs.declared.refusals.Refusal.TheVariants.{TooDeep, NoNode}
+use Rattle.nodes.specs.declared.Entry.{Entry}
 use Rattle.codegen_types.specs.Out.{Out, ok, refused, ◌then◌}
 use Rattle.codegen_types.specs.TypeString.{Scope, scopes_of, scope_of, arguments_of, accumulate}
-use Rattle.codegen_types.specs.declared.Refusal.{Refusal}
-use Rattle.codegen_types.specs.declared.Refusal.TheVariants.{None, Number}
 use Rattle.types.specs.declared.TypeRow.{TypeRow}
 use Rattle.types.specs.declared.Links.{Links}
-use Rattle.types.specs.declared.Step.{Step}
-use Rattle.types.specs.declared.Step.TheVariants as step
 
 -- ---- what is read at a position
 
@@ -97,9 +95,9 @@ ScopeAt left sheet (r ∷ rs) o = ScopeHere left sheet (r ∷ rs) o
 -- ---- the chain of a node's parents
 
 -- how a chain ends: after a node without a parent, or with a refusal
-abbrev pub end_of : Refusal → Out (List (List Str))
+abbrev pub end_of : Option Refusal → Out (List (List Str))
 end_of None = ok []
-end_of (Number k) = refused k
+end_of (Some e) = refused (number e)
 
 -- the arguments of nodes with these ids, whose P rows begin at these positions, innermost first, before what is further out
 unfoldable pub before : Str → Str → List (ℕ × Scope) → List ℕ → List ℕ → Out (List (List Str)) → Out (List (List Str))
@@ -110,13 +108,13 @@ before root s scopes (i ∷ is) (p ∷ ps) o =
     before root s scopes is ps o then λ outer. ok (arguments ∷ outer)
 
 -- the next node of a chain that has these ids, or its refusal; 4 after 16 nodes
-abbrev pub or_five : Found → Step
-or_five (found.At n) = step.Node n
-or_five found.Nothing = step.Refused 5
+abbrev pub or_five : Option Entry → Result Entry Refusal
+or_five (Some n) = Ok n
+or_five None = Err NoNode
 
-abbrev pub step_of : List ℕ → List ℕ → ℕ → Step
+abbrev pub step_of : List ℕ → List ℕ → ℕ → Result Entry Refusal
 step_of index ids id =
-    cond (ltb (length ids) 16) (cond (read.among id ids) (step.Refused 4) (or_five (lookup index id))) (step.Refused 4)
+    cond (ltb (length ids) 16) (cond (read.among id ids) (Err TooDeep) (or_five (lookup index id))) (Err TooDeep)
 
 -- a chain of at most 16 nodes, none of them twice, has the nodes that `accumulate` visits, and its refusal, whatever the scopes
 -- of the brand are; and how many parameters each node has

@@ -22,7 +22,7 @@ use Rattle.zeroing.proofs.SlotLaws.{either-false, either_assoc}
 -- ---- the search among some numbers
 
 -- the code's `|` on two tests
-pub or-either : (a b : Bool) → (a || b) ≡ either a b
+or-either : (a b : Bool) → (a || b) ≡ either a b
 or-either true b = refl
 or-either false b = refl
 

@@ -5,13 +5,13 @@ use mathlib.Core.List.{List, [], ◌∷◌, ◌++◌}
 use Prim.Native.Nat.{ℕ, zero, suc, ◌+◌, ◌^◌, ◌≤◌, ◌<◌}
 use native.Mathlib.Omega.{arith}
 use lib.ListN.{length, take, drop, length-drop}
+use Rattle.std.specs.Prelude.{None, Some}
 use Rattle.text.specs.Bytes.{Str}
 use Rattle.row.specs.Rows.{rows}
 use Rattle.row.proofs.Laws.{rows-length}
 use Rattle.tree.specs.Tree.{Arm, slot, group, Field}
 use Rattle.tree.specs.Tree as tree
 use Rattle.tree.specs.Fields.{FieldsHere}
-use Rattle.tree.proofs.OtherLines.{never}
 use Rattle.field.specs.Field.{SlotIn, GroupIn, FieldIs, next_of, ReadsFirst, Fewer}
 use Rattle.field.specs.declared.Slot.{Slot}
 use Rattle.field.specs.declared.Group.{Group}
@@ -26,21 +26,14 @@ pub record Turn (s : Str) (r : code.Field) (k : ℕ) (all : List Field) : Type 0
   pub taken : take (suc k) all ≡ take k all ++ (field ∷ [])
   pub next : FieldsHere (rows (drop (next_of r) s)) (drop (suc k) all)
 
--- a slot and a group are something
-pub some-slot : {r : code.Field} {sl : Slot} → r ≡ read.Slot sl → r ≡ read.Nothing → ⊥
-some-slot e h = never cc
-
-pub some-group : {r : code.Field} {g : Group} → r ≡ read.Group g → r ≡ read.Nothing → ⊥
-some-group e h = never cc
-
-module _ (s : Str) (r : code.Field) where
+module _ (s : Str) where
   -- where one is read
-  pub turn : (r ≡ read.Nothing → ⊥) → (k : ℕ) (all : List Field) → ReadsFirst s r (drop k all) → Turn s r k all
-  turn some zero [] e = absurd (some e)
-  turn some zero (f ∷ fs) h = record { field = f; said = h.0; first = refl; taken = refl; next = h.1 }
-  turn some (suc k) [] e = absurd (some e)
-  turn some (suc k) (x ∷ all) h =
-      let t = turn some k all h in record {
+  pub turn : (r : code.Field) (k : ℕ) (all : List Field) → ReadsFirst s (Some r) (drop k all) → Turn s r k all
+  turn r zero [] h = absurd h
+  turn r zero (f ∷ fs) h = record { field = f; said = h.0; first = refl; taken = refl; next = h.1 }
+  turn r (suc k) [] h = absurd h
+  turn r (suc k) (x ∷ all) h =
+      let t = turn r k all h in record {
         field = t.field;
         said = t.said;
         first = t.first;
@@ -49,12 +42,12 @@ module _ (s : Str) (r : code.Field) where
       }
 
   -- where none is read, all are passed
-  pub ended_here : r ≡ read.Nothing → (fs : List Field) → ReadsFirst s r fs → fs ≡ []
-  ended_here e [] h = refl
-  ended_here e (f ∷ fs) h = let z : FieldIs s read.Nothing f = rw e at h.0 in absurd z
+  pub ended_here : (fs : List Field) → ReadsFirst s None fs → fs ≡ []
+  ended_here [] h = refl
+  ended_here (f ∷ fs) h = absurd h
 
 -- a field that was read leaves fewer rows
-module _ (s : Str) (at : ℕ) (r : code.Field) (fewer : Fewer s at r) where
+module _ (s : Str) (at : ℕ) (r : code.Field) (fewer : Fewer s at (Some r)) where
   pub slot-fewer : (sl : Slot) → r ≡ read.Slot sl → length (rows (drop sl.next s)) < length (rows (drop at s))
   slot-fewer sl e = rw e at fewer
 

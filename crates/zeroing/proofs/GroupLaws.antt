@@ -3,8 +3,7 @@
 use mathlib.Core.Path.{◌≡◌, refl, sym, ap, ◌∙◌}
 use mathlib.Core.Bool.{Bool, true, false}
 use mathlib.Core.List.{List, [], ◌∷◌, ◌++◌}
-use Rattle.std.specs.Prelude.{Option, None, Some}
-use Rattle.std.specs.Prelude.{Option, Some}
+use Rattle.std.specs.Prelude.{Option, None, Some, Result, Ok, Err}
 use Prim.Native.Nat.{ℕ, zero, suc, ◌-◌}
 use native.Mathlib.Numerals.{sub-one}
 use borrow.Author.Tests.{eqb-true, eq-eqb, ne_eqb}
@@ -23,14 +22,11 @@ use Rattle.tree.specs.Fields.{FieldsHere}
 use Rattle.tree.proofs.OtherLines.{never}
 use Rattle.nodes.specs.Index.{by_id, lookup, Indexed, EntryIs, Finds}
 use Rattle.nodes.specs.declared.Entry.{Entry}
-use Rattle.nodes.specs.declared.Found.{Found}
-use Rattle.nodes.specs.declared.Found.TheVariants.{At, Nothing}
 use Rattle.nodes.proofs.Laws.{found-is}
 use Rattle.codegen_types.specs.Out.{Out, ok, refused, or_refused, ◌then◌}
 use Rattle.codegen_types.proofs.NodeLaws.{node_by_id}
 use Rattle.codegen_types.specs.TypeString.{is_pointer, node_of}
-use Rattle.codegen_types.specs.Written.{refusal_number}
-use Rattle.codegen_types.specs.declared.Refusal.TheVariants.{None, Number}
+use Rattle.terms.specs.declared.refusals.Refusal.{Refusal}
 use Rattle.calls.specs.Calls.{zero_tag}
 use Rattle.codegen.specs.Zeroing.{Zeroing, zero_line, contains, push, no_push, zero_slot, zero_fields, zero_node}
 use Rattle.codegen.specs.Zeroing.{zero_fields_of_group}
@@ -55,7 +51,6 @@ added_none l p = record {
   text = wrote_none l p.text;
   clears = sym (either-false p.clear);
   any = sym (either-false p.any);
-  refusal = refl;
 }
 
 is_any_append : (a b : List Str) → is_any (a ++ b) ≡ either (is_any a) (is_any b)
@@ -69,23 +64,39 @@ is_any_append (x ∷ a) b = refl
   clears = f.clears ∙ ap (λ (z : Bool). either z y) e.clears ∙ either_assoc p.clear x y;
   any = f.any ∙ ap (λ (z : Bool). either z (is_any b)) e.any ∙ either_assoc p.any (is_any a) (is_any b)
       ∙ ap (λ (z : Bool). either p.any z) (sym (is_any_append a b));
-  refusal = f.refusal ∙ e.refusal;
 }
+
+-- what a group gives after some lines: with no line before it, or with the lines that f puts before it
+module _ {l : List ℕ} {p : Lines} {l₁ : List ℕ} {p₁ : Lines} (l₂ : List ℕ) where
+  adds-alone : (o : Out Zeroing) (r : Result Lines Refusal) → Added [] false l p l₁ p₁ → Adds o l₁ p₁ l₂ r → Adds o l p l₂ r
+  adds-alone (ok w) (Ok q) a h = a ⊞ h
+  adds-alone (ok w) (Err e) a h = h
+  adds-alone (refused k) (Ok q) a h = h
+  adds-alone (refused k) (Err e) a h = h
+
+  adds-after : (f : Zeroing → Zeroing) (lines : List Str) (clear : Bool)
+      → ((w : Zeroing) → flat_map (f w).result 0 ≡ lines ++ flat_map w.result 0)
+      → ((w : Zeroing) → (f w).clear ≡ either clear w.clear)
+      → Added lines clear l p l₁ p₁ → (o : Out Zeroing) (r : Result Lines Refusal) → Adds o l₁ p₁ l₂ r
+      → Adds (o then λ z. ok (f z)) l p l₂ r
+  adds-after f lines clear e c a (ok w) (Ok q) h = rw (e w, c w) (a ⊞ h)
+  adds-after f lines clear e c a (ok w) (Err x) h = h
+  adds-after f lines clear e c a (refused k) (Ok q) h = h
+  adds-after f lines clear e c a (refused k) (Err x) h = h
 
 -- one line with its byte 10
 added_line : (line : Str) (clear : Bool) (l : List ℕ) (p : Lines) (l₁ : List ℕ) (t₁ : Text) (l₂ : List ℕ) (t₂ : Text)
     (c : Bool) → c ≡ either p.clear clear → Wrote l p.text line l₁ t₁ → Wrote l₁ t₁ (unit 10) l₂ t₂
-    → Added (line ∷ []) clear l p l₂ (record { text = t₂; clear = c; any = true; refusal = p.refusal })
+    → Added (line ∷ []) clear l p l₂ (record { text = t₂; clear = c; any = true })
 unfolding ended
-added_line line clear l p l₁ t₁ l₂ t₂ c e v w =
-    record { text = v ⨾ w; clears = e; any = sym (either_true p.any); refusal = refl }
+added_line line clear l p l₁ t₁ l₂ t₂ c e v w = record { text = v ⨾ w; clears = e; any = sym (either_true p.any) }
 
 -- no line: a repeat, which counts where it clears a pointer
 added_repeat : (clear : Bool) (l : List ℕ) (p : Lines) (c : Bool) → c ≡ either p.clear clear
-    → Added [] clear l p l (record { text = p.text; clear = c; any = p.any; refusal = p.refusal })
+    → Added [] clear l p l (record { text = p.text; clear = c; any = p.any })
 unfolding ended
 added_repeat clear l p c e =
-    record { text = wrote_none l p.text; clears = e; any = sym (either-false p.any); refusal = refl }
+    record { text = wrote_none l p.text; clears = e; any = sym (either-false p.any) }
 
 -- the line of a type at an offset: none, one that is there again, or a new one
 module _ (c o : ℕ) (again : Bool) (l : List ℕ) (p : Lines) where
@@ -95,13 +106,13 @@ module _ (c o : ℕ) (again : Bool) (l : List ℕ) (p : Lines) where
   module _ (line : c ≡ 0 → ⊥) (clear : Bool) (clears : clear ≡ either p.clear (eqb c 12)) where
     pub line-again : again ≡ true
         → Added (slot_lines c o again) (eqb c 12) l p l
-        (record { text = p.text; clear = clear; any = p.any; refusal = p.refusal })
+        (record { text = p.text; clear = clear; any = p.any })
     line-again y = rw (ne_eqb c 0 line, y) (added_repeat (eqb c 12) l p clear clears)
 
     pub line-new : (l₁ : List ℕ) (t₁ : Text) (l₂ : List ℕ) (t₂ : Text) → again ≡ false → Wrote l p.text (zero_text c o) l₁ t₁
         → Wrote l₁ t₁ (unit 10) l₂ t₂
         → Added (slot_lines c o again) (eqb c 12) l p l₂
-        (record { text = t₂; clear = clear; any = true; refusal = p.refusal })
+        (record { text = t₂; clear = clear; any = true })
     line-new l₁ t₁ l₂ t₂ y v w =
         rw (ne_eqb c 0 line, y) (added_line (zero_text c o) (eqb c 12) l p l₁ t₁ l₂ t₂ clear clears v w)
 
@@ -117,87 +128,76 @@ void-is s e =
     go d true z e = rw (eqb-true d 0 z) refl
     go d false z e = never cc
 
--- what was added without a refusal was given
-pub adds-ok : (o : Out Zeroing) (l : List ℕ) (p : Lines) (l₁ : List ℕ) (p₁ : Lines) → p₁.refusal ≡ None → Adds o l p l₁ p₁
+-- what was added was given
+pub adds-ok : (o : Out Zeroing) (l : List ℕ) (p : Lines) (l₁ : List ℕ) (p₁ : Lines) → Adds o l p l₁ (Ok p₁)
     → (z : Zeroing) × (o ≡ ok z)
-adds-ok (ok z) l p l₁ p₁ n a = (z, refl)
-adds-ok (refused k) l p l₁ p₁ n a = let e : None ≡ Some k = sym (ap refusal_number n) ∙ a in never cc
+adds-ok (ok z) l p l₁ p₁ a = (z, refl)
+adds-ok (refused k) l p l₁ p₁ a = absurd a
 
 module _ (inner : ℕ → Out Zeroing) (seen : List Str) where
   fields-slot : (fs : List Field) (line : Option Str) (clear : Bool) → (line ≡ None → clear ≡ false)
-      → (l : List ℕ) (p : Lines) (l₁ : List ℕ) (p₁ : Lines) (l₂ : List ℕ) (p₂ : Lines)
-      → Added (added_lines seen line) clear l p l₁ p₁ → Adds (zero_fields inner (seen_line seen line) fs) l₁ p₁ l₂ p₂
-      → Adds (zero_slot seen clear line (λ s. zero_fields inner s fs)) l p l₂ p₂
+      → (l : List ℕ) (p : Lines) (l₁ : List ℕ) (p₁ : Lines) (l₂ : List ℕ) (r : Result Lines Refusal)
+      → Added (added_lines seen line) clear l p l₁ p₁ → Adds (zero_fields inner (seen_line seen line) fs) l₁ p₁ l₂ r
+      → Adds (zero_slot seen clear line (λ s. zero_fields inner s fs)) l p l₂ r
   unfolding to_lines flat_map
-  fields-slot fs None clear z l p l₁ p₁ l₂ p₂ a h = go (zero_fields inner seen fs) (rw (z refl) at a) h
+  fields-slot fs None clear z l p l₁ p₁ l₂ r a h = adds-alone l₂ (zero_fields inner seen fs) r (rw (z refl) at a) h
+  fields-slot fs (Some line) clear z l p l₁ p₁ l₂ r a h = by-repeat (contains seen line) a h
     where
-      go : (o : Out Zeroing) → Added [] false l p l₁ p₁ → Adds o l₁ p₁ l₂ p₂ → Adds o l p l₂ p₂
-      go (ok w) a h = a ⊞ h
-      go (refused k) a h = h
-  fields-slot fs (Some line) clear z l p l₁ p₁ l₂ p₂ a h = by-repeat (contains seen line) a h
-    where
-      repeat : (o : Out Zeroing) → Added [] clear l p l₁ p₁ → Adds o l₁ p₁ l₂ p₂
-          → Adds (o then λ z. ok (no_push clear z)) l p l₂ p₂
-      repeat (ok w) a h = a ⊞ h
-      repeat (refused k) a h = h
-
-      once : (o : Out Zeroing) → Added (line ∷ []) clear l p l₁ p₁ → Adds o l₁ p₁ l₂ p₂
-          → Adds (o then λ z. ok (push (Line line) clear z)) l p l₂ p₂
-      once (ok w) a h = a ⊞ h
-      once (refused k) a h = h
-
       by-repeat : (t : Bool) → Added (cond t [] (line ∷ [])) clear l p l₁ p₁
-          → Adds (zero_fields inner (cond t seen (line ∷ seen)) fs) l₁ p₁ l₂ p₂
+          → Adds (zero_fields inner (cond t seen (line ∷ seen)) fs) l₁ p₁ l₂ r
           → Adds (cond t (zero_fields inner seen fs then λ z. ok (no_push clear z))
-          (zero_fields inner (line ∷ seen) fs then λ z. ok (push (Line line) clear z))) l p l₂ p₂
-      by-repeat true a h = repeat (zero_fields inner seen fs) a h
-      by-repeat false a h = once (zero_fields inner (line ∷ seen) fs) a h
+          (zero_fields inner (line ∷ seen) fs then λ z. ok (push (Line line) clear z))) l p l₂ r
+      by-repeat true a h =
+          adds-after l₂ (no_push clear) [] clear (λ w. refl) (λ w. refl) a (zero_fields inner seen fs) r h
+      by-repeat false a h =
+          adds-after l₂ (push (Line line) clear) (line ∷ []) clear (λ w. refl) (λ w. refl) a
+          (zero_fields inner (line ∷ seen) fs) r h
 
   -- a group inside that is not refused, and one that is
-  fields-group : (fs : List Field) (id : ℕ) (l : List ℕ) (p : Lines) (l₁ : List ℕ) (p₁ : Lines) (l₂ : List ℕ) (p₂ : Lines)
-      → p₁.refusal ≡ None → Adds (inner id) l p l₁ p₁ → Adds (zero_fields inner seen fs) l₁ p₁ l₂ p₂
-      → Adds (inner id then λ g. zero_fields inner seen fs then λ z. ok (push (Branch g.result) g.clear z)) l p l₂ p₂
+  fields-group : (fs : List Field) (id : ℕ) (l : List ℕ) (p : Lines) (l₁ : List ℕ) (p₁ : Lines) (l₂ : List ℕ)
+      (r : Result Lines Refusal) → Adds (inner id) l p l₁ (Ok p₁) → Adds (zero_fields inner seen fs) l₁ p₁ l₂ r
+      → Adds (inner id then λ g. zero_fields inner seen fs then λ z. ok (push (Branch g.result) g.clear z)) l p l₂ r
   unfolding to_lines flat_map
-  fields-group fs id l p l₁ p₁ l₂ p₂ n a h = go (inner id) (zero_fields inner seen fs) a h
+  fields-group fs id l p l₁ p₁ l₂ r a h = go (inner id) a
     where
-      go : (o q : Out Zeroing) → Adds o l p l₁ p₁ → Adds q l₁ p₁ l₂ p₂
-          → Adds (o then λ g. q then λ z. ok (push (Branch g.result) g.clear z)) l p l₂ p₂
-      go (ok g) (ok z) a h = a ⊞ h
-      go (ok g) (refused k) a h = h
-      go (refused k) q a h = let e : None ≡ Some k = sym (ap refusal_number n) ∙ a in never cc
+      go : (o : Out Zeroing) → Adds o l p l₁ (Ok p₁)
+          → Adds (o then λ g. zero_fields inner seen fs then λ z. ok (push (Branch g.result) g.clear z)) l p l₂ r
+      go (ok g) a =
+          adds-after l₂ (push (Branch g.result) g.clear) (flat_map g.result 0) g.clear (λ w. refl) (λ w. refl) a
+          (zero_fields inner seen fs) r h
+      go (refused k) a = absurd a
 
-  fields-stop : (fs : List Field) (id k : ℕ) (l : List ℕ) (p : Lines) (l₁ : List ℕ) (p₁ : Lines)
-      → p.refusal ≡ None → p₁.refusal ≡ Number k → Adds (inner id) l p l₁ p₁
-      → Adds (inner id then λ g. zero_fields inner seen fs then λ z. ok (push (Branch g.result) g.clear z)) l p l₁ p₁
-  fields-stop fs id k l p l₁ p₁ n y a = go (inner id) a
+  fields-stop : (fs : List Field) (id : ℕ) (l : List ℕ) (p : Lines) (l₁ : List ℕ) (e : Refusal)
+      → Adds (inner id) l p l₁ (Err e)
+      → Adds (inner id then λ g. zero_fields inner seen fs then λ z. ok (push (Branch g.result) g.clear z)) l p l₁ (Err e)
+  fields-stop fs id l p l₁ e a = go (inner id) a
     where
-      go : (o : Out Zeroing) → Adds o l p l₁ p₁
-          → Adds (o then λ g. zero_fields inner seen fs then λ z. ok (push (Branch g.result) g.clear z)) l p l₁ p₁
-      go (ok g) a = let e = a.refusal in never cc
+      go : (o : Out Zeroing) → Adds o l p l₁ (Err e)
+          → Adds (o then λ g. zero_fields inner seen fs then λ z. ok (push (Branch g.result) g.clear z)) l p l₁ (Err e)
+      go (ok g) a = absurd a
       go (refused j) a = a
 
-  pub fields-none : (l : List ℕ) (p : Lines) → Adds (zero_fields inner seen []) l p l p
+  pub fields-none : (l : List ℕ) (p : Lines) → Adds (zero_fields inner seen []) l p l (Ok p)
   unfolding zero_fields flat_map
   fields-none l p = added_none l p
 
   -- the next field is a slot, or a group
   pub next-slot : (f : Field) (fs : List Field) (s : Slot) (l : List ℕ) (p : Lines) (l₁ : List ℕ) (p₁ : Lines) (l₂ : List ℕ)
-      (p₂ : Lines) → f.arm ≡ slot s → Added (added_lines seen (zero_line s)) (is_pointer s.ty) l p l₁ p₁
-      → Adds (zero_fields inner (seen_arm seen f.arm) fs) l₁ p₁ l₂ p₂ → Adds (zero_fields inner seen (f ∷ fs)) l p l₂ p₂
+      (r : Result Lines Refusal) → f.arm ≡ slot s → Added (added_lines seen (zero_line s)) (is_pointer s.ty) l p l₁ p₁
+      → Adds (zero_fields inner (seen_arm seen f.arm) fs) l₁ p₁ l₂ r → Adds (zero_fields inner seen (f ∷ fs)) l p l₂ r
   unfolding zero_fields
-  next-slot f fs s l p l₁ p₁ l₂ p₂ e a h =
-      rw e (fields-slot fs (zero_line s) (is_pointer s.ty) (void-is s) l p l₁ p₁ l₂ p₂ a (rw e at h))
+  next-slot f fs s l p l₁ p₁ l₂ r e a h =
+      rw e (fields-slot fs (zero_line s) (is_pointer s.ty) (void-is s) l p l₁ p₁ l₂ r a (rw e at h))
 
-  module _ (f : Field) (fs : List Field) (id : ℕ) (e : f.arm ≡ group id) (l : List ℕ) (p : Lines) (l₁ : List ℕ) (p₁ : Lines)
-      (a : Adds (inner id) l p l₁ p₁) where
-    pub next-group : (l₂ : List ℕ) (p₂ : Lines) → p₁.refusal ≡ None
-        → Adds (zero_fields inner (seen_arm seen f.arm) fs) l₁ p₁ l₂ p₂ → Adds (zero_fields inner seen (f ∷ fs)) l p l₂ p₂
+  module _ (f : Field) (fs : List Field) (id : ℕ) (e : f.arm ≡ group id) (l : List ℕ) (p : Lines) (l₁ : List ℕ) where
+    pub next-group : (p₁ : Lines) → Adds (inner id) l p l₁ (Ok p₁) → (l₂ : List ℕ) (r : Result Lines Refusal)
+        → Adds (zero_fields inner (seen_arm seen f.arm) fs) l₁ p₁ l₂ r → Adds (zero_fields inner seen (f ∷ fs)) l p l₂ r
     unfolding zero_fields
-    next-group l₂ p₂ n h = rw e (fields-group fs id l p l₁ p₁ l₂ p₂ n a (rw e at h))
+    next-group p₁ a l₂ r h = rw e (fields-group fs id l p l₁ p₁ l₂ r a (rw e at h))
 
-    pub next-stop : (k : ℕ) → p.refusal ≡ None → p₁.refusal ≡ Number k → Adds (zero_fields inner seen (f ∷ fs)) l p l₁ p₁
+    pub next-stop : (x : Refusal) → Adds (inner id) l p l₁ (Err x) → Adds (zero_fields inner seen (f ∷ fs)) l p l₁ (Err x)
     unfolding zero_fields
-    next-stop k n y = rw e (fields-stop fs id k l p l₁ p₁ n y a)
+    next-stop x a = rw e (fields-stop fs id l p l₁ x a)
 
 -- ---- a group's node
 
@@ -208,37 +208,30 @@ module _ (tags offset : ℕ) (l : List ℕ) (p : Lines) where
 
   pub tag_some : (l₁ : List ℕ) (t₁ : Text) (l₂ : List ℕ) (t₂ : Text) → (tags ≡ 0 → ⊥)
       → Wrote l p.text (zero_tag offset) l₁ t₁ → Wrote l₁ t₁ (unit 10) l₂ t₂
-      → Added (tag_lines tags offset) false l p l₂ (record { text = t₂; clear = p.clear; any = true; refusal = p.refusal })
+      → Added (tag_lines tags offset) false l p l₂ (record { text = t₂; clear = p.clear; any = true })
   tag_some l₁ t₁ l₂ t₂ z v w =
       rw (ne_eqb tags 0 z)
       (added_line (zero_tag offset) false l p l₁ t₁ l₂ t₂ p.clear (sym (either-false p.clear)) v w)
 
 -- the tag's line and the fields' lines
-node-adds : (inner : ℕ → Out Zeroing) (n : Node) (l : List ℕ) (p : Lines) (l₁ : List ℕ) (p₁ : Lines) (l₂ : List ℕ) (p₂ : Lines)
-    → Added (tag_lines n.tag_count n.tag_offset) false l p l₁ p₁
-    → Adds (zero_fields inner (tag_lines n.tag_count n.tag_offset) n.fields) l₁ p₁ l₂ p₂
-    → Adds (zero_node inner n) l p l₂ p₂
+node-adds : (inner : ℕ → Out Zeroing) (n : Node) (l : List ℕ) (p : Lines) (l₁ : List ℕ) (p₁ : Lines) (l₂ : List ℕ)
+    (r : Result Lines Refusal) → Added (tag_lines n.tag_count n.tag_offset) false l p l₁ p₁
+    → Adds (zero_fields inner (tag_lines n.tag_count n.tag_offset) n.fields) l₁ p₁ l₂ r
+    → Adds (zero_node inner n) l p l₂ r
 unfolding to_lines flat_map
-node-adds inner n l p l₁ p₁ l₂ p₂ a h = by-tag (eqb n.tag_count 0) a h
+node-adds inner n l p l₁ p₁ l₂ r a h = by-tag (eqb n.tag_count 0) a h
   where
     tag : Str
     tag = zero_tag n.tag_offset
 
-    bare : (o : Out Zeroing) → Added [] false l p l₁ p₁ → Adds o l₁ p₁ l₂ p₂ → Adds o l p l₂ p₂
-    bare (ok w) a h = a ⊞ h
-    bare (refused k) a h = h
-
-    tagged : (o : Out Zeroing) → Added (tag ∷ []) false l p l₁ p₁ → Adds o l₁ p₁ l₂ p₂
-        → Adds (o then λ z. ok (push (Line tag) false z)) l p l₂ p₂
-    tagged (ok w) a h = a ⊞ h
-    tagged (refused k) a h = h
-
     by-tag : (t : Bool) → Added (cond t [] (tag ∷ [])) false l p l₁ p₁
-        → Adds (zero_fields inner (cond t [] (tag ∷ [])) n.fields) l₁ p₁ l₂ p₂
+        → Adds (zero_fields inner (cond t [] (tag ∷ [])) n.fields) l₁ p₁ l₂ r
         → Adds (cond t (zero_fields inner [] n.fields)
-        (zero_fields inner (tag ∷ []) n.fields then λ z. ok (push (Line tag) false z))) l p l₂ p₂
-    by-tag true a h = bare (zero_fields inner [] n.fields) a h
-    by-tag false a h = tagged (zero_fields inner (tag ∷ []) n.fields) a h
+        (zero_fields inner (tag ∷ []) n.fields then λ z. ok (push (Line tag) false z))) l p l₂ r
+    by-tag true a h = adds-alone l₂ (zero_fields inner [] n.fields) r a h
+    by-tag false a h =
+        adds-after l₂ (push (Line tag) false) (tag ∷ []) false (λ w. refl) (λ w. refl) a
+        (zero_fields inner (tag ∷ []) n.fields) r h
 
 -- with no level left, and with one
 pub none_left : (sheet : Sheet) (left id : ℕ) → left ≡ 0 → zero_fields_of_group sheet left id ≡ refused 4
@@ -253,29 +246,29 @@ some_left sheet zero id z = absurd (z refl)
 some_left sheet (suc left) id z = rw (sub-one (suc left)) refl
 
 -- the node that the index has for an id
-module _ (s : Str) (sheet : Sheet) (index : List ℕ) (left id : ℕ) (more : left ≡ 0 → ⊥) (f : Found)
+module _ (s : Str) (sheet : Sheet) (index : List ℕ) (left id : ℕ) (more : left ≡ 0 → ⊥) (f : Option Entry)
     (e : f ≡ lookup index id) (x : Indexed s sheet.nodes index) where
   abbrev struct_of : Node → Out Zeroing
   struct_of n = cond (eqb n.is_struct 1) (zero_node (zero_fields_of_group sheet (left - 1)) n) (refused 14)
 
-  finds : (g : Found) → f ≡ g → Finds s index g (by_id id sheet.nodes)
+  finds : (g : Option Entry) → f ≡ g → Finds s index g (by_id id sheet.nodes)
   finds g h = rw (← e, h) at (found-is s sheet.nodes index id x)
 
-  pub group_missing : f ≡ Nothing → zero_fields_of_group sheet left id ≡ refused 5
+  pub group_missing : f ≡ None → zero_fields_of_group sheet left id ≡ refused 5
   group_missing h =
-      rw (some_left sheet left id more, node_by_id sheet.nodes id) (go (by_id id sheet.nodes) (finds Nothing h))
+      rw (some_left sheet left id more, node_by_id sheet.nodes id) (go (by_id id sheet.nodes) (finds None h))
     where
-      go : (o : Option Node) → Finds s index Nothing o → (or_refused 5 o then struct_of) ≡ refused 5
+      go : (o : Option Node) → Finds s index None o → (or_refused 5 o then struct_of) ≡ refused 5
       go None w = refl
       go (Some n) w = absurd w
 
-  module _ (node : Entry) (there : f ≡ At node) where
+  module _ (node : Entry) (there : f ≡ Some node) where
     group-there : (Q : Out Zeroing → Type 0) → ((n : Node) → EntryIs s index node n → Q (struct_of n))
         → Q (zero_fields_of_group sheet left id)
     group-there Q law =
-        rw (some_left sheet left id more, node_by_id sheet.nodes id) (go (by_id id sheet.nodes) (finds (At node) there))
+        rw (some_left sheet left id more, node_by_id sheet.nodes id) (go (by_id id sheet.nodes) (finds (Some node) there))
       where
-        go : (o : Option Node) → Finds s index (At node) o → Q (or_refused 5 o then struct_of)
+        go : (o : Option Node) → Finds s index (Some node) o → Q (or_refused 5 o then struct_of)
         go None w = absurd w
         go (Some n) w = law n w
 
@@ -291,22 +284,22 @@ module _ (s : Str) (sheet : Sheet) (index : List ℕ) (left id : ℕ) (more : le
         (back-node (zero_fields_of_group sheet (left - 1)) n (fields n.fields w.fields)))
 
     pub group-adds : node.is_struct ≡ 1
-        → (l : List ℕ) (p : Lines) (l₁ : List ℕ) (p₁ : Lines) (l₂ : List ℕ) (p₂ : Lines)
+        → (l : List ℕ) (p : Lines) (l₁ : List ℕ) (p₁ : Lines) (l₂ : List ℕ) (r : Result Lines Refusal)
         → Added (tag_lines node.tag_count node.tag_offset) false l p l₁ p₁
         → ((fs : List Field) → FieldsHere (rows (drop node.fields s)) fs
         → Adds (zero_fields (zero_fields_of_group sheet (left - 1)) (tag_lines node.tag_count node.tag_offset) fs)
-        l₁ p₁ l₂ p₂)
-        → Adds (zero_fields_of_group sheet left id) l p l₂ p₂
-    group-adds h l p l₁ p₁ l₂ p₂ tag fields = group-there (λ o. Adds o l p l₂ p₂) (λ n w.
+        l₁ p₁ l₂ r)
+        → Adds (zero_fields_of_group sheet left id) l p l₂ r
+    group-adds h l p l₁ p₁ l₂ r tag fields = group-there (λ o. Adds o l p l₂ r) (λ n w.
         rw (eq-eqb n.is_struct 1 (sym w.is-struct ∙ h))
-        (node-adds (zero_fields_of_group sheet (left - 1)) n l p l₁ p₁ l₂ p₂
+        (node-adds (zero_fields_of_group sheet (left - 1)) n l p l₁ p₁ l₂ r
         (rw (w.tag-count, w.tag-offset) at tag) (rw (w.tag-count, w.tag-offset) at (fields n.fields w.fields))))
 
 -- ---- the whole text
 
 -- no lines so far
 abbrev start : Text → Lines
-start t = record { text = t; clear = false; any = false; refusal = None }
+start t = record { text = t; clear = false; any = false }
 
 any-lines : (ls : List Str) → is_any ls ≡ true → ls ≡ [] → ⊥
 any-lines [] e h = never cc
@@ -316,33 +309,29 @@ no_lines : (ls : List Str) → is_any ls ≡ false → ls ≡ []
 no_lines [] e = refl
 no_lines (l ∷ ls) e = never cc
 
-module _ (o : Out Zeroing) (l : List ℕ) (t : Text) (l₁ : List ℕ) (p : Lines) (a : Adds o l (start t) l₁ p) where
-  pub text-some : p.any ≡ true → Zeroes o l t l₁ (record { text = p.text; clear = p.clear; refusal = p.refusal })
+module _ (o : Out Zeroing) (l : List ℕ) (t : Text) (l₁ : List ℕ) (p : Lines) (a : Adds o l (start t) l₁ (Ok p)) where
+  pub text-some : p.any ≡ true → Zeroes o l t l₁ (Ok (record { text = p.text; clear = p.clear }))
   unfolding to_lines
   text-some y = go o a
     where
-      go : (o : Out Zeroing) → Adds o l (start t) l₁ p
-          → Zeroes o l t l₁ (record { text = p.text; clear = p.clear; refusal = p.refusal })
+      go : (o : Out Zeroing) → Adds o l (start t) l₁ (Ok p) → Zeroes o l t l₁ (Ok (record { text = p.text; clear = p.clear }))
       go (ok z) a = record {
         text = rw (stringify-lines (Branch z.result) (any-lines (flat_map z.result 0) (sym a.any ∙ y))) a.text;
         clear = a.clears;
-        refusal = ap refusal_number a.refusal;
       }
       go (refused k) a = a
 
   pub text-none : (l₂ : List ℕ) (t₂ : Text) → p.any ≡ false → Wrote l₁ p.text (stringify (Branch lines.none)) l₂ t₂
-      → Zeroes o l t l₂ (record { text = t₂; clear = p.clear; refusal = p.refusal })
+      → Zeroes o l t l₂ (Ok (record { text = t₂; clear = p.clear }))
   unfolding to_lines flat_map ended
   text-none l₂ t₂ y w = go o a
     where
-      go : (o : Out Zeroing) → Adds o l (start t) l₁ p
-          → Zeroes o l t l₂ (record { text = t₂; clear = p.clear; refusal = p.refusal })
+      go : (o : Out Zeroing) → Adds o l (start t) l₁ (Ok p) → Zeroes o l t l₂ (Ok (record { text = t₂; clear = p.clear }))
       go (ok z) a =
           let e = no_lines (flat_map z.result 0) (sym a.any ∙ y) in
           let v : Wrote l t [] l₁ p.text = rw e at a.text in
           record {
             text = rw (stringify-none (Branch z.result) e) (v ⨾ rw (stringify-none (Branch lines.none) refl) at w);
             clear = a.clears;
-            refusal = ap refusal_number a.refusal;
           }
       go (refused k) a = a

@@ -10,14 +10,14 @@ use native.Mathlib.Omega.{arith}
 use borrow.Author.Tests.{eqb-true}
 use lib.Dec.{eqb}
 use lib.ListN.{drop}
+use Rattle.std.specs.Prelude.{Option, Some, Result}
 use Rattle.text.specs.Bytes.{Str, cond}
 use Rattle.row.specs.Rows.{rows}
 use Rattle.tree.specs.Tree.{Field, Sheet}
 use Rattle.tree.specs.Fields.{FieldsHere}
 use Rattle.nodes.specs.Index.{lookup, Indexed}
 use Rattle.nodes.specs.declared.Entry.{Entry}
-use Rattle.nodes.specs.declared.Found.{Found}
-use Rattle.nodes.specs.declared.Found.TheVariants.{At}
+use Rattle.terms.specs.declared.refusals.Refusal.{Refusal}
 use Rattle.codegen_types.specs.Out.{Out, refused}
 use Rattle.codegen.specs.Zeroing.{Zeroing, zero_fields_of_group}
 use Rattle.zeroing.specs.Added.{Adds}
@@ -28,7 +28,7 @@ use Rattle.zeroing.proofs.GroupLaws.{none_left, group-refused}
 use Rattle.zeroing.proofs.TurnLaws.{Refuses}
 
 -- the levels fall
-pub levels_fall : (left id start m : ℕ) → m ≡ inner_levels left id start → (left ≡ 0 → ⊥) → m < left
+levels_fall : (left id start m : ℕ) → m ≡ inner_levels left id start → (left ≡ 0 → ⊥) → m < left
 levels_fall left id start m is more = rw is (go (eqb id start))
   where
     go : (t : Bool) → cond t 0 (left - 1) < left
@@ -68,8 +68,8 @@ module _ (sheet : Sheet) (start left id : ℕ) where
     }
 
 -- a group inside this one, after fields of which each was given
-module _ (s : Str) (sheet : Sheet) (index : List ℕ) (left id : ℕ) (more : left ≡ 0 → ⊥) (f : Found)
-    (e : f ≡ lookup index id) (x : Indexed s sheet.nodes index) (node : Entry) (there : f ≡ At node)
+module _ (s : Str) (sheet : Sheet) (index : List ℕ) (left id : ℕ) (more : left ≡ 0 → ⊥) (f : Option Entry)
+    (e : f ≡ lookup index id) (x : Indexed s sheet.nodes index) (node : Entry) (there : f ≡ Some node)
     (struct : node.is_struct ≡ 1) (start : ℕ) (lead : Leads sheet start left id) (inner : ℕ)
     (back : (other : ℕ → Out Zeroing) → Fewer (zero_fields_of_group sheet (left - 1)) other → other inner ≡ refused 4
     → (fs : List Field) → FieldsHere (rows (drop node.fields s)) fs → Refuses other fs) where
@@ -80,9 +80,9 @@ module _ (s : Str) (sheet : Sheet) (index : List ℕ) (left id : ℕ) (more : le
       rw (sub-one (suc l))
       (back (zero_fields_of_group sheet l) (less_levels sheet l (left - 1) (omega arith)) z fs here)))
 
-  pub inner-adds : (m : ℕ) → m ≡ inner_levels left inner start → (l : List ℕ) (p : Lines) (l₁ : List ℕ) (p₁ : Lines)
-      → (Leads sheet start m inner → Adds (zero_fields_of_group sheet m inner) l p l₁ p₁)
-      → Adds (zero_fields_of_group sheet (left - 1) inner) l p l₁ p₁
-  inner-adds m is l p l₁ p₁ a =
+  pub inner-adds : (m : ℕ) → m ≡ inner_levels left inner start → (l : List ℕ) (p : Lines) (l₁ : List ℕ)
+      (r : Result Lines Refusal) → (Leads sheet start m inner → Adds (zero_fields_of_group sheet m inner) l p l₁ r)
+      → Adds (zero_fields_of_group sheet (left - 1) inner) l p l₁ r
+  inner-adds m is l p l₁ r a =
       rw (← levels-same sheet start left inner comes-in more, ← is)
       (a (rw is (leads-on sheet start left inner comes-in more)))

@@ -3,12 +3,12 @@
 use mathlib.Core.Path.{◌≡◌, refl, sym, ap, ◌∙◌}
 use mathlib.Core.Bool.{Bool, true, false}
 use mathlib.Core.List.{List, [], ◌∷◌, ◌++◌}
-use Prim.Native.Nat.{ℕ, zero, suc, ◌-◌, ◌≤◌, ◌<◌}
+use Prim.Native.Nat.{ℕ, suc, ◌≤◌}
 use native.Mathlib.Omega.{arith}
-use native.Mathlib.Numerals.{sub-one}
 use lib.Dec.{eqb}
 use lib.ListN.{take, drop}
 use lib.Seq.{take-nil}
+use Rattle.std.specs.Prelude.{None, Some}
 use Rattle.text.specs.Bytes.{Str, both, either}
 use Rattle.row.specs.Rows.{rows}
 use Rattle.tree.specs.Tree.{Field}
@@ -21,7 +21,7 @@ use Rattle.field.specs.declared.Field as code
 use Rattle.field.specs.declared.Field.TheVariants as read
 use Rattle.zeroing.specs.Lines.{line_type, has_line, repeats}
 use Rattle.zeroing.proofs.SlotLaws.{either-false, either_assoc}
-use Rattle.zeroing.proofs.FieldLaws.{some-slot, some-group, turn, ended_here, says_slot, says-group}
+use Rattle.zeroing.proofs.FieldLaws.{turn, ended_here, says_slot, says-group}
 
 -- one more field
 pub repeats_append : (c o : ℕ) (fs : List Field) (f : Field)
@@ -41,45 +41,42 @@ module _ (c o : ℕ) (rs : Rows) (n : ℕ) where
   unfolding repeats
   tells_none z fs h = let e : n ≡ 0 = omega arith in rw e refl
 
-  module _ (s : Str) (r : code.Field) (first : (fs : List Field) → FieldsHere rs fs → ReadsFirst s r fs) where
-    pub tells-end : r ≡ read.Nothing → Tells c o rs n false
+  -- no field is read, or one, after which so many are left
+  module _ (s : Str) where
+    pub tells-end : ((fs : List Field) → FieldsHere rs fs → ReadsFirst s None fs) → Tells c o rs n false
     unfolding repeats
-    tells-end e fs h = rw (ended_here s r e fs (first fs h), take-nil {A = Field} n) refl
+    tells-end first fs h = rw (ended_here s fs (first fs h), take-nil {A = Field} n) refl
 
-    module _ (more : 0 < n) where
+    module _ (r : code.Field) (first : (fs : List Field) → FieldsHere rs fs → ReadsFirst s (Some r) fs) (m : ℕ)
+        (more : n ≡ suc m) where
       head : (f : Field) (fs : List Field)
-          → repeats c o (take n (f ∷ fs)) ≡ either (has_line c o f.arm) (repeats c o (take (n - 1) fs))
+          → repeats c o (take n (f ∷ fs)) ≡ either (has_line c o f.arm) (repeats c o (take m fs))
       unfolding repeats
-      head f fs = go n more
-        where
-          go : (m : ℕ) → 0 < m
-              → repeats c o (take m (f ∷ fs)) ≡ either (has_line c o f.arm) (repeats c o (take (m - 1) fs))
-          go zero z = let y : ⊥ = omega arith in absurd y
-          go (suc m) z = rw (sub-one (suc m)) refl
+      head f fs = rw more refl
 
       module _ (sl : Slot) (is : r ≡ read.Slot sl) (b : Bool)
           (has : b ≡ both (eqb sl.offset o) (eqb (line_type sl.kind) c)) where
         pub tells-here : b ≡ true → Tells c o rs n true
         unfolding has_line
         tells-here y fs h =
-            let t = turn s r (some-slot is) 0 fs (first fs h) in
+            let t = turn s r 0 fs (first fs h) in
             let w = says_slot s r t.field sl is t.said in
             rw (t.first, head t.field (drop 1 fs), w.is, w.offset_is, w.kind_is, ← has, y) refl
 
-        pub tells_more : (x : Bool) → b ≡ false → Tells c o (rows (drop sl.next s)) (n - 1) x → Tells c o rs n x
+        pub tells_more : (x : Bool) → b ≡ false → Tells c o (rows (drop sl.next s)) m x → Tells c o rs n x
         unfolding has_line
         tells_more x y later fs h =
-            let after : Tells c o (rows (drop (next_of r) s)) (n - 1) x = rw is later in
-            let t = turn s r (some-slot is) 0 fs (first fs h) in
+            let after : Tells c o (rows (drop (next_of r) s)) m x = rw is later in
+            let t = turn s r 0 fs (first fs h) in
             let w = says_slot s r t.field sl is t.said in
             rw (t.first, head t.field (drop 1 fs), w.is, w.offset_is, w.kind_is, ← has, y)
             (after (drop 1 fs) t.next)
 
-      pub tells-group : (g : Group) → r ≡ read.Group g → (x : Bool) → Tells c o (rows (drop g.next s)) (n - 1) x
+      pub tells-group : (g : Group) → r ≡ read.Group g → (x : Bool) → Tells c o (rows (drop g.next s)) m x
           → Tells c o rs n x
       unfolding has_line
       tells-group g is x later fs h =
-          let after : Tells c o (rows (drop (next_of r) s)) (n - 1) x = rw is later in
-          let t = turn s r (some-group is) 0 fs (first fs h) in
+          let after : Tells c o (rows (drop (next_of r) s)) m x = rw is later in
+          let t = turn s r 0 fs (first fs h) in
           let w = says-group s r t.field g is t.said in
           rw (t.first, head t.field (drop 1 fs), w) (after (drop 1 fs) t.next)

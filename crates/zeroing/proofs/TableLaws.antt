@@ -4,12 +4,12 @@
 use mathlib.Core.Path.{◌≡◌, refl, sym, ap, ◌∙◌}
 use mathlib.Core.Bool.{Bool, true, false}
 use mathlib.Core.Logic.{◌⊎◌, inl, inr, ⊎_elim}
-use mathlib.Core.List.{List, []}
+use mathlib.Core.List.{List, [], ◌∷◌}
 use Prim.Native.Nat.{ℕ, zero, suc, ◌+◌, ◌-◌, ◌^◌, ◌≤◌, ◌<◌}
 use native.Mathlib.Numerals.{add-one}
 use native.Mathlib.Omega.{arith}
 use native.Mathlib.Decide.{ℕ_discrete}
-use borrow.Author.Tests.{eqb-true, eq-eqb, lt-ltb, le-ltb}
+use borrow.Author.Tests.{eqb-true, eq-eqb, lt-ltb}
 use lib.Dec.{eqb, ltb}
 use lib.ListN.{length, get_or, set, replicate}
 use lib.Seq.{get_or-set_same, get_or-set_other}
@@ -17,7 +17,7 @@ use Rattle.text.specs.Bytes.{cond, both, either}
 use Rattle.text.proofs.BytesLaws.{both_true}
 use Rattle.tree.specs.Tree.{Field}
 use Rattle.zeroing.specs.Lines.{repeats}
-use Rattle.zeroing.specs.Table.{table_size, stops, place_below, own_place, table_place, Kept, with_line, Knows}
+use Rattle.zeroing.specs.Table.{table_size, stops, place_below, own_place, table_place, KeptLines, with_line, Knows}
 use Rattle.zeroing.proofs.SlotLaws.{either_true}
 
 -- ---- a place
@@ -63,7 +63,7 @@ module _ (xs ys : List ℕ) (c o : ℕ) where
       go true e = rw (lt-ltb i table_size (omega arith)) refl
       go false e = e
 
-  abbrev pub from_last : ℕ
+  abbrev from_last : ℕ
   from_last = place_below xs ys c o table_size table_size
 
   -- the own place p and what its test says
@@ -74,28 +74,26 @@ module _ (xs ys : List ℕ) (c o : ℕ) where
     pub own-passed : b ≡ false → place_below xs ys c o from_last p ≡ table_place xs ys c o
     own-passed e = rw (← own, place_at from_last p, ← is, e) refl
 
-  -- a search from the last place down that goes on with itself
-  last-again : place_below xs ys c o from_last table_size ≡ from_last
-  last-again = place-or from_last table_size (omega arith) ∙ go (ltb from_last table_size)
-    where
-      go : (t : Bool) → cond t from_last from_last ≡ from_last
-      go true = refl
-      go false = refl
+  -- what is left of the search for the place after k of its two parts: from the own place p down, and from the last place down
+  abbrev pub left_after : ℕ → ℕ → ℕ
+  left_after p zero = place_below xs ys c o from_last p
+  left_after p (suc zero) = from_last
+  left_after p (suc (suc k)) = table_size
 
-  -- what is found below an end, where the search from there on, and then from the last place down, gives the place
-  module _ (end : ℕ) (most : end ≤ table_size) (left : place_below xs ys c o from_last end ≡ table_place xs ys c o) (q : ℕ)
-      (is : q ≡ place_below xs ys c o table_size end) where
-    pub below-found : q < table_size → q ≡ table_place xs ys c o
-    below-found h = rw (place-or from_last end most, ← is, lt-ltb q table_size h) at left
+  -- one part: a place is found, or none is
+  pub part-found : (p k : ℕ) → p ≤ table_size → k < 2 → left_after p k ≡ table_place xs ys c o → (i : ℕ)
+      → i ≡ place_below xs ys c o table_size (get_or (p ∷ table_size ∷ []) k 0) → i < table_size
+      → i ≡ table_place xs ys c o
+  part-found p zero most two left i is h = rw (place-or from_last p most, ← is, lt-ltb i table_size h) at left
+  part-found p (suc zero) most two left i is h = is ∙ left
+  part-found p (suc (suc k)) most two left i is h = let z : ⊥ = omega arith in absurd z
 
-    below_none : table_size ≤ q → from_last ≡ table_place xs ys c o
-    below_none h = rw (place-or from_last end most, ← is, le-ltb q table_size h) at left
-
-    pub below_on : table_size ≤ q → (n : ℕ) → n ≡ table_size → place_below xs ys c o from_last n ≡ table_place xs ys c o
-    below_on h n e = rw e (last-again ∙ below_none h)
-
-    pub below_last : table_size ≤ q → end ≡ table_size → q ≡ table_place xs ys c o
-    below_last h e = is ∙ ap (place_below xs ys c o table_size) e ∙ below_none h
+  pub part-none : (p k : ℕ) → p ≤ table_size → k < 2 → left_after p k ≡ table_place xs ys c o
+      → table_size ≡ place_below xs ys c o table_size (get_or (p ∷ table_size ∷ []) k 0)
+      → left_after p (k + 1) ≡ table_place xs ys c o
+  part-none p zero most two left none = rw (place-or from_last p most, ← none) at left
+  part-none p (suc zero) most two left none = none ∙ left
+  part-none p (suc (suc k)) most two left none = let z : ⊥ = omega arith in absurd z
 
   -- a place that is found has the line or is free
   place-stops : (r i : ℕ) → (r < table_size → stops xs ys c o r ≡ true) → place_below xs ys c o r i < table_size
@@ -206,7 +204,7 @@ apart a b x y h = go (eqb a b) (eqb x y) refl refl
     go false u e f = refl
 
 -- no line needs no place
-pub kept-first : (n : ℕ) → Kept (replicate n 0) (replicate n 0) (λ c o. repeats c o [])
+pub kept-first : (n : ℕ) → KeptLines (replicate n 0) (replicate n 0) (λ c o. repeats c o [])
 unfolding repeats
 kept-first n = record { held = λ i h. absurd (h (none n i)); free = λ c o x y z w. refl }
   where
@@ -215,27 +213,19 @@ kept-first n = record { held = λ i h. absurd (h (none n i)); free = λ c o x y 
     none (suc n) zero = refl
     none (suc n) (suc i) = none n i
 
-module _ (xs ys : List ℕ) (fs : List Field) (k : Kept xs ys (λ c o. repeats c o fs)) where
+module _ (xs ys : List ℕ) (fs : List Field) (k : KeptLines xs ys (λ c o. repeats c o fs)) where
   module _ (c o : ℕ) where
     -- one more line, and the table stays
     kept_on : ((d q : ℕ) → (d ≡ 0 → ⊥) → q < 2 ^ 32 → Free ys (table_place xs ys d q) → o ≡ q → c ≡ d → ⊥)
-        → Kept xs ys (with_line c o fs)
+        → KeptLines xs ys (with_line c o fs)
     kept_on h = record {
       held = λ i n. rw (k.held i n) refl;
       free = λ d q z w p e. rw (k.free d q z w p e) (apart o q c d (h d q z w (p, e)));
     }
 
     -- Void has no line
-    pub kept-void : c ≡ 0 → Kept xs ys (with_line c o fs)
+    pub kept-void : c ≡ 0 → KeptLines xs ys (with_line c o fs)
     kept-void z = kept_on (λ d q n w p x y. n (sym y ∙ z))
-
-    -- a wide offset is sought in the sheet
-    pub kept-wide : 4294967295 < o → Kept xs ys (with_line c o fs)
-    kept-wide h = kept_on (λ d q n w p x y. let z : ⊥ = omega arith in z)
-
-    -- so is a line that has no place
-    pub kept_full : table_size ≤ table_place xs ys c o → Kept xs ys (with_line c o fs)
-    kept_full h = kept_on (λ d q n w p x y. let z : table_place xs ys c o < table_size = rw (x, y) p.0 in omega arith)
 
     module _ (p : ℕ) (at : p ≡ table_place xs ys c o) (more : p < table_size) where
       stopped : stops xs ys c o p ≡ true

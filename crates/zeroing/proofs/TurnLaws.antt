@@ -7,6 +7,7 @@ use mathlib.Core.List.{List, [], ◌∷◌, ◌++◌}
 use Prim.Native.Nat.{ℕ, suc, ◌+◌}
 use native.Mathlib.Numerals.{add-one}
 use lib.ListN.{take, drop, replicate}
+use Rattle.std.specs.Prelude.{None, Some, Result, Ok, Err}
 use Rattle.text.specs.Bytes.{Str}
 use Rattle.row.specs.Rows.{rows}
 use Rattle.tree.specs.Tree.{Field}
@@ -18,13 +19,13 @@ use Rattle.field.specs.declared.Group.{Group}
 use Rattle.field.specs.declared.Field as code
 use Rattle.field.specs.declared.Field.TheVariants as read
 use Rattle.codegen_types.specs.Out.{Out, refused}
-use Rattle.codegen_types.specs.declared.Refusal.TheVariants.{None, Number}
+use Rattle.terms.specs.declared.refusals.Refusal.{Refusal}
 use Rattle.codegen.specs.Zeroing.{Zeroing, zero_fields}
 use Rattle.zeroing.specs.Lines.{line_type, has_line, repeats, tag_lines}
-use Rattle.zeroing.specs.Table.{Kept, with_line}
+use Rattle.zeroing.specs.Table.{KeptLines, with_line}
 use Rattle.zeroing.specs.Added.{AddedSlot, Adds}
 use Rattle.zeroing.specs.declared.Lines.{Lines}
-use Rattle.zeroing.proofs.FieldLaws.{Turn, some-slot, some-group, turn, ended_here, says_slot, says-group}
+use Rattle.zeroing.proofs.FieldLaws.{Turn, turn, ended_here, says_slot, says-group}
 use Rattle.zeroing.proofs.SlotLaws.{either-false, pointer_is, seen_arm, seen_after, seen_append, slot-lines}
 use Rattle.zeroing.proofs.RepeatLaws.{repeats_append}
 use Rattle.zeroing.proofs.TableLaws.{kept-first}
@@ -32,7 +33,8 @@ use Rattle.zeroing.proofs.LevelLaws.{Fewer, back-here, back-slot, back-group}
 use Rattle.zeroing.proofs.GroupLaws.{adds-ok, fields-none, next-slot, next-group, next-stop}
 
 -- the lines of some fields are those of others
-kept_same : (xs ys : List ℕ) (has has' : ℕ → ℕ → Bool) → ((c o : ℕ) → has' c o ≡ has c o) → Kept xs ys has → Kept xs ys has'
+kept_same : (xs ys : List ℕ) (has has' : ℕ → ℕ → Bool) → ((c o : ℕ) → has' c o ≡ has c o)
+    → KeptLines xs ys has → KeptLines xs ys has'
 kept_same xs ys has has' e k = record {
   held = λ i n. e _ _ ∙ k.held i n;
   free = λ c o z w p f. e c o ∙ k.free c o z w p f;
@@ -46,10 +48,10 @@ Refuses other fs = (seen : List Str) → zero_fields other seen fs ≡ refused 4
 pub record Going (inner : ℕ → Out Zeroing) (tags offset : ℕ) (rs₀ : Rows) (l₀ : List ℕ) (p₀ : Lines) (rs : Rows) (k : ℕ)
     (xs ys l : List ℕ) (p : Lines) : Type 0 where
   pub here : (fs : List Field) → FieldsHere rs₀ fs → FieldsHere rs (drop k fs)
-  pub kept : (fs : List Field) → FieldsHere rs₀ fs → Kept xs ys (λ c o. repeats c o (take k fs))
-  pub rest : (fs : List Field) (l' : List ℕ) (p' : Lines) → FieldsHere rs₀ fs
-      → Adds (zero_fields inner (seen_after (tag_lines tags offset) (take k fs)) (drop k fs)) l p l' p'
-      → Adds (zero_fields inner (tag_lines tags offset) fs) l₀ p₀ l' p'
+  pub kept : (fs : List Field) → FieldsHere rs₀ fs → KeptLines xs ys (λ c o. repeats c o (take k fs))
+  pub rest : (fs : List Field) (l' : List ℕ) (r : Result Lines Refusal) → FieldsHere rs₀ fs
+      → Adds (zero_fields inner (seen_after (tag_lines tags offset) (take k fs)) (drop k fs)) l p l' r
+      → Adds (zero_fields inner (tag_lines tags offset) fs) l₀ p₀ l' r
   pub back : (fs : List Field) → FieldsHere rs₀ fs → (other : ℕ → Out Zeroing) → Fewer inner other
       → Refuses other (drop k fs) → Refuses other fs
 
@@ -59,103 +61,103 @@ unfolding seen_after
 going_first inner tags offset rs n l p = record {
   here = λ fs h. h;
   kept = λ fs h. kept-first n;
-  rest = λ fs l' p' h a. a;
+  rest = λ fs l' r h a. a;
   back = λ fs h other fewer z. z;
 }
 
 module _ (inner : ℕ → Out Zeroing) (tags offset : ℕ) (rs₀ : Rows) (l₀ : List ℕ) (p₀ : Lines) (rs : Rows) (k : ℕ)
     (xs ys l : List ℕ) (p : Lines) (g : Going inner tags offset rs₀ l₀ p₀ rs k xs ys l p)
-    (s : Str) (r : code.Field) (reads : (fs : List Field) → FieldsHere rs fs → ReadsFirst s r fs) where
+    (s : Str) where
   -- no more fields
-  pub going_end : r ≡ read.Nothing → (fs : List Field) → FieldsHere rs₀ fs
-      → Adds (zero_fields inner (tag_lines tags offset) fs) l₀ p₀ l p
-  going_end e fs h =
-      g.rest fs l p h
-      (rw (ended_here s r e (drop k fs) (reads (drop k fs) (g.here fs h)))
+  pub going_end : ((fs : List Field) → FieldsHere rs fs → ReadsFirst s None fs) → (fs : List Field) → FieldsHere rs₀ fs
+      → Adds (zero_fields inner (tag_lines tags offset) fs) l₀ p₀ l (Ok p)
+  going_end reads fs h =
+      g.rest fs l (Ok p) h
+      (rw (ended_here s (drop k fs) (reads (drop k fs) (g.here fs h)))
       (fields-none inner (seen_after (tag_lines tags offset) (take k fs)) l p))
 
   -- one more field
-  module _ (some : r ≡ read.Nothing → ⊥) where
+  module _ (r : code.Field) (reads : (fs : List Field) → FieldsHere rs fs → ReadsFirst s (Some r) fs) where
     turns : (fs : List Field) → FieldsHere rs₀ fs → Turn s r k fs
-    turns fs h = turn s r some k fs (reads (drop k fs) (g.here fs h))
+    turns fs h = turn s r k fs (reads (drop k fs) (g.here fs h))
 
     going : (xs₁ ys₁ l₁ : List ℕ) (p₁ : Lines)
         → ((fs : List Field) → FieldsHere rs₀ fs → (f : Field) → FieldIs s r f
-        → Kept xs₁ ys₁ (λ c o. repeats c o (take k fs ++ (f ∷ []))))
-        → ((fs : List Field) → FieldsHere rs₀ fs → (f : Field) → FieldIs s r f → (l' : List ℕ) (p' : Lines)
+        → KeptLines xs₁ ys₁ (λ c o. repeats c o (take k fs ++ (f ∷ []))))
+        → ((fs : List Field) → FieldsHere rs₀ fs → (f : Field) → FieldIs s r f → (l' : List ℕ) (r' : Result Lines Refusal)
         → Adds (zero_fields inner (seen_arm (seen_after (tag_lines tags offset) (take k fs)) f.arm) (drop (suc k) fs))
-        l₁ p₁ l' p'
-        → Adds (zero_fields inner (seen_after (tag_lines tags offset) (take k fs)) (f ∷ drop (suc k) fs)) l p l' p')
+        l₁ p₁ l' r'
+        → Adds (zero_fields inner (seen_after (tag_lines tags offset) (take k fs)) (f ∷ drop (suc k) fs)) l p l' r')
         → ((fs : List Field) → FieldsHere rs₀ fs → (f : Field) → FieldIs s r f → (other : ℕ → Out Zeroing) → Fewer inner other
         → Refuses other (drop (suc k) fs) → Refuses other (f ∷ drop (suc k) fs))
         → Going inner tags offset rs₀ l₀ p₀ (rows (drop (next_of r) s)) (k + 1) xs₁ ys₁ l₁ p₁
     going xs₁ ys₁ l₁ p₁ keep step over = rw (add-one k) (record {
       here = λ fs h. (turns fs h).next;
       kept = λ fs h. let t = turns fs h in rw t.taken (keep fs h t.field t.said);
-      rest = λ fs l' p' h a.
+      rest = λ fs l' r' h a.
           let t = turns fs h in
-          g.rest fs l' p' h
-          (rw t.first (step fs h t.field t.said l' p'
+          g.rest fs l' r' h
+          (rw t.first (step fs h t.field t.said l' r'
           (rw (t.taken, seen_append (tag_lines tags offset) (take k fs) t.field) at a)));
       back = λ fs h other fewer z.
           let t = turns fs h in
           g.back fs h other fewer (λ seen. rw t.first (over fs h t.field t.said other fewer z seen));
     })
 
-  module _ (sl : Slot) (is : r ≡ read.Slot sl) where
-    -- the line of a slot
-    pub going-slot : (xs₁ ys₁ l₁ : List ℕ) (p₁ : Lines)
-        → ((fs : List Field) → FieldsHere rs₀ fs → Kept xs ys (λ c o. repeats c o (take k fs))
-        → AddedSlot (line_type sl.kind) sl.offset (take k fs) l p l₁ p₁
-        × Kept xs₁ ys₁ (with_line (line_type sl.kind) sl.offset (take k fs)))
-        → Going inner tags offset rs₀ l₀ p₀ (rows (drop sl.next s)) (k + 1) xs₁ ys₁ l₁ p₁
-    unfolding has_line
-    going-slot xs₁ ys₁ l₁ p₁ a = rw is at (going (some-slot is) xs₁ ys₁ l₁ p₁
-        (λ fs h f x.
-        let w = says_slot s r f sl is x in
-        kept_same xs₁ ys₁ (with_line (line_type sl.kind) sl.offset (take k fs)) _
-        (λ c o. repeats_append c o (take k fs) f ∙ rw (w.is, w.offset_is, w.kind_is) refl) (a fs h (g.kept fs h)).1)
-        (λ fs h f x l' p' v.
-        let w = says_slot s r f sl is x in
-        next-slot inner (seen_after (tag_lines tags offset) (take k fs)) f (drop (suc k) fs) w.sl l p l₁ p₁ l' p' w.is
-        (rw (slot-lines tags offset (take k fs) w.sl, pointer_is w.sl, w.kind_is, w.offset_is)
-        (a fs h (g.kept fs h)).0) v)
-        (λ fs h f x other fewer z seen.
-        let w = says_slot s r f sl is x in
-        back-slot other f (drop (suc k) fs) z seen w.sl w.is))
+    module _ (sl : Slot) (is : r ≡ read.Slot sl) where
+      -- the line of a slot
+      pub going-slot : (xs₁ ys₁ l₁ : List ℕ) (p₁ : Lines)
+          → ((fs : List Field) → FieldsHere rs₀ fs → KeptLines xs ys (λ c o. repeats c o (take k fs))
+          → AddedSlot (line_type sl.kind) sl.offset (take k fs) l p l₁ p₁
+          × KeptLines xs₁ ys₁ (with_line (line_type sl.kind) sl.offset (take k fs)))
+          → Going inner tags offset rs₀ l₀ p₀ (rows (drop sl.next s)) (k + 1) xs₁ ys₁ l₁ p₁
+      unfolding has_line
+      going-slot xs₁ ys₁ l₁ p₁ a = rw is at (going xs₁ ys₁ l₁ p₁
+          (λ fs h f x.
+          let w = says_slot s r f sl is x in
+          kept_same xs₁ ys₁ (with_line (line_type sl.kind) sl.offset (take k fs)) _
+          (λ c o. repeats_append c o (take k fs) f ∙ rw (w.is, w.offset_is, w.kind_is) refl) (a fs h (g.kept fs h)).1)
+          (λ fs h f x l' r' v.
+          let w = says_slot s r f sl is x in
+          next-slot inner (seen_after (tag_lines tags offset) (take k fs)) f (drop (suc k) fs) w.sl l p l₁ p₁ l' r' w.is
+          (rw (slot-lines tags offset (take k fs) w.sl, pointer_is w.sl, w.kind_is, w.offset_is)
+          (a fs h (g.kept fs h)).0) v)
+          (λ fs h f x other fewer z seen.
+          let w = says_slot s r f sl is x in
+          back-slot other f (drop (suc k) fs) z seen w.sl w.is))
 
-  -- a group inside that is refused with 4, with fewer levels
-  pub going_back : (gr : Group) → r ≡ read.Group gr → (other : ℕ → Out Zeroing) → Fewer inner other
-      → other gr.id ≡ refused 4 → (fs : List Field) → FieldsHere rs₀ fs → Refuses other fs
-  going_back gr is other fewer z fs h =
-      let t = turns (some-group is) fs h in
-      let w = says-group s r t.field gr is t.said in
-      g.back fs h other fewer (λ seen. rw t.first (back-here other t.field (drop (suc k) fs) seen gr.id w z))
+    module _ (gr : Group) (is : r ≡ read.Group gr) where
+      -- a group inside that is refused with 4, with fewer levels
+      pub going_back : (other : ℕ → Out Zeroing) → Fewer inner other → other gr.id ≡ refused 4
+          → (fs : List Field) → FieldsHere rs₀ fs → Refuses other fs
+      going_back other fewer z fs h =
+          let t = turns fs h in
+          let w = says-group s r t.field gr is t.said in
+          g.back fs h other fewer (λ seen. rw t.first (back-here other t.field (drop (suc k) fs) seen gr.id w z))
 
-  module _ (gr : Group) (is : r ≡ read.Group gr) (l₁ : List ℕ) (p₁ : Lines) (a : Adds (inner gr.id) l p l₁ p₁) where
-    -- the lines of a group inside
-    pub going-group : p₁.refusal ≡ None
-        → Going inner tags offset rs₀ l₀ p₀ (rows (drop gr.next s)) (k + 1) xs ys l₁ p₁
-    unfolding has_line
-    going-group n = rw is at (going (some-group is) xs ys l₁ p₁
-        (λ fs h f x.
-        let w = says-group s r f gr is x in
-        kept_same xs ys (λ c o. repeats c o (take k fs)) _
-        (λ c o. repeats_append c o (take k fs) f ∙ rw w (either-false (repeats c o (take k fs)))) (g.kept fs h))
-        (λ fs h f x l' p' v.
-        let w = says-group s r f gr is x in
-        next-group inner (seen_after (tag_lines tags offset) (take k fs)) f (drop (suc k) fs) gr.id w l p l₁ p₁ a l' p' n v)
-        (λ fs h f x other fewer z seen.
-        let w = says-group s r f gr is x in
-        let given = adds-ok (inner gr.id) l p l₁ p₁ n a in
-        back-group other f (drop (suc k) fs) z seen gr.id w given.0 (rw given.1 at (fewer gr.id))))
+      -- the lines of a group inside
+      pub going-group : (l₁ : List ℕ) (p₁ : Lines) → Adds (inner gr.id) l p l₁ (Ok p₁)
+          → Going inner tags offset rs₀ l₀ p₀ (rows (drop gr.next s)) (k + 1) xs ys l₁ p₁
+      unfolding has_line
+      going-group l₁ p₁ a = rw is at (going xs ys l₁ p₁
+          (λ fs h f x.
+          let w = says-group s r f gr is x in
+          kept_same xs ys (λ c o. repeats c o (take k fs)) _
+          (λ c o. repeats_append c o (take k fs) f ∙ rw w (either-false (repeats c o (take k fs)))) (g.kept fs h))
+          (λ fs h f x l' r' v.
+          let w = says-group s r f gr is x in
+          next-group inner (seen_after (tag_lines tags offset) (take k fs)) f (drop (suc k) fs) gr.id w l p l₁ p₁ a l' r' v)
+          (λ fs h f x other fewer z seen.
+          let w = says-group s r f gr is x in
+          let given = adds-ok (inner gr.id) l p l₁ p₁ a in
+          back-group other f (drop (suc k) fs) z seen gr.id w given.0 (rw given.1 at (fewer gr.id))))
 
-    -- a group inside that is refused
-    pub going-stop : (j : ℕ) → p.refusal ≡ None → p₁.refusal ≡ Number j → (fs : List Field) → FieldsHere rs₀ fs
-        → Adds (zero_fields inner (tag_lines tags offset) fs) l₀ p₀ l₁ p₁
-    going-stop j n y fs h =
-        let t = turns (some-group is) fs h in
-        let w = says-group s r t.field gr is t.said in
-        g.rest fs l₁ p₁ h
-        (rw t.first (next-stop inner (seen_after (tag_lines tags offset) (take k fs)) t.field (drop (suc k) fs) gr.id w
-        l p l₁ p₁ a j n y))
+      -- a group inside that is refused
+      pub going-stop : (l₁ : List ℕ) (e : Refusal) → Adds (inner gr.id) l p l₁ (Err e) → (fs : List Field) → FieldsHere rs₀ fs
+          → Adds (zero_fields inner (tag_lines tags offset) fs) l₀ p₀ l₁ (Err e)
+      going-stop l₁ e a fs h =
+          let t = turns fs h in
+          let w = says-group s r t.field gr is t.said in
+          g.rest fs l₁ (Err e) h
+          (rw t.first (next-stop inner (seen_after (tag_lines tags offset) (take k fs)) t.field (drop (suc k) fs) gr.id w
+          l p l₁ e a))

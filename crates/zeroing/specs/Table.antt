@@ -2,6 +2,7 @@
 -- free. A line is sought from its own place down, and then from the last, up to a place that has it or is free. Assumes
 -- nothing.
 use Rattle.std.specs.Prelude.{◌≡◌, Bool, true, false, List, ℕ, zero, suc, ◌+◌, ◌*◌, ◌%◌, ◌^◌, ◌<◌, eqb, get_or, take, drop}
+use Rattle.std.specs.Prelude.{Option, None, Some}
 use Rattle.text.specs.Bytes.{cond, both, either}
 use Rattle.tree.specs.Tree.{Field}
 use Rattle.tree.specs.Read.{among}
@@ -24,6 +25,11 @@ unfoldable pub place_below : List ℕ → List ℕ → ℕ → ℕ → ℕ → �
 place_below offsets types type offset none zero = none
 place_below offsets types type offset none (suc i) =
     cond (stops offsets types type offset i) i (place_below offsets types type offset none i)
+
+-- the place of a number, if it is inside the table; the size stands for none
+abbrev pub IsPlace : Option ℕ → ℕ → Type 0
+IsPlace (Some i) p = (i ≡ p) × (i < table_size)
+IsPlace None p = table_size ≡ p
 
 -- how many places are a block, which a long search looks at in one turn
 abbrev pub block_size : ℕ
@@ -51,7 +57,7 @@ table_place offsets types type offset =
     (own_place type offset + 1)
 
 -- the table keeps the lines that some fields have: what it has is one of them, and a line whose place is free is none of them
-pub record Kept (offsets types : List ℕ) (has : ℕ → ℕ → Bool) : Type 0 where
+pub record KeptLines (offsets types : List ℕ) (has : ℕ → ℕ → Bool) : Type 0 where
   pub held : (i : ℕ) → (get_or types i 0 ≡ 0 → ⊥) → has (get_or types i 0) (get_or offsets i 0) ≡ true
   pub free : (type offset : ℕ) → (type ≡ 0 → ⊥) → offset < 2 ^ 32 → table_place offsets types type offset < table_size
       → get_or types (table_place offsets types type offset) 0 ≡ 0 → has type offset ≡ false
@@ -63,4 +69,4 @@ with_line type offset fs c o = either (repeats c o fs) (both (eqb offset o) (eqb
 -- whether a line is one of those of some fields, and the table that keeps it with them
 pub record Knows (type offset : ℕ) (fs : List Field) (r : Bool) (offsets types : List ℕ) : Type 0 where
   pub again : r ≡ repeats type offset fs
-  pub kept : Kept offsets types (with_line type offset fs)
+  pub kept : KeptLines offsets types (with_line type offset fs)

@@ -1,5 +1,5 @@
 -- `calls::zero_data` meets its contract: its parts, one after the other. Assumes nothing.
-use Rattle.text.proofs.Laws.{◌⨾◌, kept}
+use Rattle.text.proofs.Laws.{◌⨾◌}
 use Rattle.calls.proofs.Laws.{zero-data}
 use Rattle.calls.proofs.zero_data.Goals as goal
 
@@ -8,6 +8,3 @@ returns c =
     rw (← zero-data _ _)
     (c.bytes-t.ensures ⨾ c.bytes-t-2.ensures ⨾ c.bytes-t-3.ensures ⨾ c.number-t.ensures ⨾ c.bytes-t-4.ensures
     ⨾ c.bytes-t-5.ensures ⨾ c.bytes.ensures)
-
-pub shape_of-buf : goal.shape_of-buf
-shape_of-buf c = kept (returns c)

@@ -1,8 +1,7 @@
--- `calls::zero_tag` meets its contract: its parts, one after the other. Assumes nothing.
-use Rattle.calls.proofs.Laws.{zero_tag_lem}
-use Rattle.text.proofs.Laws.{◌⨾◌}
+-- `calls::zero_tag` meets its contract: 0 in decimal is its digit. Assumes nothing.
+use Rattle.text.specs.Decimal.{decimal}
 use Rattle.calls.proofs.zero_tag.Goals as goal
 
 pub returns : goal.returns
-returns c =
-    rw (← zero_tag_lem _) (c.bytes-t.ensures ⨾ c.number-t.ensures ⨾ c.bytes.ensures)
+unfolding decimal
+returns c = c.set_tag.ensures

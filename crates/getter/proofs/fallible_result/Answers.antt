@@ -1,19 +1,26 @@
 -- `getter::fallible_result` meets its contract: the type's text between its parts, its refusal handed on. Assumes nothing.
-use mathlib.Core.Path.{refl}
 use Rattle.std.specs.Prelude.{drop}
+use Rattle.std.proofs.lemmas.Result.{err_from_is_err_and}
 use Rattle.text.proofs.Laws.{◌⨾◌, some-text, ◌⨟◌}
 use Rattle.row.specs.Rows.{rows}
 use Rattle.tree.specs.Read.{read_type}
 use Rattle.nodes.specs.Index.{sheet_of}
-use Rattle.getter.proofs.ResultLaws.{on_fallible}
+use Rattle.codegen_types.proofs.WrittenLaws.{kept-behind}
+use Rattle.codegen.specs.Getter.{optional}
+use Rattle.getter.specs.Result.{fallible_result}
+use Rattle.getter.proofs.ResultLaws.{on_made_of}
 use Rattle.getter.proofs.fallible_result.Goals as goal
+
+pub returns-in_err-t-clause-within : goal.returns-in_err-t-clause-within
+returns-in_err-t-clause-within c =
+    let e = err_from_is_err_and c.from_residual.result c.from_residual.ensures.1 in
+    rw e.1 (kept-behind (some-text (c.bytes-t.ensures ⨾ c.bytes-t-2.ensures)) c.in_err-t.ensures.within)
 
 pub returns : goal.returns
 returns c = record {
-  text = λ ns ix. on_fallible (read_type 16 (rows (drop c.args.at c.args.s.now))) (sheet_of c.args.root.now ns)
-      c.args.leaf c.optional_type-typ.result _ c.args.root.now c.args.option
-      (c.bytes-t.ensures ⨾ c.bytes-t-2.ensures)
-      (c.optional_type-typ.ensures.text ns ix) c.bytes-t-3.ensures refl refl;
-  some = some-text (c.bytes-t.ensures ⨾ c.bytes-t-2.ensures) ⨟ c.optional_type-typ.ensures.some
-      ⨟ some-text c.bytes-t-3.ensures;
+  text = λ ns ix. on_made_of (read_type 16 (rows (drop c.args.at c.args.source.now.bytes.now)))
+      (sheet_of c.args.source.now.root.now ns) c.args.leaf (fallible_result c.args.source.now.root.now)
+      (optional c.args.option) (c.in_ok-t.ensures.text ns ix)
+      (λ w x. c.bytes-t.ensures ⨾ c.bytes-t-2.ensures ⨾ x ⨾ c.bytes.ensures);
+  within = some-text (c.bytes-t.ensures ⨾ c.bytes-t-2.ensures) ⨟ c.in_ok-t.ensures.within ⨟ some-text c.bytes.ensures;
 }

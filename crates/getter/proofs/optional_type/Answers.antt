@@ -1,23 +1,24 @@
 -- `getter::optional_type` meets its contract: the type's text, in an option or not, its refusal handed on. Assumes nothing.
-use mathlib.Core.Path.{refl}
-use Rattle.std.specs.Prelude.{drop}
-use Rattle.text.proofs.Laws.{some-text, ◌⨟◌}
+use Rattle.std.specs.Prelude.{true, drop}
+use Rattle.std.proofs.lemmas.Result.{err_from_is_err_and}
+use Rattle.text.proofs.Laws.{◌⨾◌, some-text, ◌⨟◌}
 use Rattle.row.specs.Rows.{rows}
 use Rattle.tree.specs.Read.{read_type}
 use Rattle.nodes.specs.Index.{sheet_of}
-use Rattle.getter.proofs.ResultLaws.{on-option, then_ok}
+use Rattle.codegen_types.proofs.WrittenLaws.{kept-behind}
+use Rattle.getter.proofs.ResultLaws.{on_made}
+use Rattle.codegen.specs.Getter.{optional}
 use Rattle.getter.proofs.optional_type.Goals as goal
 
-pub returns-then-option : goal.returns-then-option
-returns-then-option c = record {
-  text = λ ns ix. rw c.if-option.true (on-option (read_type 16 (rows (drop c.args.at c.args.s.now)))
-      (sheet_of c.args.root.now ns) c.args.leaf c.type_string-typ.result _ c.bytes-t.ensures
-      (c.type_string-typ.ensures.text ns ix) c.bytes-t-then-option.ensures refl refl);
-  some = some-text c.bytes-t.ensures ⨟ c.type_string-typ.ensures.some ⨟ some-text c.bytes-t-then-option.ensures;
-}
+pub returns-in_err-t-clause-within : goal.returns-in_err-t-clause-within
+returns-in_err-t-clause-within c =
+    let e = err_from_is_err_and c.from_residual.result c.from_residual.ensures.1 in
+    rw e.1 (kept-behind (some-text c.bytes-t.ensures) c.in_err-t.ensures.within)
 
 pub returns : goal.returns
 returns c = record {
-  text = λ ns ix. rw c.if-option.false (simp then_ok (c.type_string.ensures.text ns ix));
-  some = c.type_string.ensures.some;
+  text = λ ns ix. rw c.if-not-option.false (on_made (read_type 16 (rows (drop c.args.at c.args.source.now.bytes.now)))
+      (sheet_of c.args.source.now.root.now ns) c.args.leaf (optional true) (c.in_ok-t.ensures.text ns ix)
+      (λ w x. c.bytes-t.ensures ⨾ x ⨾ c.bytes.ensures));
+  within = some-text c.bytes-t.ensures ⨟ c.in_ok-t.ensures.within ⨟ some-text c.bytes.ensures;
 }

@@ -5,6 +5,5 @@ use Rattle.getter_code.proofs.capability.Goals as goal
 
 pub returns : goal.returns
 returns c =
-    rw (← capability-parts _ _ _)
-    (c.capability_head-t.ensures ⨾ c.number-t.ensures ⨾ c.bytes-t.ensures ⨾ c.bytes-t-2.ensures
-    ⨾ c.bytes.ensures)
+    rw (← capability-parts _ _ _, ← c.capability_head.ensures)
+    (c.bytes-t.ensures ⨾ c.number-t.ensures ⨾ c.bytes-t-2.ensures ⨾ c.bytes-t-3.ensures ⨾ c.bytes.ensures)

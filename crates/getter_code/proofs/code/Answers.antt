@@ -12,6 +12,12 @@ returns-then-slot-eq0 c =
 
 pub returns : goal.returns
 returns c =
-    rw (ne_eqb _ 0 c.if-slot-eq0.false, ← option-lines _ _ _ _, ← c.is_fallible-fallible.ensures)
-    (c.null_head-t.ensures ⨾ c.number-t.ensures ⨾ c.absent-t.ensures ⨾ c.fragment-t-2.ensures
-    ⨾ c.some_end.ensures)
+    rw (
+      ne_eqb _ 0 c.if-slot-eq0.false,
+      ← option-lines _ _ _ _,
+      ← c.is_fallible-fallible.ensures,
+      ← c.null_head.ensures,
+      ← c.absent.ensures,
+      ← c.some_end.ensures,
+    )
+    (c.bytes-t.ensures ⨾ c.number-t.ensures ⨾ c.bytes-t-2.ensures ⨾ c.fragment-t-2.ensures ⨾ c.bytes.ensures)

@@ -5,6 +5,6 @@ use Rattle.getter_code.proofs.from_pointer.Goals as goal
 
 pub returns : goal.returns
 returns c =
-    rw (← from-pointer _ _ _ _)
-    (c.bytes-t.ensures ⨾ c.from_pointer_head-t.ensures ⨾ c.number-t.ensures ⨾ c.bytes-t-2.ensures
-    ⨾ c.pointer_default-t.ensures ⨾ c.bytes.ensures)
+    rw (← from-pointer _ _ _ _, ← c.from_pointer_head.ensures)
+    (c.bytes-t.ensures ⨾ c.bytes-t-2.ensures ⨾ c.number-t.ensures ⨾ c.bytes-t-3.ensures ⨾ c.pointer_default-t.ensures
+    ⨾ c.bytes.ensures)

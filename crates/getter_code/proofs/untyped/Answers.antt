@@ -9,5 +9,5 @@ returns-then-parameter c =
 
 pub returns : goal.returns
 returns c =
-    rw (c.if-parameter.false, ← any-pointer _ _ _)
-    (c.bytes-t.ensures ⨾ c.any_pointer_head-t.ensures ⨾ c.number-t.ensures ⨾ c.bytes.ensures)
+    rw (c.if-parameter.false, ← any-pointer _ _ _, ← c.any_pointer_head.ensures)
+    (c.bytes-t.ensures ⨾ c.bytes-t-2.ensures ⨾ c.number-t.ensures ⨾ c.bytes.ensures)

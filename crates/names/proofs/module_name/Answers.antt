@@ -7,11 +7,12 @@ use Rattle.names.proofs.module_name.Goals as goal
 
 pub returns-then-is_keyword : goal.returns-then-is_keyword
 returns-then-is_keyword c =
-    let n = name_of_lem _ _ c.camel_to_snake_case-snake.ensures.whole in
-    rw (module_keyword _ (ap is_keyword (sym n) ∙ sym c.is_keyword.ensures ∙ c.if-is_keyword.true))
-    ((rw n at c.write-t.ensures) ⨾ c.byte.ensures)
+    let n = c.name-snake.ensures ∙ name_of_lem _ _ c.camel_to_snake_case-snake.ensures.whole in
+    let k = ap is_keyword (sym n) ∙ sym c.is_keyword.ensures in
+    rw (module_keyword _ (k ∙ c.if-is_keyword.true)) ((rw n at c.bytes-t.ensures) ⨾ c.byte.ensures)
 
-pub returns : goal.returns
-returns c =
-    let n = name_of_lem _ _ c.camel_to_snake_case-snake.ensures.whole in
-    rw (module-plain _ (ap is_keyword (sym n) ∙ sym c.is_keyword.ensures ∙ c.if-is_keyword.false)) (rw n at c.write-t.ensures)
+pub returns-else-is_keyword : goal.returns-else-is_keyword
+returns-else-is_keyword c =
+    let n = c.name-snake.ensures ∙ name_of_lem _ _ c.camel_to_snake_case-snake.ensures.whole in
+    let k = ap is_keyword (sym n) ∙ sym c.is_keyword.ensures in
+    rw (module-plain _ (k ∙ c.if-is_keyword.false)) (rw n at c.bytes-t.ensures)

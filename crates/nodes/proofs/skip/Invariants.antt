@@ -1,11 +1,10 @@
 use mathlib.Core.Path.{◌≡◌}
+use Prim.Native.Nat.{◌-◌}
 use lib.ListN.{drop}
 use Rattle.row.specs.Rows.{rows}
 use Rattle.nodes.specs.Index.{rows_after}
 use Rattle.nodes.proofs.skip.Given as goal
 
-abbrev pub invariant-loop-n : goal.invariant-loop-n
-invariant-loop-n l = rows_after l.count (rows (drop l.from l.s)) ≡ rows_after l.n (rows (drop l.at l.s))
-
-abbrev pub decreases-loop-n : goal.decreases-loop-n
-decreases-loop-n l = l.n
+-- the rows after all are those after what is left from here
+abbrev pub invariant-loop : goal.invariant-loop
+invariant-loop l = rows_after l.count (rows (drop l.from l.s)) ≡ rows_after (l.count - l.counter) (rows (drop l.at l.s))

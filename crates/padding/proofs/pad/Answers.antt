@@ -1,9 +1,8 @@
 -- `padding::pad` meets its contract. The loop's invariant: the rows that are left, put now, make what all make from the start.
 -- Assumes nothing.
-use mathlib.Core.Path.{refl}
 use native.Mathlib.Omega.{arith}
 use Rattle.row.proofs.Laws.{row-bounds, rows_out}
-use Rattle.text.proofs.Laws.{left-all, left-more, left-none}
+use Rattle.text.proofs.Laws.{left-more, left-none}
 use Rattle.padding.specs.Padded.{padded_rows, padded_text}
 use Rattle.padding.proofs.Laws.{rows-turn}
 use Rattle.padding.proofs.pad.Goals as goal
@@ -19,12 +18,6 @@ loop-at-preserved c =
 pub returns : goal.returns
 unfolding padded_rows padded_text
 returns c = left-none (rw (rows_out _ _ c.loop-at-test.false) at c.loop-at.invariant.2)
-
-pub loop-at-init : goal.loop-at-init
-loop-at-init c = (omega arith, refl, left-all)
-
-pub slice_bounds-pad_row-count : goal.slice_bounds-pad_row-count
-slice_bounds-pad_row-count c = omega (arith, row-bounds _ _ _ c.loop-at-test.true c.row_end-end.ensures)
 
 pub slice_bounds-pad_row-end : goal.slice_bounds-pad_row-end
 slice_bounds-pad_row-end c = (row-bounds _ _ _ c.loop-at-test.true c.row_end-end.ensures).1

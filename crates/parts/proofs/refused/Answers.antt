@@ -5,23 +5,22 @@ use borrow.Author.Rules.{rules}
 use lib.ListN.{length}
 use Rattle.text.proofs.Laws.{◌⨾◌}
 use Rattle.parts.specs.Program.{refused_text}
-use Rattle.parts.proofs.FitLaws.{refused-few, text-end, taken-within, taken-fits, taken-puts}
+use Rattle.parts.proofs.FitLaws.{refused-few, text-end, taken-fits, taken-puts}
 use Rattle.parts.proofs.refused.Goals as goal
 use Rattle.parts.proofs.refused.Goals.{Start}
 
 room : (c : Start) → length c.args.buf.now < 2 ^ 63
 room c = search rules
 
-pub returns : goal.returns
+pub returns-clause-fits : goal.returns-clause-fits
 unfolding refused_text
-returns c =
+returns-clause-fits c =
     let written = c.bytes-t.ensures ⨾ c.number-t.ensures ⨾ c.byte-t.ensures in
-    let z = c.at.ensures in
-    let a = c.args in
-    let few = refused-few a.number (search rules) in
-    let i = c.taken.ensures in
-    record {
-      within = taken-within _ _ _ i;
-      fits = taken-fits z written 65536 _ (omega (arith, few, text-end z written)) i;
-      said = taken-puts z written (room (goal.at.returns c).Start) _ i;
-    }
+    let few = refused-few c.args.number (search rules) in
+    taken-fits c.at.ensures written 65536 _ (omega (arith, few, text-end c.at.ensures written)) c.taken.ensures
+
+pub returns-clause-said : goal.returns-clause-said
+unfolding refused_text
+returns-clause-said c =
+    let written = c.bytes-t.ensures ⨾ c.number-t.ensures ⨾ c.byte-t.ensures in
+    taken-puts c.at.ensures written (room (goal.at.returns-clause-said c).Start) _ c.taken.ensures

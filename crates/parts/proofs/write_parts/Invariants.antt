@@ -3,10 +3,9 @@ use Rattle.parts.specs.Program.{parts_from}
 use Rattle.parts.proofs.PartLaws.{PartsLeft}
 use Rattle.parts.proofs.write_parts.Given as goal
 
-abbrev pub invariant-loop-m : goal.invariant-loop-m
-invariant-loop-m l =
-    PartsLeft l.root l.s l.index l.tag l.field l.name l.initial.job.part l.initial.out l.out l.n
-    (parts_from l.job.part)
+abbrev pub invariant-loop-n : goal.invariant-loop-n
+invariant-loop-n l =
+    PartsLeft l.source l.tag l.field l.name l.initial.part l.initial.out l.out l.n (parts_from l.part)
 
-abbrev pub decreases-loop-m : goal.decreases-loop-m
-decreases-loop-m l = length (parts_from l.job.part)
+abbrev pub decreases-loop-n : goal.decreases-loop-n
+decreases-loop-n l = length (parts_from l.part)

@@ -1,25 +1,33 @@
 -- `pointer_constants::words` meets its contract. The loop's invariant: what is left makes what the whole makes. Assumes nothing.
+use mathlib.Core.Path.{ap, ◌∙◌}
+use native.Mathlib.Omega.{arith}
 use lib.ListN.{drop}
-use Rattle.text.proofs.Laws.{left-all, left-more, left-none}
+use Rattle.std.specs.Prelude.{Ok}
+use Rattle.text.proofs.Laws.{left-more, left-none}
 use Rattle.row.specs.Rows.{rows}
-use Rattle.tree.proofs.OtherLines.{not_word-tag}
 use Rattle.pointer_constants.proofs.Laws.{words_more, words-stop, words-none, text-more, text-none}
 use Rattle.pointer_constants.proofs.words.Goals as goal
 
-pub loop-n-init : goal.loop-n-init
-loop-n-init c = left-all
-
 pub returns-in_default : goal.returns-in_default
 returns-in_default c =
-    left-none (rw (text-none _ _ (words-stop _ _ _ c.next-g.ensures.line_value c.next-g.ensures.s_value _ c.loop-n-test.true
-    (not_word-tag _ c.in_default.not-Word))) at c.loop-n.invariant)
+    let row = c.next-row.ensures in
+    left-none (rw (text-none _ _ (words-stop _ _ _ row.line_value row.s_value _ _ c.loop-test.true
+    (rw c.in_default.is (λ e. grind arith)))) at c.loop.invariant)
 
-pub loop-n-preserved : goal.loop-n-preserved
-loop-n-preserved c =
-    left-more (rw (text-more _ _ _ _ (words_more _ _ _ c.next-g.ensures.line_value c.next-g.ensures.s_value _ _
-    c.loop-n-test.true c.in-Word.is)) at c.loop-n.invariant) c.word-t.ensures
+pub returns-in_default-2 : goal.returns-in_default-2
+returns-in_default-2 c =
+    let row = c.next-row.ensures in
+    left-none (rw (text-none _ _ (words-stop _ _ _ row.line_value row.s_value _ _ c.loop-test.true (rw c.in_default.is tt)))
+    at c.loop.invariant)
+
+pub loop-preserved : goal.loop-preserved
+loop-preserved c =
+    let row = c.next-row.ensures in
+    let w = c.in-Ok-Word in
+    let l = rw w.is at w.field-0-is in
+    left-more (rw (text-more _ _ _ _ (words_more _ _ _ row.line_value row.s_value _ _ w.value c.loop-test.true
+    (w.is ∙ ap Ok l))) at c.loop.invariant) c.word-t.ensures
 
 pub returns : goal.returns
 returns c =
-    left-none (rw (text-none _ _ (words-none _ (rows (drop c.loop-n.at c.args.s.now)) c.loop-n-test.false)) at
-    c.loop-n.invariant)
+    left-none (rw (text-none _ _ (words-none _ _ (rows (drop c.loop.at c.args.s.now)) c.loop-test.false)) at c.loop.invariant)

@@ -1,32 +1,13 @@
--- `programs::next_sheet` meets its contract, by where the line ends and how much is left after it. Assumes nothing.
+-- `programs::next_sheet` meets its contract, by where the line ends. Assumes nothing.
 use native.Mathlib.Omega.{arith}
 use Rattle.programs.proofs.InputLaws.{sheet-none, sheet-some}
 use Rattle.programs.proofs.next_sheet.Goals as goal
 
-pub returns-then-s-line : goal.returns-then-s-line
-returns-then-s-line c =
-    let line = c.line_end-line in
-    let a = c.args in
-    record { sheet = sheet-none a.s.now a.from line.result line.ensures.end (omega arith); within = omega arith }
+pub returns-then-s-line-clause-sheet : goal.returns-then-s-line-clause-sheet
+returns-then-s-line-clause-sheet c =
+    sheet-none c.args.s.now c.args.from _ c.line_end-line.ensures.end c.if-s-line.true
 
-pub returns-then-size-s : goal.returns-then-size-s
-returns-then-size-s c =
-    let size = c.number-size in
-    let line = c.line_end-line in
-    let a = c.args in
-    record {
-      sheet = sheet-some a.s.now a.from line.result size.result _ line.ensures.end (omega arith) size.ensures
-          (omega arith);
-      within = omega arith;
-    }
-
-pub returns : goal.returns
-returns c =
-    let size = c.number-size in
-    let line = c.line_end-line in
-    let a = c.args in
-    record {
-      sheet = sheet-some a.s.now a.from line.result size.result _ line.ensures.end (omega arith) size.ensures
-          (omega arith);
-      within = omega arith;
-    }
+pub returns-clause-sheet : goal.returns-clause-sheet
+returns-clause-sheet c =
+    sheet-some c.args.s.now c.args.from _ c.number.result _ c.line_end-line.ensures.end (omega arith) c.number.ensures
+    (omega arith)

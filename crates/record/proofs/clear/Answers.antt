@@ -1,17 +1,9 @@
--- `record::clear` meets its contract: inside the pointers by the law of a cleared flag, past them nothing changes. Assumes
--- nothing.
-use mathlib.Core.Path.{refl, sym}
-use lib.Seq.{set_out}
-use Rattle.record.proofs.OperationLaws.{clear-inside, clear-past}
+-- `record::clear` meets its contract, by the laws of a cleared flag. Assumes nothing.
+use Rattle.record.proofs.OperationLaws.{clear_done, clear_none}
 use Rattle.record.proofs.clear.Goals as goal
 
 pub returns-then-at-pointers : goal.returns-then-at-pointers
-returns-then-at-pointers c =
-    let e = c.pointer_address-at.ensures in
-    let h = rw e at c.if-at-pointers.true in
-    rw e (record { answer = rw (clear-inside _ _ h); left = rw (clear-inside _ _ h); bytes = refl })
+returns-then-at-pointers c = clear_none _ _ _ c.pointer_address-at.ensures c.if-at-pointers.true
 
-pub returns-else-at-pointers : goal.returns-else-at-pointers
-returns-else-at-pointers c =
-    let h = rw c.pointer_address-at.ensures at c.if-at-pointers.false in
-    record { answer = rw (clear-past _ _ h); left = rw (clear-past _ _ h); bytes = sym (set_out _ _ _ h) }
+pub returns : goal.returns
+returns c = clear_done _ _ _ c.pointer_address-at.ensures c.if-at-pointers.false

@@ -1,14 +1,19 @@
--- `requests::answer_over` meets its contract: the sheet's own refusal, or the answer in its index, which has room. Assumes
--- nothing.
-use Rattle.requests.proofs.SheetLaws.{sheet-answered, sheet-refused}
+-- `requests::answer_over` meets its contract: what the index of an admitted sheet answers is what the sheet does.
+-- Assumes nothing.
+use native.Mathlib.Omega.{arith}
+use Rattle.std.proofs.lemmas.List.{length-replicate}
+use Rattle.requests.proofs.SheetLaws.{sheet-answered}
 use Rattle.requests.proofs.answer_over.Goals as goal
 
-pub returns-in-Sheet : goal.returns-in-Sheet
-returns-in-Sheet c =
-    sheet-answered c.args.s.now _ _ c.admit-verdict.ensures.answer _ _ _ _ _ _ c.in-Sheet.is
-    (c.admit-verdict.ensures.index c.requires.1) c.answer_in.ensures.indexed
+pub whole_as_slice-admit : goal.whole_as_slice-admit
+whole_as_slice-admit g c = let h = c.requires in omega arith
 
-pub returns-in-Refused : goal.returns-in-Refused
-returns-in-Refused c =
-    sheet-refused c.args.s.now _ c.admit-verdict.new.index c.admit-verdict.ensures.answer _ _ _ c.args.t _ _
-    _ c.requires.0 c.in-Refused.is
+pub shared_whole_as_slice-new : goal.shared_whole_as_slice-new
+shared_whole_as_slice-new g c = let h = c.requires in omega arith
+
+pub returns : goal.returns
+returns g c =
+    sheet-answered c.args.s.now _ c.args.id c.args.request c.args.buf.now c.args.t _ _ _
+    (rw c.in_ok-admit.was at c.admit.ensures.answer)
+    (c.admit.ensures.index (rw (length-replicate _ _) (let h = c.requires in h.1))) _
+    c.new-source.ensures c.answer_in.ensures.indexed

@@ -1,52 +1,27 @@
--- `requests::group_accessor` meets its contract: a group has its zeroing alone. Assumes nothing.
+-- `requests::group_accessor` meets its contract: its zeroing, and 15 for all else. Assumes nothing.
 use mathlib.Core.Path.{refl}
-use Rattle.text.proofs.Laws.{no_text}
-use Rattle.codegen_types.proofs.WrittenLaws as written
+use Rattle.std.proofs.lemmas.Result.{err_from_is_err_and}
+use Rattle.codegen_types.proofs.WrittenLaws.{refused-text, kept-all}
 use Rattle.requests.specs.Requests.{accessor_text}
-use Rattle.requests.proofs.FieldLaws.{group-no-type, group-no_accessor, group-zeroing, zeroes}
+use Rattle.requests.proofs.FieldLaws.{group-alone, group-zeroing, zeroed-text, zeroed-refusal}
 use Rattle.requests.proofs.group_accessor.Goals as goal
 
-pub returns-in-TypeText : goal.returns-in-TypeText
-unfolding accessor_text
-returns-in-TypeText c = record {
-  text = λ root tag nodes x at e h.
-      rw c.in-TypeText.is (group-no-type c.args.s.now at.1 _ c.args.group _ h
-      (written.refused-text c.refused.ensures.1));
-  some = rw c.refused.ensures.0 no_text;
+pub returns-in_default : goal.returns-in_default
+returns-in_default c = record {
+  text = λ tag nodes x at e h.
+      group-alone c.args.source.now.bytes.now _ at c.args.group c.args.accessor c.in_default.not-Zeroing h (refused-text refl);
+  within = kept-all;
 }
 
-pub returns-in-Getter : goal.returns-in-Getter
+pub returns-in_err-zeroed-clause-text : goal.returns-in_err-zeroed-clause-text
 unfolding accessor_text
-returns-in-Getter c = record {
-  text = λ root tag nodes x at e h.
-      rw c.in-Getter.is (group-no_accessor c.args.s.now at.1 c.args.group _ h
-      (written.refused-text c.refused-in-Getter.ensures.1));
-  some = rw c.refused-in-Getter.ensures.0 no_text;
-}
+returns-in_err-zeroed-clause-text c = λ tag nodes x at e h.
+    let p = err_from_is_err_and c.from_residual.result c.from_residual.ensures.1 in
+    rw (c.in-Zeroing.is, p.1, p.2) (group-zeroing c.args.source.now.bytes.now at.1 c.args.group _ h
+    (zeroed-refusal _ _ _ (rw c.in_err-zeroed.was at (c.zeroing.ensures.text c.args.source.now.root.now nodes x))))
 
-pub returns-in-Setter : goal.returns-in-Setter
+pub returns-clause-text : goal.returns-clause-text
 unfolding accessor_text
-returns-in-Setter c = record {
-  text = λ root tag nodes x at e h.
-      rw c.in-Setter.is (group-no_accessor c.args.s.now at.1 c.args.group _ h
-      (written.refused-text c.refused-in-Setter.ensures.1));
-  some = rw c.refused-in-Setter.ensures.0 no_text;
-}
-
-pub returns-in-Haser : goal.returns-in-Haser
-unfolding accessor_text
-returns-in-Haser c = record {
-  text = λ root tag nodes x at e h.
-      rw c.in-Haser.is (group-no_accessor c.args.s.now at.1 c.args.group _ h
-      (written.refused-text c.refused-in-Haser.ensures.1));
-  some = rw c.refused-in-Haser.ensures.0 no_text;
-}
-
-pub returns-in-Zeroing : goal.returns-in-Zeroing
-unfolding accessor_text
-returns-in-Zeroing c = record {
-  text = λ root tag nodes x at e h.
-      rw c.in-Zeroing.is (group-zeroing c.args.s.now at.1 c.args.group _ h
-      (zeroes _ _ _ _ (c.zeroing-z.ensures.text root nodes x) refl refl));
-  some = c.zeroing-z.ensures.some;
-}
+returns-clause-text c = λ tag nodes x at e h.
+    rw c.in-Zeroing.is (group-zeroing c.args.source.now.bytes.now at.1 c.args.group _ h
+    (zeroed-text _ _ _ (rw c.in_ok-zeroed.was at (c.zeroing.ensures.text c.args.source.now.root.now nodes x))))

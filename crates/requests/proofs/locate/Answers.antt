@@ -1,11 +1,18 @@
--- `requests::locate` meets its contract: the fields of the node's entry, among which the place is sought. Assumes nothing.
+-- `requests::locate` meets its contract: no node, no field, or both. Assumes nothing.
 use mathlib.Core.Path.{sym, ◌∙◌}
-use Rattle.requests.proofs.FieldLaws.{located, unlocated}
+use Rattle.requests.proofs.FieldLaws.{located, no-field, no-node}
 use Rattle.requests.proofs.locate.Goals as goal
 
-pub returns-in-At : goal.returns-in-At
-returns-in-At c =
-    λ nodes x. located _ _ nodes _ _ _ _ x (sym c.in-At.is ∙ c.find.ensures) c.at_place.ensures.found
+pub returns-in_err-node : goal.returns-in_err-node
+returns-in_err-node c =
+    λ nodes x. rw c.from_residual.ensures (no-node _ _ nodes _ _ x (sym c.in_err-node.was ∙ c.find.ensures))
 
-pub returns-in-Nothing : goal.returns-in-Nothing
-returns-in-Nothing c = λ nodes x. unlocated _ _ nodes _ _ x (sym c.in-Nothing.is ∙ c.find.ensures)
+pub returns-in_err-field : goal.returns-in_err-field
+returns-in_err-field c =
+    λ nodes x. rw c.from_residual-in_err-field.ensures
+    (no-field _ _ nodes _ _ x _ (sym c.in_ok-node.was ∙ c.find.ensures) (rw c.in_err-field.was at c.at_place.ensures.found))
+
+pub returns : goal.returns
+returns c =
+    λ nodes x. located _ _ nodes _ _ x _ _ (sym c.in_ok-node.was ∙ c.find.ensures)
+    (rw c.in_ok-field.was at c.at_place.ensures.found)

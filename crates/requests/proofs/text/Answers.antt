@@ -1,53 +1,51 @@
--- `requests::text` meets its contract: 15 where there is no node or no field, else the pass for the field. Assumes nothing.
+-- `requests::text` meets its contract: no node or no field, a refusal, or a text. Assumes nothing.
+use Prim.Native.Nat.{◌-◌, ◌^◌, ◌<◌}
+use lib.ListN.{length}
 use mathlib.Core.Path.{sym, ◌∙◌}
-use Rattle.row.specs.Line.{text_at}
-use Rattle.row.specs.Rows.{rows}
+use borrow.Author.Rules.{rules}
+use Rattle.std.proofs.lemmas.Result.{err_from_is_err_and}
 use Rattle.nodes.specs.Index.{sheet_of}
 use Rattle.requests.specs.Requests.{accessor_text}
-use Rattle.requests.proofs.PassLaws.{past-nodes, nobody, no_field, field-passed}
+use Rattle.requests.proofs.PassLaws.{nobody, no_field, field-passed, pass-text, pass-refusal}
 use Rattle.requests.proofs.text.Goals as goal
+use Rattle.requests.proofs.text.Goals.{Start}
 
-pub returns-then-node-ge-NODES : goal.returns-then-node-ge-NODES
-returns-then-node-ge-NODES c =
-    let a = c.args in
-    record {
-      passed = λ nodes x o is.
-          past-nodes a.s.now nodes a.index.now x a.node o
-          (λ at. accessor_text (sheet_of (text_at (rows a.s.now)) nodes) at a.accessor) _ _ c.if-node-ge-NODES.true;
-      within = tt;
-    }
+room : (c : Start) → length c.args.buf.now < 2 ^ 64 - 1
+room c = search rules
 
 pub returns-in_default : goal.returns-in_default
-returns-in_default c =
-    let a = c.args in
-    record {
-      passed = λ nodes x o is.
-          nobody a.s.now nodes a.index.now x a.node o
-          (λ at. accessor_text (sheet_of (text_at (rows a.s.now)) nodes) at a.accessor) _ _
-          (sym c.in_default.is ∙ c.nth.ensures);
-      within = tt;
-    }
+returns-in_default c = record {
+  passed = λ nodes x o is.
+      no_field c.args.source.now.bytes.now nodes c.args.source.now.index.now x c.args.node o
+      (λ at. accessor_text (sheet_of c.args.source.now.root.now nodes) at c.args.accessor) _ _ (rw c.in_default.is-1 at is);
+}
 
-pub returns-in-Nothing : goal.returns-in-Nothing
-returns-in-Nothing c =
-    let a = c.args in
-    record {
-      passed = λ nodes x o is.
-          no_field a.s.now nodes a.index.now x a.node o
-          (λ at. accessor_text (sheet_of (text_at (rows a.s.now)) nodes) at a.accessor) _ _ _ _
-          (sym c.in-At.is ∙ c.nth.ensures) is c.in-Nothing.is;
-      within = tt;
-    }
+pub returns-in_default-2 : goal.returns-in_default-2
+returns-in_default-2 c = record {
+  passed = λ nodes x o is.
+      nobody c.args.source.now.bytes.now nodes c.args.source.now.index.now x c.args.node o
+      (λ at. accessor_text (sheet_of c.args.source.now.root.now nodes) at c.args.accessor) _ _
+      (sym c.in_default.is-0 ∙ c.nth.ensures);
+}
 
-pub returns-in_default-field : goal.returns-in_default-field
-returns-in_default-field c =
-    let a = c.args in
-    record {
-      passed = λ nodes x o is.
-          field-passed a.s.now nodes a.index.now x a.node o
-          (λ at. accessor_text (sheet_of (text_at (rows a.s.now)) nodes) at a.accessor) _ _ _ _
-          (sym c.in-At.is ∙ c.nth.ensures) is _
-          c.in_default-field.not-Nothing
-          (λ at e h. c.pass_field.ensures.passed nodes x at e h);
-      within = c.pass_field.ensures.within;
-    }
+pub returns-in_err-end : goal.returns-in_err-end
+returns-in_err-end c = record {
+  passed = λ nodes x o is.
+      field-passed c.args.source.now.bytes.now nodes c.args.source.now.index.now x c.args.node o
+      (λ at. accessor_text (sheet_of c.args.source.now.root.now nodes) at c.args.accessor) _ _ _ _
+      (sym c.in-Some-Some.is-0 ∙ c.nth.ensures) (rw c.in-Some-Some.is-1 at is) _
+      (λ at e h. let p = err_from_is_err_and c.from_residual.result c.from_residual.ensures.1 in
+      rw (p.1, p.2) (pass-refusal (accessor_text (sheet_of c.args.source.now.root.now nodes) at c.args.accessor) _ _ _
+      (rw c.in_err-end.was at (c.write_accessor.ensures.text nodes x at e h))));
+}
+
+pub returns : goal.returns
+returns c = record {
+  passed = λ nodes x o is.
+      field-passed c.args.source.now.bytes.now nodes c.args.source.now.index.now x c.args.node o
+      (λ at. accessor_text (sheet_of c.args.source.now.root.now nodes) at c.args.accessor) _ _ _ _
+      (sym c.in-Some-Some.is-0 ∙ c.nth.ensures) (rw c.in-Some-Some.is-1 at is) _
+      (λ at e h. pass-text (accessor_text (sheet_of c.args.source.now.root.now nodes) at c.args.accessor) _ _ c.at.ensures _
+      (rw c.in_ok-end.was at (c.write_accessor.ensures.text nodes x at e h)) _ c.fill.ensures
+      (room (goal.at.returns c).Start));
+}

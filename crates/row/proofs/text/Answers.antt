@@ -2,12 +2,9 @@
 use mathlib.Core.Path.{ap, ◌∙◌}
 use Rattle.row.specs.Span.{spanned}
 use Rattle.row.specs.declared.Span.{Span}
-use Rattle.row.proofs.Laws.{row-bounds, text_out}
+use Rattle.row.proofs.Laws.{row-bounds}
 use Rattle.row.proofs.SpanLaws.{to_text}
 use Rattle.row.proofs.text.Goals as goal
-
-pub returns-then-s-at : goal.returns-then-s-at
-returns-then-s-at c = text_out c.args.s.now c.args.at c.if-s-at.true
 
 pub span_to-start-requires : goal.span_to-start-requires
 span_to-start-requires c = row-bounds c.args.s.now c.args.at _ c.if-s-at.false c.row_end.ensures

@@ -1,11 +1,10 @@
 -- `row::unbound_front` meets its contract. At each turn the bytes that were passed are so many U rows. Assumes nothing.
-use mathlib.Core.Path.{refl, sym, ◌∙◌}
-use Prim.Native.Nat.{◌≤◌, ◌+◌, ◌*◌}
+use mathlib.Core.Path.{sym, ◌∙◌}
+use Prim.Native.Nat.{◌*◌}
 use native.Mathlib.Omega.{arith}
-use lib.ListN.{length}
+use borrow.Author.Rules.{rules}
 use Rattle.column.proofs.Laws.{Four, four_are}
-use Rattle.row.specs.Rows.{joined, unbound_rows}
-use Rattle.row.proofs.UnboundLaws.{front-more, front-two}
+use Rattle.row.proofs.UnboundLaws.{front-two, front-rest}
 use Rattle.row.proofs.unbound_front.Goals as goal
 use Rattle.row.proofs.unbound_front.Goals.{In-loop-n}
 
@@ -15,13 +14,6 @@ two c =
     four_are _ _ 85 10 85 10 (λ j. (c.type_inv.t j).fits) (omega arith) (omega arith) (omega arith) (omega arith)
     (sym c.four_bytes.ensures ∙ c.loop-n-test.true)
 
-pub loop-n-init : goal.loop-n-init
-unfolding joined unbound_rows
-loop-n-init c = (omega arith, refl)
-
-pub overflow_add-n : goal.overflow_add-n
-overflow_add-n c = omega (arith, (two (goal.at.overflow_add-n c).In-loop-n).whole)
-
 pub loop-n-smaller : goal.loop-n-smaller
 loop-n-smaller c = omega (arith, (two (goal.at.loop-n-smaller c).In-loop-n).whole)
 
@@ -30,10 +22,5 @@ loop-n-preserved c =
     let t = two (goal.at.loop-n-preserved c).In-loop-n in
     (omega (arith, t.whole), front-two _ _ c.loop-n.invariant.1 t)
 
-pub returns : goal.returns
-returns c =
-    let whole : 2 * c.loop-n.n + 2 ≤ length c.args.t.now = omega arith in
-    record {
-      within = omega arith;
-      rows = front-more _ _ c.loop-n.invariant.1 whole c.if-t-i-ne85.false c.if-t-i-ne10.false;
-    }
+pub returns-in-85-clause-rows : goal.returns-in-85-clause-rows
+returns-in-85-clause-rows c = front-rest _ _ c.loop-n.invariant.1 c.in-85.len_at_least (search rules) (search rules)

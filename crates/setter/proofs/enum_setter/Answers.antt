@@ -1,24 +1,51 @@
--- `setter::enum_setter` meets its contract: the setter around the module, with the default's mask. Assumes nothing.
-use mathlib.Core.Path.{refl, ap, ◌∙◌}
-use Rattle.std.specs.Prelude.{Option}
-use Prim.Native.Nat.{ℕ}
+-- `setter::enum_setter` meets its contract: the setter around the module, with the default's mask, or the refusal of one. Assumes
+-- nothing.
+use Rattle.std.proofs.lemmas.Result.{err_from_is_err_and}
 use Rattle.text.proofs.Laws.{◌⨾◌, some-text, ◌⨟◌}
 use Rattle.names.specs.Names.{name_of}
 use Rattle.nodes.specs.Index.{sheet_of}
+use Rattle.codegen_types.proofs.WrittenLaws.{kept-behind, kept-text}
 use Rattle.calls.specs.Mask.{mask_text}
-use Rattle.codegen_types.specs.Written.{refusal_number, first_of}
-use Rattle.setter.proofs.ArmLaws.{enum-here}
+use Rattle.setter.proofs.ArmLaws.{enum-first, enum-later, enum-here}
 use Rattle.setter.proofs.enum_setter.Goals as goal
 
+pub returns-in_err-t : goal.returns-in_err-t
+returns-in_err-t c =
+    let a = c.args in
+    let source = a.source.now in
+    let x = a.target.now in
+    let e = err_from_is_err_and c.from_residual.result c.from_residual.ensures.1 in
+    record {
+      text = λ ns ix f h k. rw (e.1, e.2) (enum-first source.bytes.now x.slot f h
+          (sheet_of source.root.now ns) x.tag (name_of x.name)
+          c.set_open-t.new.buf c.set_open-t.result c.qualified_module.new.buf _ k
+          (c.in_err-t.ensures.text source.root.now ns ix));
+      within = rw e.1 (kept-behind (some-text c.set_open-t.ensures) c.in_err-t.ensures.within);
+    }
+
+pub returns-in_err-mask : goal.returns-in_err-mask
+returns-in_err-mask c =
+    let a = c.args in
+    let source = a.source.now in
+    let x = a.target.now in
+    let e = err_from_is_err_and c.from_residual-in_err-mask.result c.from_residual-in_err-mask.ensures.1 in
+    record {
+      text = λ ns ix f h k. rw (e.1, e.2) (enum-later source.bytes.now x.slot f h
+          (sheet_of source.root.now ns) x.tag (name_of x.name)
+          c.set_open-t.new.buf c.set_open-t.result c.qualified_module.new.buf _ _ k (c.in_ok-t.ensures.text source.root.now ns ix)
+          c.in_err-mask.ensures);
+      within = rw e.1 (kept-text (some-text c.set_open-t.ensures ⨟ c.in_ok-t.ensures.within));
+    }
+
 pub returns : goal.returns
-returns c = record {
-  text = λ root ns ix f h k. enum-here c.args.s.now c.args.slot f h (sheet_of root ns) c.args.tag
-      (name_of c.args.name) c.qualified_module-module.result (mask_text c.enum_mask-mask.result) k
-      c.set_open-t.ensures (c.qualified_module-module.ensures.text root ns ix)
-      (c.bytes-t.ensures ⨾ c.tag_line-t.ensures ⨾ c.bytes-t-2.ensures ⨾ c.set_data_field-t.ensures ⨾ c.bytes-text.ensures)
-      c.enum_mask-mask.ensures refl
-      (c.first.ensures ∙ ap (λ (x : Option ℕ). first_of (refusal_number c.qualified_module-module.result.refusal) x)
-      c.enum_refusal.ensures);
-  some = some-text c.set_open-t.ensures ⨟ c.qualified_module-module.ensures.some ⨟ some-text
-      (c.bytes-t.ensures ⨾ c.tag_line-t.ensures ⨾ c.bytes-t-2.ensures ⨾ c.set_data_field-t.ensures ⨾ c.bytes-text.ensures);
-}
+returns c =
+    let a = c.args in
+    let source = a.source.now in
+    let x = a.target.now in
+    let behind = c.bytes-t.ensures ⨾ c.tag_line-t.ensures ⨾ c.bytes-t-2.ensures ⨾ c.set_data_field-t.ensures ⨾ c.bytes.ensures in
+    record {
+      text = λ ns ix f h k. enum-here source.bytes.now x.slot f h (sheet_of source.root.now ns) x.tag (name_of x.name)
+          (mask_text c.in_ok-mask.mask) k c.in_ok-mask.ensures c.set_open-t.ensures
+          (c.in_ok-t.ensures.text source.root.now ns ix) behind;
+      within = some-text c.set_open-t.ensures ⨟ c.in_ok-t.ensures.within ⨟ some-text behind;
+    }

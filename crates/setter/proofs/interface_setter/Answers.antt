@@ -1,23 +1,38 @@
--- `setter::interface_setter` meets its contract: the setter around the type's text. Assumes nothing.
-use mathlib.Core.Path.{refl}
-use mathlib.Core.List.{◌++◌}
-use Rattle.text.specs.Bytes.{ascii}
+-- `setter::interface_setter` meets its contract: the setter around the client's text, or its refusal. Assumes nothing.
+use Rattle.std.proofs.lemmas.Result.{err_from_is_err_and}
 use Rattle.text.proofs.Laws.{◌⨾◌, some-text, ◌⨟◌}
 use Rattle.names.specs.Names.{name_of}
 use Rattle.nodes.specs.Index.{sheet_of}
+use Rattle.codegen_types.proofs.WrittenLaws.{kept-behind}
+use mathlib.Core.List.{◌++◌}
+use Rattle.text.specs.Bytes.{ascii}
 use Rattle.setter_code.specs.Parts.{tag_line}
 use Rattle.setter_code.proofs.Laws.{retext}
-use Rattle.setter.proofs.ArmLaws.{interface-here, capability-line}
+use Rattle.setter.proofs.ArmLaws.{interface-first, interface-here, capability-line}
 use Rattle.setter.proofs.interface_setter.Goals as goal
 
+pub returns-in_err-t : goal.returns-in_err-t
+returns-in_err-t c =
+    let a = c.args in
+    let source = a.source.now in
+    let x = a.target.now in
+    let e = err_from_is_err_and c.from_residual.result c.from_residual.ensures.1 in
+    record {
+      text = λ ns ix f h k. rw (e.1, e.2) (interface-first source.bytes.now x.slot f h
+          (sheet_of source.root.now ns) x.tag (name_of x.name)
+          c.set_open-t.new.buf c.set_open-t.result c.type_string.new.buf _ k (c.in_err-t.ensures.text ns ix));
+      within = rw e.1 (kept-behind (some-text c.set_open-t.ensures) c.in_err-t.ensures.within);
+    }
+
 pub returns : goal.returns
-returns c = record {
-  text = λ ns ix f h k. interface-here c.args.s.now c.args.slot f h (sheet_of c.args.root.now ns) c.args.tag
-      (name_of c.args.name) c.type_string-refusal.result k c.set_open-t.ensures (c.type_string-refusal.ensures.text ns ix)
-      (retext
-      (capability-line (ascii ")  {\n" ++ tag_line c.args.tag c.args.slot.discriminant) c.args.slot.offset)
-      (c.bytes-t.ensures ⨾ c.tag_line-t.ensures ⨾ c.bytes-t-2.ensures ⨾ c.number-t.ensures ⨾ c.bytes-text.ensures))
-      refl refl;
-  some = some-text c.set_open-t.ensures ⨟ c.type_string-refusal.ensures.some ⨟ some-text
-      (c.bytes-t.ensures ⨾ c.tag_line-t.ensures ⨾ c.bytes-t-2.ensures ⨾ c.number-t.ensures ⨾ c.bytes-text.ensures);
-}
+returns c =
+    let a = c.args in
+    let source = a.source.now in
+    let x = a.target.now in
+    let behind = retext (capability-line (ascii ")  {\n" ++ tag_line x.tag x.slot.discriminant) x.slot.offset)
+    (c.bytes-t.ensures ⨾ c.tag_line-t.ensures ⨾ c.bytes-t-2.ensures ⨾ c.number-t.ensures ⨾ c.bytes.ensures) in
+    record {
+      text = λ ns ix f h k. interface-here source.bytes.now x.slot f h (sheet_of source.root.now ns) x.tag (name_of x.name) k
+          c.set_open-t.ensures (c.in_ok-t.ensures.text ns ix) behind;
+      within = some-text c.set_open-t.ensures ⨟ c.in_ok-t.ensures.within ⨟ some-text behind;
+    }

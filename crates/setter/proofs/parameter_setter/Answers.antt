@@ -1,20 +1,60 @@
--- `setter::parameter_setter` meets its contract: the setter and the initializers around the type's texts. Assumes nothing.
-use mathlib.Core.Path.{refl}
+-- `setter::parameter_setter` meets its contract: the setter and the initializers around the type's texts, or the refusal of one.
+-- Assumes nothing.
+use Rattle.std.proofs.lemmas.Result.{err_from_is_err_and}
 use Rattle.text.proofs.Laws.{◌⨾◌, some-text, ◌⨟◌}
 use Rattle.names.specs.Names.{name_of}
 use Rattle.nodes.specs.Index.{sheet_of}
-use Rattle.setter.proofs.ArmLaws.{parameter-here}
+use Rattle.codegen_types.proofs.WrittenLaws.{kept-behind}
+use Rattle.setter.proofs.ArmLaws.{parameter-first, parameter-later, parameter-here}
 use Rattle.setter.proofs.parameter_setter.Goals as goal
 
+pub returns-in_err-initn : goal.returns-in_err-initn
+returns-in_err-initn c =
+    let a = c.args in
+    let source = a.source.now in
+    let x = a.target.now in
+    let e = err_from_is_err_and c.from_residual.result c.from_residual.ensures.1 in
+    record {
+      text = λ ns ix f h k n. rw (e.1, e.2) (parameter-first source.bytes.now x.slot f h
+          (sheet_of source.root.now ns) x.tag (name_of x.name)
+          c.initn_open-t.new.buf c.initn_open-t.result c.type_string.new.buf _ k n (c.in_err-initn.ensures.text ns ix));
+      within = rw e.1 (kept-behind (some-text c.initn_open-t.ensures) c.in_err-initn.ensures.within);
+    }
+
+pub returns-in_err-set : goal.returns-in_err-set
+returns-in_err-set c =
+    let a = c.args in
+    let source = a.source.now in
+    let x = a.target.now in
+    let e = err_from_is_err_and c.from_residual-in_err-set.result c.from_residual-in_err-set.ensures.1 in
+    record {
+      text = λ ns ix f h k n. rw (e.1, e.2) (parameter-later source.bytes.now x.slot f h
+          (sheet_of source.root.now ns) x.tag (name_of x.name)
+          c.initn_open-t.new.buf c.initn_open-t.result c.type_string.new.buf c.in_ok-initn.initn c.set_open-t.new.buf
+          c.set_open-t.result c.setter_input.new.buf _ k n (c.in_ok-initn.ensures.text ns ix) (c.in_err-set.ensures.text ns ix));
+      within = rw e.1 (kept-behind (some-text c.initn_open-t.ensures ⨟ c.in_ok-initn.ensures.within
+          ⨟ some-text (c.new_end-t.ensures ⨾ c.set_open-t.ensures)) c.in_err-set.ensures.within);
+    }
+
+pub returns-in_err-init-clause-within : goal.returns-in_err-init-clause-within
+returns-in_err-init-clause-within c =
+    let e = err_from_is_err_and c.from_residual-in_err-init.result c.from_residual-in_err-init.ensures.1 in
+    rw e.1 (kept-behind (some-text c.initn_open-t.ensures ⨟ c.in_ok-initn.ensures.within
+    ⨟ some-text (c.new_end-t.ensures ⨾ c.set_open-t.ensures) ⨟ c.in_ok-set.ensures.within
+    ⨟ some-text (c.set_end-t.ensures ⨾ c.init_open-t.ensures)) c.in_err-init.ensures.within)
+
 pub returns : goal.returns
-returns c = record {
-  text = λ ns ix f h k j. parameter-here c.args.s.now c.args.slot f h (sheet_of c.args.root.now ns) c.args.tag
-      (name_of c.args.name) c.init_type-builder.result c.setter_input-owned.result c.init_type-again.result k j
-      c.initn_open-t.ensures (c.init_type-builder.ensures.text ns ix) c.new_end-t.ensures
-      c.set_open-t.ensures (c.setter_input-owned.ensures.text ns ix) c.set_end-t.ensures
-      c.init_open-t.ensures (c.init_type-again.ensures.text ns ix) c.new_end-text.ensures refl c.first.ensures;
-  some = some-text c.initn_open-t.ensures ⨟ c.init_type-builder.ensures.some
-      ⨟ some-text (c.new_end-t.ensures ⨾ c.set_open-t.ensures) ⨟ c.setter_input-owned.ensures.some
-      ⨟ some-text (c.set_end-t.ensures ⨾ c.init_open-t.ensures)
-      ⨟ c.init_type-again.ensures.some ⨟ some-text c.new_end-text.ensures;
-}
+returns c =
+    let a = c.args in
+    let source = a.source.now in
+    let x = a.target.now in
+    record {
+      text = λ ns ix f h k n. parameter-here source.bytes.now x.slot f h (sheet_of source.root.now ns) x.tag (name_of x.name) k n
+          c.initn_open-t.ensures (c.in_ok-initn.ensures.text ns ix) c.new_end-t.ensures
+          c.set_open-t.ensures (c.in_ok-set.ensures.text ns ix) c.set_end-t.ensures
+          c.init_open-t.ensures (c.in_ok-init.ensures.text ns ix) c.new_end.ensures;
+      within = some-text c.initn_open-t.ensures ⨟ c.in_ok-initn.ensures.within
+          ⨟ some-text (c.new_end-t.ensures ⨾ c.set_open-t.ensures) ⨟ c.in_ok-set.ensures.within
+          ⨟ some-text (c.set_end-t.ensures ⨾ c.init_open-t.ensures) ⨟ c.in_ok-init.ensures.within
+          ⨟ some-text c.new_end.ensures;
+    }

@@ -1,84 +1,114 @@
 -- `sheet::field` meets its contract: each return is one law of FieldsLaws for the row's line, and an id that was put after the
 -- others has its flag. Assumes nothing.
-use mathlib.Core.Path.{sym, ◌∙◌, ap}
+use mathlib.Core.Path.{◌≡◌, sym, ◌∙◌, ap}
 use mathlib.Core.List.{List}
-use Prim.Native.Nat.{ℕ}
+use Prim.Native.Nat.{ℕ, ◌%◌, ◌≤◌}
 use native.Mathlib.Omega.{arith}
 use lib.ListN.{take, drop, length-set}
-use Rattle.sheet.proofs.FieldsLaws.{group-less, group-fits, pushed, groups-stop, groups-slot, groups-slot-no, slot-less}
-use Rattle.sheet.proofs.FieldsLaws.{slot-room, groups-double, groups-group, walked-ends, ends-left}
-use Rattle.sheet.proofs.FlagsLaws.{flagged-more}
-use Rattle.sheet.specs.Steps.{groups_after}
-use Rattle.tree.proofs.WalkLaws.{came, refused}
+use denote.Enum.Declared.{tag_of}
+use Rattle.std.specs.Prelude.{Ok}
+use Rattle.std.proofs.lemmas.Result.{err_from_is_err_and}
+use Rattle.row.specs.contracts.Line.{the_type}
 use Rattle.row.specs.Rows.{rows}
-use Rattle.row.specs.Line.{line_said, fault_of}
-use Rattle.tree.proofs.OtherLines.{not_a_field-tag}
+use Rattle.row.specs.declared.Line.{Line}
+use Rattle.tree.proofs.ElseLaws.{OtherThan, other-than}
+use Rattle.sheet.proofs.FieldsLaws.{group-less, group-fits, pushed, groups-slot, groups-slot-no, slot-less}
+use Rattle.sheet.proofs.FieldsLaws.{slot-room, groups-double, groups-group, field-refused, group-refused, fields-end}
+use Rattle.sheet.proofs.FlagsLaws.{flagged-more, held-fewer}
+use Rattle.sheet.specs.Steps.{groups_after}
 use Rattle.sheet.proofs.field.Goals as goal
+use Rattle.sheet.proofs.field.Goals.{After-end_at}
 
-pub known-requires : goal.known-requires
-known-requires c =
-    let p = c.requires in
-    let fits = group-fits _ _ _ c.next-g.ensures.line_value c.next-g.ensures.s_value _ _ c.in-Group.is in
-    (omega (arith, p.1), p.0, p.2)
+-- the row that is no field is neither an F nor a G row
+other : (c : After-end_at) (f : Line) → c.next-row.result.line ≡ Ok f → 3 ≤ tag_of the_type f → tag_of the_type f ≤ 4 → ⊥
+other c f e h g = grind arith
+
+no-field : (c : After-end_at) → OtherThan 3 c.next-row.result.line
+no-field c = other-than 3 c.next-row.result.line (λ f e h. other c f e (omega arith) (omega arith))
+
+no-group : (c : After-end_at) → OtherThan 4 c.next-row.result.line
+no-group c = other-than 4 c.next-row.result.line (λ f e h. other c f e (omega arith) (omega arith))
+
+pub returns-in_err-next-in-Ok-Field : goal.returns-in_err-next-in-Ok-Field
+returns-in_err-next-in-Ok-Field c =
+    let g = c.next-row.ensures in
+    let w = c.in-Ok-Field in
+    let f = rw w.is at w.field-0-is in
+    let p = err_from_is_err_and c.from_residual.result c.from_residual.ensures.1 in
+    rw (p.1, p.2)
+    (groups-slot-no _ _ _ g.line_value g.s_value _ _ _ _ (w.is ∙ ap Ok f) _ c.args.s.now _
+    (rw c.in_err-next-in-Ok-Field.was at (c.slot.ensures w.field-0-0 w.field-0-3)))
 
 pub returns-then-known : goal.returns-then-known
 returns-then-known c =
-    let p = c.requires in (
-      groups-double _ _ _ c.next-g.ensures.line_value c.next-g.ensures.s_value _ _ c.in-Group.is _ _ c.known.ensures
-          c.if-known.true,
-      omega (arith, p.1),
-      p.2,
-    )
+    let g = c.next-row.ensures in
+    let w = c.in-Ok-Group in
+    let f = rw w.is at w.field-0-is in
+    groups-double _ _ _ g.line_value g.s_value _ _ (w.is ∙ ap Ok f) _ _ c.known.ensures c.if-known.true
 
 pub bounds-groups-count : goal.bounds-groups-count
 bounds-groups-count c =
-    let p = c.requires in
-    omega (arith, p.1, group-fits _ _ _ c.next-g.ensures.line_value c.next-g.ensures.s_value _ _ c.in-Group.is)
+    let g = c.next-row.ensures in
+    let w = c.in-Ok-Group in
+    let f = rw w.is at w.field-0-is in
+    omega (arith, c.requires.room, group-fits _ _ _ g.line_value g.s_value _ _ (w.is ∙ ap Ok f))
 
-pub returns-in-Next : goal.returns-in-Next
-returns-in-Next c =
-    let p = c.requires in
-    let is = c.in-Field.is in
-    let past = came _ _ _ (c.slot.ensures _ _) _ c.in-Next.is in (
-      groups-slot _ _ _ c.next-g.ensures.line_value c.next-g.ensures.s_value _ _ _ _ is _ _ past,
-      omega (arith, p.1, slot-room _ _ _ c.next-g.ensures.line_value c.next-g.ensures.s_value _ _ _ _ is _ past),
-      p.2,
-      slot-less _ _ _ c.next-g.ensures.line_value c.next-g.ensures.s_value _ _ _ _ is _ past,
-    )
+pub returns-in_err-end-in_default : goal.returns-in_err-end-in_default
+returns-in_err-end-in_default c =
+    let r = c.from_residual-in_err-end-in_default in
+    let p = err_from_is_err_and r.result r.ensures.1 in
+    let k = (goal.at.returns-in_err-end-in_default c).After-end_at in
+    rw (p.1, p.2)
+    (field-refused c.args.s.now c.args.at _ c.next-row.ensures.line_value _ (no-field k) (no-group k) _
+    (sym c.end_at.ensures ∙ c.in_err-end-in_default.was))
 
-pub returns-in-Refused : goal.returns-in-Refused
-returns-in-Refused c =
-    let p = c.requires in (
-      groups-slot-no _ _ _ c.next-g.ensures.line_value c.next-g.ensures.s_value _ _ _ _ c.in-Field.is _ _ _
-          (refused _ _ _ (c.slot.ensures _ _) _ _ _ c.in-Refused.is),
-      omega (arith, p.1),
-      p.2,
+pub returns-in_err-end_at-in_default : goal.returns-in_err-end_at-in_default
+returns-in_err-end_at-in_default c =
+    let r = c.from_residual-in_err-end_at-in_default in
+    let p = err_from_is_err_and r.result r.ensures.1 in
+    let k = (goal.at.returns-in_err-end_at-in_default c).After-end_at in
+    rw (p.1, p.2)
+    (group-refused c.args.s.now c.args.at _ c.next-row.ensures.line_value _ (no-field k) (no-group k) _
+    (sym c.end_at.ensures ∙ c.in_ok-end-in_default.was) _
+    (sym c.end_at-in_default.ensures ∙ c.in_err-end_at-in_default.was))
+
+pub returns-in_ok-next-in-Ok-Field : goal.returns-in_ok-next-in-Ok-Field
+returns-in_ok-next-in-Ok-Field c =
+    let g = c.next-row.ensures in
+    let w = c.in-Ok-Field in
+    let f = rw w.is at w.field-0-is in
+    let is = w.is ∙ ap Ok f in
+    let past = rw c.in_ok-next-in-Ok-Field.was at (c.slot.ensures w.field-0-0 w.field-0-3) in (
+      groups-slot _ _ _ g.line_value g.s_value _ _ _ _ is _ _ past,
+      held-fewer _ _ _ _ _ c.requires (slot-room _ _ _ g.line_value g.s_value _ _ _ _ is _ past),
+      slot-less _ _ _ g.line_value g.s_value _ _ _ _ is _ past,
     )
 
 pub returns-else-known : goal.returns-else-known
 returns-else-known c =
     let a = c.args in
-    let p = c.requires in
-    let i = c.in-Group.id in
-    let is = c.in-Group.is in
-    let fits = group-fits _ _ _ c.next-g.ensures.line_value c.next-g.ensures.s_value _ _ is in
-    let put = pushed a.groups.now a.count i (omega (arith, p.1)) in (
-      groups-group _ _ _ c.next-g.ensures.line_value c.next-g.ensures.s_value _ _ is _ _ c.known.ensures
-          c.if-known.false
-          ∙ ap (λ (x : List ℕ). groups_after x (rows (drop c.next-g.result.next a.s.now))) (sym put),
-      omega (arith, p.1, length-set a.groups.now a.count i),
-      rw (put, c.flag.ensures) (flagged-more a.flags.now (take a.count a.groups.now) i p.0 p.2),
-      group-less _ _ _ c.next-g.ensures.line_value c.next-g.ensures.s_value _ _ is,
+    let h = c.requires in
+    let g = c.next-row.ensures in
+    let w = c.in-Ok-Group in
+    let f = rw w.is at w.field-0-is in
+    let is = w.is ∙ ap Ok f in
+    let fits = group-fits _ _ _ g.line_value g.s_value _ _ is in
+    let put = pushed a.groups.now a.count w.id (omega (arith, h.room)) in (
+      groups-group _ _ _ g.line_value g.s_value _ _ is _ _ c.known.ensures c.if-known.false
+          ∙ ap (λ (x : List ℕ). groups_after x (rows (drop c.next-row.result.next a.s.now))) (sym put),
+      record {
+        flags-size = rw c.flag.ensures (length-set a.flags.now (w.id % 2048) 1 ∙ h.flags-size);
+        room = omega (arith, h.room, length-set a.groups.now a.count w.id);
+        flagged = rw (put, c.flag.ensures) (flagged-more a.flags.now (take a.count a.groups.now) w.id h.flags-size h.flagged);
+      },
+      group-less _ _ _ g.line_value g.s_value _ _ is,
     )
 
-pub returns-in_default : goal.returns-in_default
-returns-in_default c =
-    let p = c.requires in
-    let line = line_said c.next-g.result.line in
-    let ends = c.no_field.ensures in (
-      walked-ends c.args.s.now _ (fault_of 70 line) (fault_of 71 line) _ ends _
-          ∙ groups-stop _ _ _ c.next-g.ensures.line_value c.next-g.ensures.s_value _
-          (not_a_field-tag _ c.in_default.not-Field c.in_default.not-Group),
-      omega (arith, p.1, ends-left c.args.s.now _ (fault_of 70 line) (fault_of 71 line) _ ends),
-      p.2,
+pub returns-in_ok-end_at-in_default : goal.returns-in_ok-end_at-in_default
+returns-in_ok-end_at-in_default c =
+    let k = (goal.at.returns-in_ok-end_at-in_default c).After-end_at in (
+      fields-end c.args.s.now c.args.at _ c.next-row.ensures.line_value _ (no-field k) (no-group k) _
+          (sym c.end_at.ensures ∙ c.in_ok-end-in_default.was) _
+          (sym c.end_at-in_default.ensures ∙ c.in_ok-end_at-in_default.was),
+      c.requires,
     )

@@ -1,22 +1,23 @@
--- `sheet::members` meets its contract: P rows and fields by their own contracts, and the entry that is put is read back; where
--- a P row is refused no entry is put. Assumes nothing.
-use native.Mathlib.Omega.{arith}
-use Rattle.sheet.proofs.NodeLaws.{members-refused, members-whole}
+-- `sheet::members` meets its contract: P rows and fields by their own contracts, and the entry that is put is read back.
+-- Assumes nothing.
+use Rattle.std.proofs.lemmas.Result.{err_from_is_err_and}
+use Rattle.sheet.proofs.NodeLaws.{params-refused, fields-refused, members-whole}
 use Rattle.sheet.proofs.members.Goals as goal
 
-pub returns-in_default : goal.returns-in_default
-returns-in_default c = members-refused _ _ _ _ _ _ _ c.requires.1 c.params-p.ensures _ _ _ c.in_default.is _ _ c.requires.0
+pub returns-in_err-listed : goal.returns-in_err-listed
+returns-in_err-listed c =
+    let p = err_from_is_err_and c.from_residual.result c.from_residual.ensures.1 in
+    rw (p.1, p.2) (params-refused c.args.s.now c.args.node _ c.in_err-listed.field-0.0 c.in_err-listed.ensures)
 
-pub fields-f-requires : goal.fields-f-requires
-fields-f-requires c =
-    let ready = c.requires.0 in
-    let left = rw c.in-Next.is at c.params-p.ensures.left in
-    (ready.flags-size, omega (arith, ready.room), ready.flagged)
+pub returns-in_err-read : goal.returns-in_err-read
+returns-in_err-read c =
+    let r = c.from_residual-in_err-read in
+    let p = err_from_is_err_and r.result r.ensures.1 in
+    rw (p.1, p.2)
+    (fields-refused c.args.s.now _ _ _ _ c.args.node _ c.requires.1 c.in_ok-listed.ensures c.in_err-read.field-0.0
+    c.in_err-read.ensures)
 
 pub returns : goal.returns
 returns c =
-    members-whole _ _ _ _ _ _ _ c.requires.1 c.params-p.ensures _ c.in-Next.is
-    c.requires.0.few c.requires.0.first _
-    c.put.ensures c.fields-f.result.walk c.fields-f.new.groups c.fields-f.new.flags
-    c.fields-f.result.count c.fields-f.ensures.read c.fields-f.ensures.room
-    c.fields-f.ensures.flagged
+    members-whole _ _ _ _ _ _ _ c.requires.1 c.in_ok-listed.ensures c.requires.0.few c.requires.0.first _ c.put.ensures
+    _ _ _ c.in_ok-read.ensures

@@ -1,14 +1,10 @@
 -- `sheet::seen` meets its contract: what is to be found among all ids is to be found from here on, and a turn parts off the
 -- next 32. Assumes nothing.
-use mathlib.Core.Path.{refl, sym, ◌∙◌}
+use mathlib.Core.Path.{sym, ◌∙◌}
 use Prim.Native.Nat.{◌+◌}
-use native.Mathlib.Nat.{sub-zero}
 use native.Mathlib.Omega.{arith}
 use Rattle.sheet.proofs.FieldsLaws.{seen_parts}
 use Rattle.sheet.proofs.seen.Goals as goal
-
-pub loop-i-init : goal.loop-i-init
-loop-i-init c = (omega arith, refl, rw sub-zero refl)
 
 pub returns-then-among : goal.returns-then-among
 returns-then-among c =
@@ -23,6 +19,3 @@ loop-i-preserved c =
     let a = c.args in
     let parts = seen_parts a.ids.now a.count _ l.i (l.i + 32) (omega arith) (omega arith) _ c.among.ensures in
     (omega arith, omega arith, l.invariant.2 ∙ rw c.if-among.false at parts)
-
-pub returns : goal.returns
-returns c = c.among-2.ensures ∙ sym c.loop-i.invariant.2

@@ -1,7 +1,7 @@
 -- What each call of the walk costs, and what its two loops keep: what is left to read from the start equal to what is left from
 -- here. Levels fall from a type to its parts, and below a level a type calls scopes, a scope its bindings, a binding its type.
 use mathlib.Core.Path.{◌≡◌}
-use Prim.Native.Nat.{◌+◌, ◌*◌}
+use Prim.Native.Nat.{◌+◌, ◌-◌, ◌*◌}
 use lib.ListN.{drop}
 use Rattle.row.specs.Rows.{rows}
 use Rattle.tree.specs.Tree.{end, stop}
@@ -33,10 +33,7 @@ invariant-binds-loop-n l =
 abbrev pub decreases-binds-loop-n : goal.decreases-binds-loop-n
 decreases-binds-loop-n l = l.n
 
-abbrev pub invariant-scopes-loop-n : goal.invariant-scopes-loop-n
-invariant-scopes-loop-n l =
+abbrev pub invariant-scopes-loop : goal.invariant-scopes-loop
+invariant-scopes-loop l =
     passed (times (read_scope (read_type l.left)) end l.count (rows (drop l.from l.s)))
-    ≡ passed (times (read_scope (read_type l.left)) end l.n (rows (drop l.at l.s)))
-
-abbrev pub decreases-scopes-loop-n : goal.decreases-scopes-loop-n
-decreases-scopes-loop-n l = l.n
+    ≡ passed (times (read_scope (read_type l.left)) end (l.count - l.counter) (rows (drop l.at l.s)))

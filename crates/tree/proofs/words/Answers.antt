@@ -1,24 +1,41 @@
 -- `tree::words` meets its contract: a first W row where words belong, and none elsewhere. Assumes nothing.
-use mathlib.Core.Path.{◌∙◌}
-use Rattle.row.specs.Line.{line_said, fault_of}
-use Rattle.tree.proofs.OtherLines.{not_word-tag}
+use mathlib.Core.Path.{ap, ◌∙◌}
+use native.Mathlib.Omega.{arith}
+use Rattle.std.specs.Prelude.{Ok}
+use Rattle.std.proofs.lemmas.Result.{err_from_is_err_and}
+use Rattle.tree.proofs.ElseLaws.{other-than}
 use Rattle.tree.proofs.WalkLaws.{walked_wrong}
 use Rattle.tree.proofs.SlotLaws.{words-first, words-missing, words-absent}
 use Rattle.tree.proofs.words.Goals as goal
 
+pub returns-then-not-has : goal.returns-then-not-has
+returns-then-not-has c = words-absent _ _ c.if-not-has.true
+
 pub returns-in_default : goal.returns-in_default
 returns-in_default c =
     let a = c.args in
-    let g = c.next-g.ensures in
-    let l = c.next-g.result.line in
-    walked_wrong a.s.now a.at (fault_of 87 (line_said l)) _ c.wrong_at.ensures
-    ∙ words-missing _ _ _ g.line_value g.s_value _ c.if-has.true (not_word-tag l c.in_default.not-Word)
+    let g = c.next-row.ensures in
+    rw c.wrong_at.ensures
+    (walked_wrong a.s.now 87 a.at c.next-row.result.line
+    ∙ words-missing _ _ _ g.line_value g.s_value _ c.if-not-has.false
+    (other-than 9 c.next-row.result.line (λ f e h. grind arith)))
 
-pub returns-then-has : goal.returns-then-has
-returns-then-has c =
-    let g = c.next-g.ensures in
-    let w = c.words_up_to-w in
-    words-first _ _ _ g.line_value g.s_value _ c.if-has.true c.args.s.now w.result.walk _ w.result.count c.in-Word.is w.ensures
+pub returns-in_err-words : goal.returns-in_err-words
+returns-in_err-words c =
+    let g = c.next-row.ensures in
+    let w = c.in-Ok-Word in
+    let f = rw w.is at w.field-0-is in
+    let p = err_from_is_err_and c.from_residual.result c.from_residual.ensures.1 in
+    rw (p.1, p.2)
+    (rw c.in_err-words.was at
+    (words-first _ _ _ g.line_value g.s_value c.args.has c.if-not-has.false c.args.s.now c.words_up_to.result w.field-0-0
+    (w.is ∙ ap Ok f) c.words_up_to.ensures))
 
 pub returns : goal.returns
-returns c = words-absent _ _ c.if-has.false
+returns c =
+    let g = c.next-row.ensures in
+    let w = c.in-Ok-Word in
+    let f = rw w.is at w.field-0-is in
+    rw c.in_ok-words.was at
+    (words-first _ _ _ g.line_value g.s_value c.args.has c.if-not-has.false c.args.s.now c.words_up_to.result w.field-0-0
+    (w.is ∙ ap Ok f) c.words_up_to.ensures)

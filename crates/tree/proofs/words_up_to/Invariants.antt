@@ -1,5 +1,4 @@
 use mathlib.Core.Path.{◌≡◌}
-use Prim.Native.Nat.{◌-◌, ◌≤◌}
 use lib.ListN.{length, drop}
 use Rattle.row.specs.Rows.{rows}
 use Rattle.tree.specs.Reader.{map_r}
@@ -9,8 +8,4 @@ use Rattle.tree.proofs.words_up_to.Given as goal
 
 abbrev pub invariant-loop-count : goal.invariant-loop-count
 invariant-loop-count l =
-    (l.count ≤ l.most)
-    × (counting l.most l.count (rows (drop l.at l.s)) ≡ map_r length (read_words_up_to l.most) (rows (drop l.from l.s)))
-
-abbrev pub decreases-loop-count : goal.decreases-loop-count
-decreases-loop-count l = l.most - l.count
+    counting l.most l.count (rows (drop l.at l.s)) ≡ map_r length (read_words_up_to l.most) (rows (drop l.from l.s))

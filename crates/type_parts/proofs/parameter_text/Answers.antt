@@ -1,67 +1,35 @@
 -- `type_parts::parameter_text` meets its contract: each arm's leaf chooses its clause of the definition, whose three last parts
--- are one constant in the code; the leaves that are left are refused, with no text. Assumes nothing.
-use Rattle.type_parts.proofs.Laws as law
+-- are one constant in the code. Assumes nothing.
 use mathlib.Core.List.{◌++◌}
 use Rattle.text.specs.Bytes.{ascii}
-use Rattle.text.proofs.Laws as text-law
-use Rattle.text.proofs.Laws.{some-text}
-use Rattle.codegen_types.proofs.WrittenLaws.{written, refused-text, text_of}
+use Rattle.codegen_types.proofs.WrittenLaws.{whole}
 use Rattle.codegen_types.specs.TypeString.{parameter_string}
+use Rattle.type_parts.proofs.Laws.{in_three}
 use Rattle.type_parts.proofs.parameter_text.Goals as goal
+use Rattle.type_parts.proofs.parameter_text.Goals.{in-Reader-A, in-Reader-Anonymous, in-Builder-A, in-Builder-Anonymous}
+use Rattle.type_parts.proofs.parameter_text.Goals.{in-Pipeline}
 
-pub returns-in-A : goal.returns-in-A
+pub returns-clause-text : goal.returns-clause-text
 unfolding parameter_string
-returns-in-A c = record {
-  text = rw (c.in-Reader.is, c.in-A.is) (law.in_three (ascii "<" ++ c.args.name.now
-      ++ ascii " as " ++ c.args.root.now) (ascii "::traits::Owned>::Reader<") (ascii "'a") (ascii ">")
-      c.projected.ensures);
-  some = some-text (text_of c.projected.ensures);
-}
-
-pub returns-in-Anonymous : goal.returns-in-Anonymous
-unfolding parameter_string
-returns-in-Anonymous c = record {
-  text = rw (c.in-Reader.is, c.in-Anonymous.is) (law.in_three (ascii "<" ++ c.args.name.now
-      ++ ascii " as " ++ c.args.root.now) (ascii "::traits::Owned>::Reader<") (ascii "'_") (ascii ">")
-      c.projected-in-Anonymous.ensures);
-  some = some-text (text_of c.projected-in-Anonymous.ensures);
-}
-
-pub returns-in-A-lifetime : goal.returns-in-A-lifetime
-unfolding parameter_string
-returns-in-A-lifetime c = record {
-  text = rw (c.in-Builder.is, c.in-A-lifetime.is) (law.in_three (ascii "<" ++
-      c.args.name.now ++ ascii " as " ++ c.args.root.now) (ascii "::traits::Owned>::Builder<")
-      (ascii "'a") (ascii ">") c.projected-in-A-lifetime.ensures);
-  some = some-text (text_of c.projected-in-A-lifetime.ensures);
-}
-
-pub returns-in-Anonymous-lifetime : goal.returns-in-Anonymous-lifetime
-unfolding parameter_string
-returns-in-Anonymous-lifetime c = record {
-  text = rw (c.in-Builder.is, c.in-Anonymous-lifetime.is) (law.in_three (ascii "<" ++
-      c.args.name.now ++ ascii " as " ++ c.args.root.now) (ascii "::traits::Owned>::Builder<")
-      (ascii "'_") (ascii ">") c.projected-in-Anonymous-lifetime.ensures);
-  some = some-text (text_of c.projected-in-Anonymous-lifetime.ensures);
-}
-
-pub returns-in-Owned : goal.returns-in-Owned
-unfolding parameter_string
-returns-in-Owned c = record {
-  text = rw c.in-Owned.is (written c.bytes.ensures c.whole.ensures.0 c.whole.ensures.1);
-  some = rw c.whole.ensures.0 (some-text c.bytes.ensures);
-}
-
-pub returns-in-Pipeline : goal.returns-in-Pipeline
-unfolding parameter_string
-returns-in-Pipeline c = record {
-  text = rw c.in-Pipeline.is c.projected-in-Pipeline.ensures;
-  some = some-text (text_of c.projected-in-Pipeline.ensures);
-}
-
-pub returns-in_default : goal.returns-in_default
-returns-in_default c = record {
-  text = rw (law.refused-leaf _ _ c.args.leaf c.in_default.not-Reader c.in_default.not-Builder c.in_default.not-Owned
-      c.in_default.not-Pipeline) (refused-text c.refused.ensures.1);
-  some = rw c.refused.ensures.0 text-law.no_text;
-}
+returns-clause-text c =
+    let head = ascii "<" ++ c.args.name.now ++ ascii " as " ++ c.args.root.now in
+    let reader = ascii "::traits::Owned>::Reader<" in
+    let builder = ascii "::traits::Owned>::Builder<" in
+    let a = ascii "'a" in
+    let anonymous = ascii "'_" in
+    let end = ascii ">" in
+    elim c.match-leaf.branch [
+      | in-Reader-A w ↦
+          let f = rw w.in-Reader-A.is at w.in-Reader-A.field-0-is in
+          rw (w.in-Reader-A.is, f) (whole (in_three head reader a end (rw w.tail-is at c.projected.ensures)))
+      | in-Reader-Anonymous w ↦
+          let f = rw w.in-Reader-Anonymous.is at w.in-Reader-Anonymous.field-0-is in
+          rw (w.in-Reader-Anonymous.is, f) (whole (in_three head reader anonymous end (rw w.tail-is at c.projected.ensures)))
+      | in-Builder-A w ↦
+          let f = rw w.in-Builder-A.is at w.in-Builder-A.field-0-is in
+          rw (w.in-Builder-A.is, f) (whole (in_three head builder a end (rw w.tail-is at c.projected.ensures)))
+      | in-Builder-Anonymous w ↦
+          let f = rw w.in-Builder-Anonymous.is at w.in-Builder-Anonymous.field-0-is in
+          rw (w.in-Builder-Anonymous.is, f) (whole (in_three head builder anonymous end (rw w.tail-is at c.projected.ensures)))
+      | in-Pipeline w ↦ rw w.in-Pipeline.is (whole (rw w.tail-is at c.projected.ensures))
+    ]

@@ -1,18 +1,20 @@
 -- The measures of the writers of types and brands, and what their loops keep. The levels that are left fall where a list or a
 -- binding has a type; at one level a type writes a list or a brand, a brand its chain, a chain its nodes, a node its bindings.
 -- The loop over bindings: whatever the bindings from here on make of what is written, all of them make of the start. The loop
--- over a chain: `Along` says what is known at each turn. Assumes nothing.
+-- over a chain: `Along` says what is known at each turn, and `Going` what of the buffer. Assumes nothing.
 use Rattle.std.proofs.Common.{◌≡◌, ℕ, List, ◌+◌, ◌*◌, ◌-◌, ◌≤◌, length, drop}
+use Rattle.std.specs.Prelude.{Result}
 use Rattle.text.specs.Text.{WroteSome}
 use Rattle.row.specs.Rows.{rows}
 use Rattle.tree.specs.Tree.{Node, stop}
 use Rattle.tree.specs.Reader.{times, On}
 use Rattle.tree.specs.Read.{read_type, read_binding}
 use Rattle.nodes.specs.Index.{Indexed, sheet_of}
+use Rattle.terms.specs.declared.refusals.Refusal.{Refusal}
 use Rattle.codegen_types.specs.TypeString.{bindings_of, all_of}
 use Rattle.type_parts.specs.Parts.{Lists}
-use Rattle.type_parts.specs.declared.Argued.{Argued}
-use Rattle.type_string.proofs.ChainLaws.{Along}
+use Rattle.type_parts.specs.declared.Arguments.{Arguments}
+use Rattle.type_string.proofs.ChainLaws.{Along, Going}
 use Rattle.type_string.proofs.+do_branding_write_binding_write_binds_write_chain_write_list_write_own_write_type.Given as goal
 
 abbrev pub decreases-do_branding : goal.decreases-do_branding
@@ -36,28 +38,21 @@ decreases-write_own l = 8 * l.left + 3
 abbrev pub decreases-write_type : goal.decreases-write_type
 decreases-write_type l = 8 * l.left + 6
 
-abbrev pub invariant-write_binds-loop-n : goal.invariant-write_binds-loop-n
-invariant-write_binds-loop-n l = record {
+abbrev pub invariant-write_binds-loop-passed : goal.invariant-write_binds-loop-passed
+invariant-write_binds-loop-passed l = record {
   some : WroteSome l.fn.buf l.fn.first.text l.buf l.p.text;
-  rest : (ns : List Node) → Indexed l.s ns l.index → (l' : List ℕ) (r : Argued)
-      → On (times (read_binding (read_type l.left)) stop l.n (rows (drop l.at l.s)))
-      (λ bs. Lists (all_of (bindings_of bs (sheet_of l.root ns))) l.buf l.p l' r)
-      → On (times (read_binding (read_type l.left)) stop l.count (rows (drop l.from l.s)))
-      (λ bs. Lists (all_of (bindings_of bs (sheet_of l.root ns))) l.fn.buf l.fn.first l' r);
+  rest : (ns : List Node) → Indexed l.source.bytes.now ns l.source.index.now → (l' : List ℕ) (r : Result Arguments Refusal)
+      → On (times (read_binding (read_type l.left)) stop (l.count - l.passed) (rows (drop l.at l.source.bytes.now)))
+      (λ bs. Lists (all_of (bindings_of bs (sheet_of l.source.root.now ns))) l.buf l.p l' r)
+      → On (times (read_binding (read_type l.left)) stop l.count (rows (drop l.from l.source.bytes.now)))
+      (λ bs. Lists (all_of (bindings_of bs (sheet_of l.source.root.now ns))) l.fn.buf l.fn.first l' r);
 }
-
-abbrev pub decreases-write_binds-loop-n : goal.decreases-write_binds-loop-n
-decreases-write_binds-loop-n l = l.n
 
 abbrev pub invariant-write_chain-loop-done : goal.invariant-write_chain-loop-done
 invariant-write_chain-loop-done l = record {
-  within : l.done ≤ l.chain.count;
   few : l.chain.count ≤ 16;
   params_size : length l.chain.params ≡ 16;
   counts_size : length l.chain.counts ≡ 16;
-  some : WroteSome l.fn.buf l.fn.first.text l.buf l.p.text;
-  along : Along l.inward l.root l.s l.index l.left l.fn.buf l.fn.first l.chain l.scopes l.buf l.p l.refusal l.done;
+  going : Going l.fn.buf l.fn.first l.buf l.p l.met;
+  along : Along l.inward l.source l.left l.fn.brand l.chain l.fn.buf l.fn.first l.buf l.p l.met l.done;
 }
-
-abbrev pub decreases-write_chain-loop-done : goal.decreases-write_chain-loop-done
-decreases-write_chain-loop-done l = l.chain.count - l.done

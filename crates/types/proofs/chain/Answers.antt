@@ -1,68 +1,29 @@
--- `types::chain` meets its contract: `Climbing` says what is known at each turn, and ChainLaws what a turn makes of it. Each turn
+-- `types::chain` meets its contract: `Climbed` says what is known at each turn, and ChainLaws what a turn makes of it. Each turn
 -- ends the chain or adds a node, of at most 16. Assumes nothing.
-use lib.Seq.{length-take-le}
-use native.Mathlib.Omega.{arith}
-use Prim.Native.Nat.{◌<◌}
 use mathlib.Core.Path.{refl, sym, ◌∙◌}
-use mathlib.Core.Bool.{not}
-use lib.Dec.{eqb}
-use Rattle.types.proofs.ChainLaws.{climbing_start, climbing-end, climbing-few, climbing-next, climbing_less}
+use Prim.Native.Nat.{◌<◌}
+use Rattle.types.proofs.ChainLaws.{climb-start, climb-few, climb-end, climb-top, climb-next}
 use Rattle.types.proofs.chain.Goals as goal
-use Rattle.types.proofs.chain.Goals.{In-Node}
+use Rattle.types.proofs.chain.Goals.{In-Ok}
 
-pub loop-more-init : goal.loop-more-init
-loop-more-init c = climbing_start _ _ _ _ _ refl refl refl
+pub loop-node-init : goal.loop-node-init
+loop-node-init c = record { none = refl; way = climb-start _ _ _ _ _ refl refl refl }
 
-pub slice_bounds-ids-end : goal.slice_bounds-ids-end
-slice_bounds-ids-end c = omega (arith, c.loop-more.invariant.few, c.loop-more.invariant.ids_size)
+few : (c : In-Ok) → c.loop-node.links.count < 16
+few c = climb-few _ _ _ _ _ _ _ c.loop-node.invariant.way _ (sym c.in-Ok.is ∙ c.climb.ensures)
 
-pub slice_bounds-climb-end : goal.slice_bounds-climb-end
-slice_bounds-climb-end c =
-    sym (length-take-le _ _ (omega (arith, c.loop-more.invariant.few, c.loop-more.invariant.ids_size)))
+pub returns-then-node-eq0 : goal.returns-then-node-eq0
+returns-then-node-eq0 c =
+    climb-top _ _ _ _ _ _ _ c.loop-node.invariant.way (few (goal.at.returns-then-node-eq0 c).In-Ok) _
+    (sym c.in-Ok.is ∙ c.climb.ensures) c.if-node-eq0.true _ c.loop-node.invariant.none
 
-pub loop-more-smaller-in-Refused : goal.loop-more-smaller-in-Refused
-loop-more-smaller-in-Refused c =
-    rw c.loop-more-test.true (omega (arith, c.loop-more.invariant.few))
+pub loop-node-preserved : goal.loop-node-preserved
+loop-node-preserved c = record {
+  none = c.loop-node.invariant.none;
+  way = climb-next _ _ _ _ _ _ _ c.loop-node.invariant.way (few (goal.at.loop-node-preserved c).In-Ok) _
+      (sym c.in-Ok.is ∙ c.climb.ensures) c.if-node-eq0.false;
+}
 
-pub loop-more-preserved-in-Refused : goal.loop-more-preserved-in-Refused
-loop-more-preserved-in-Refused c =
-    climbing-end _ _ _ _ _ _ _ _ _ c.loop-more.invariant c.loop-more-test.true _ (sym c.in-Refused.is ∙
-    c.climb.ensures)
-
-few : (c : In-Node) → c.loop-more.count < 16
-few c =
-    climbing-few _ _ _ _ _ _ _ _ _ c.loop-more.invariant c.loop-more-test.true _ (sym c.in-Node.is ∙ c.climb.ensures)
-
-pub offset_bounds-ids-count : goal.offset_bounds-ids-count
-offset_bounds-ids-count c = omega (arith, few (goal.at.offset_bounds-ids-count c).In-Node)
-
-pub bounds-ids-count : goal.bounds-ids-count
-bounds-ids-count c = omega (arith, few (goal.at.bounds-ids-count c).In-Node, c.loop-more.invariant.ids_size)
-
-pub offset_bounds-params-count : goal.offset_bounds-params-count
-offset_bounds-params-count c = omega (arith, few (goal.at.offset_bounds-params-count c).In-Node)
-
-pub bounds-params-count : goal.bounds-params-count
-bounds-params-count c = omega (arith, few (goal.at.bounds-params-count c).In-Node, c.loop-more.invariant.params-size)
-
-pub offset_bounds-counts-count : goal.offset_bounds-counts-count
-offset_bounds-counts-count c = omega (arith, few (goal.at.offset_bounds-counts-count c).In-Node)
-
-pub bounds-counts-count : goal.bounds-counts-count
-bounds-counts-count c = omega (arith, few (goal.at.bounds-counts-count c).In-Node, c.loop-more.invariant.counts_size)
-
-pub overflow_add-count : goal.overflow_add-count
-overflow_add-count c = omega (arith, few (goal.at.overflow_add-count c).In-Node)
-
-pub loop-more-smaller : goal.loop-more-smaller
-loop-more-smaller c =
-    rw c.loop-more-test.true (climbing_less (not (eqb c.in-Node.node.parent 0)) c.loop-more.count
-    c.loop-more.invariant.few)
-
-pub loop-more-preserved : goal.loop-more-preserved
-loop-more-preserved c =
-    climbing-next _ _ _ _ _ _ _ _ _ c.loop-more.invariant c.loop-more-test.true _ (sym c.in-Node.is ∙
-    c.climb.ensures)
-
-pub returns : goal.returns
-returns c = c.loop-more.invariant.done c.loop-more-test.false
+pub returns-in-Err : goal.returns-in-Err
+returns-in-Err c =
+    climb-end _ _ _ _ _ _ _ c.loop-node.invariant.way _ (sym c.in-Err.is ∙ c.climb.ensures)

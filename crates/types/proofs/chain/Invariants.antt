@@ -1,10 +1,15 @@
+use mathlib.Core.Path.{◌≡◌}
 use Prim.Native.Nat.{◌-◌}
-use Rattle.text.specs.Bytes.{cond}
-use Rattle.types.proofs.ChainLaws.{Climbing}
+use Rattle.std.specs.Prelude.{None}
+use Rattle.types.proofs.ChainLaws.{Climbed}
 use Rattle.types.proofs.chain.Given as goal
 
-abbrev pub invariant-loop-more : goal.invariant-loop-more
-invariant-loop-more l = Climbing l.index l.id l.ids l.params l.counts l.count l.current l.refusal l.more
+-- nothing is refused yet, and the way so far is noted
+abbrev pub invariant-loop-node : goal.invariant-loop-node
+invariant-loop-node l = record {
+  none : l.links.refusal ≡ None;
+  way : Climbed l.source.index.now l.id l.links.ids l.links.params l.links.counts l.links.count l.current;
+}
 
-abbrev pub decreases-loop-more : goal.decreases-loop-more
-decreases-loop-more l = cond l.more (17 - l.count) 0
+abbrev pub decreases-loop-node : goal.decreases-loop-node
+decreases-loop-node l = 16 - l.links.count

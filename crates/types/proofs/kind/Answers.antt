@@ -1,20 +1,19 @@
 -- `types::kind` meets its contract: a T row's kind, and 0 for any other row. Assumes nothing.
-use Rattle.tree.proofs.OtherLines.{not-type, not_type-tag}
-use borrow.Author.Tests.{lt-ltb, le-ltb}
-use mathlib.Core.Path.{refl, sym, ap, ◌∙◌}
-use Rattle.row.specs.Line.{line_said}
+use mathlib.Core.Path.{ap, ◌∙◌}
+use native.Mathlib.Omega.{arith}
+use Rattle.std.specs.Prelude.{Ok}
+use Rattle.types.proofs.TypeLaws.{kind_other, kind-bad, kind-here}
 use Rattle.types.proofs.kind.Goals as goal
 
 pub returns-in_default : goal.returns-in_default
 returns-in_default c =
-    rw (← c.next-g.ensures.line_value, not-type c.next-g.result.line _ _ (not_type-tag _ c.in_default.not-Typ)) refl
+    kind_other _ c.in_default.field-0 (rw c.in_default.is at c.next-got.ensures.line_value) (λ e. grind arith)
 
-pub returns-then-kind-lt-ANY_POINTER : goal.returns-then-kind-lt-ANY_POINTER
-unfolding line_said
-returns-then-kind-lt-ANY_POINTER c =
-    rw (sym c.next-g.ensures.line_value ∙ ap line_said c.in-Typ.is, lt-ltb _ _ c.if-kind-lt-ANY_POINTER.true) refl
+pub returns-in_default-2 : goal.returns-in_default-2
+returns-in_default-2 c = kind-bad _ c.in_default.field-0 (rw c.in_default.is at c.next-got.ensures.line_value)
 
-pub returns-else-kind-lt-ANY_POINTER : goal.returns-else-kind-lt-ANY_POINTER
-unfolding line_said
-returns-else-kind-lt-ANY_POINTER c =
-    rw (sym c.next-g.ensures.line_value ∙ ap line_said c.in-Typ.is, le-ltb _ _ c.if-kind-lt-ANY_POINTER.false) refl
+pub returns : goal.returns
+returns c =
+    let w = c.in-Ok-Typ in
+    let f = w.is ∙ ap Ok (rw w.is at w.field-0-is) in
+    c.min.ensures ∙ kind-here _ _ _ _ _ (rw f at c.next-got.ensures.line_value)

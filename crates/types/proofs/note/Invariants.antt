@@ -1,9 +1,5 @@
 use Rattle.types.proofs.ScopeLaws.{Noting}
-use Prim.Native.Nat.{◌-◌}
 use Rattle.types.proofs.note.Given as goal
 
 abbrev pub invariant-loop-k : goal.invariant-loop-k
 invariant-loop-k l = Noting l.ids l.id l.at l.initial.places l.k l.places
-
-abbrev pub decreases-loop-k : goal.decreases-loop-k
-decreases-loop-k l = 16 - l.k

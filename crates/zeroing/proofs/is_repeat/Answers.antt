@@ -1,34 +1,32 @@
 -- `zeroing::is_repeat` meets its contract: the answer from here, with the count left, is that from the start. Assumes nothing.
 use mathlib.Core.Bool.{true, false}
+use Prim.Native.Nat.{◌+◌, ◌-◌}
+use native.Mathlib.Omega.{arith}
 use Rattle.zeroing.proofs.RepeatLaws.{tells_none, tells-end, tells-here, tells_more, tells-group}
 use Rattle.zeroing.proofs.is_repeat.Goals as goal
 
-pub loop-n-init : goal.loop-n-init
-loop-n-init c = λ r x. x
-
 pub returns-then-has_line : goal.returns-then-has_line
 returns-then-has_line c =
-    c.loop-n.invariant true
-    (tells-here _ _ _ c.loop-n.n c.args.s.now c.read-f.result c.read-f.ensures.first
-    c.loop-n-test.true _ c.in-Slot.is _ c.has_line.ensures c.if-has_line.true)
+    c.loop.invariant true
+    (tells-here _ _ _ (c.args.count - c.loop.counter) c.args.s.now c.in-Some-Slot.field-0 c.in-Some-Slot.ensures.first
+    (c.args.count - (c.loop.counter + 1)) (omega arith) _ c.in-Some-Slot.field-0-is _ c.has_line.ensures c.if-has_line.true)
 
-pub loop-n-preserved-in-Slot : goal.loop-n-preserved-in-Slot
-loop-n-preserved-in-Slot c =
-    λ r x. c.loop-n.invariant r
-    (tells_more _ _ _ c.loop-n.n c.args.s.now c.read-f.result c.read-f.ensures.first
-    c.loop-n-test.true _ c.in-Slot.is _ c.has_line.ensures r c.if-has_line.false x)
+pub loop-preserved-in-Some-Slot : goal.loop-preserved-in-Some-Slot
+loop-preserved-in-Some-Slot c =
+    λ r x. c.loop.invariant r
+    (tells_more _ _ _ (c.args.count - c.loop.counter) c.args.s.now c.in-Some-Slot.field-0 c.in-Some-Slot.ensures.first
+    _ (omega arith) _ c.in-Some-Slot.field-0-is _ c.has_line.ensures r c.if-has_line.false x)
 
-pub loop-n-preserved : goal.loop-n-preserved
-loop-n-preserved c =
-    λ r x. c.loop-n.invariant r
-    (tells-group _ _ _ c.loop-n.n c.args.s.now c.read-f.result c.read-f.ensures.first
-    c.loop-n-test.true _ c.in-Group.is r x)
+pub loop-preserved : goal.loop-preserved
+loop-preserved c =
+    λ r x. c.loop.invariant r
+    (tells-group _ _ _ (c.args.count - c.loop.counter) c.args.s.now c.in-Some-Group.field-0 c.in-Some-Group.ensures.first
+    _ (omega arith) _ c.in-Some-Group.field-0-is r x)
 
-pub returns-in-Nothing : goal.returns-in-Nothing
-returns-in-Nothing c =
-    c.loop-n.invariant false
-    (tells-end _ _ _ c.loop-n.n c.args.s.now c.read-f.result c.read-f.ensures.first
-    c.in-Nothing.is)
+pub returns-in-None : goal.returns-in-None
+returns-in-None c =
+    c.loop.invariant false
+    (tells-end _ _ _ (c.args.count - c.loop.counter) c.args.s.now c.in-None.ensures.first)
 
 pub returns : goal.returns
-returns c = c.loop-n.invariant false (tells_none _ _ _ c.loop-n.n c.loop-n-test.false)
+returns c = c.loop.invariant false (tells_none _ _ _ (c.args.count - c.loop.counter) (omega arith))

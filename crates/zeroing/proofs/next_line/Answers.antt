@@ -9,4 +9,4 @@ returns-then-again c =
 pub returns : goal.returns
 returns c =
     line-new _ c.args.offset c.args.again _ _ c.requires _ c.clears-clear.ensures _ _ _ _
-    c.if-again.false c.zero_line-t.ensures c.byte-t.ensures
+    c.if-again.false c.zero_line-t.ensures c.byte-text.ensures

@@ -8,4 +8,4 @@ returns-then-tag_count-eq0 c = tag_none _ c.args.tag_offset _ _ c.if-tag_count-e
 pub returns : goal.returns
 returns c =
     tag_some _ c.args.tag_offset _ _ _ _ _ _ c.if-tag_count-eq0.false c.zero_tag-t.ensures
-    c.byte-t.ensures
+    c.byte-text.ensures

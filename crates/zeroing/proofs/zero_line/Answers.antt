@@ -1,18 +1,20 @@
--- `zeroing::zero_line` meets its contract: by the tests on the type. Assumes nothing.
-use borrow.Author.Tests.{eq-eqb, ne_eqb, le-leb, lt-leb}
+-- `zeroing::zero_line` meets its contract: by the arm of the type. Assumes nothing.
+use native.Mathlib.Omega.{arith}
+use borrow.Author.Tests.{ne_eqb, le-leb, lt-leb}
 use Rattle.zeroing.specs.Lines.{zero_text}
 use Rattle.zeroing.proofs.zero_line.Goals as goal
 
-pub returns-then-typ-eq-BOOL_LINE : goal.returns-then-typ-eq-BOOL_LINE
+pub returns-in-1 : goal.returns-in-1
 unfolding zero_text
-returns-then-typ-eq-BOOL_LINE c = rw (eq-eqb _ _ c.if-typ-eq-BOOL_LINE.true) c.zero_bool.ensures
+returns-in-1 c = rw c.in-1.is c.zero_bool.ensures
 
-pub returns-then-typ-le-LAST_NUMBER_LINE : goal.returns-then-typ-le-LAST_NUMBER_LINE
+pub returns-in-0-to-11 : goal.returns-in-0-to-11
 unfolding zero_text
-returns-then-typ-le-LAST_NUMBER_LINE c =
-    rw (ne_eqb _ _ c.if-typ-eq-BOOL_LINE.false, le-leb _ _ c.if-typ-le-LAST_NUMBER_LINE.true) c.zero_number.ensures
+returns-in-0-to-11 c =
+    rw (ne_eqb c.args.typ 1 (λ e. let z : ⊥ = omega arith in z), le-leb c.args.typ 11 (omega arith))
+    (rw c.from.ensures at c.zero_number.ensures)
 
-pub returns : goal.returns
+pub returns-in_default : goal.returns-in_default
 unfolding zero_text
-returns c =
-    rw (ne_eqb _ _ c.if-typ-eq-BOOL_LINE.false, lt-leb _ _ c.if-typ-le-LAST_NUMBER_LINE.false) c.clear_pointer.ensures
+returns-in_default c =
+    rw (ne_eqb c.args.typ 1 (λ e. let z : ⊥ = omega arith in z), lt-leb c.args.typ 11 (omega arith)) c.clear_pointer.ensures

@@ -12,6 +12,8 @@ returns c =
     let answer = c.answer_in-answer in record {
       asked = λ ns x.
           asked_in a.buf.now _ (sheet_of (text_at (rows a.s.now)) ns) a.id _ _ _ _ _ c.request_of-asked.ensures c.at.ensures
-          (answer.ensures.indexed ns x) _ _ _ _ c.say.ensures;
+          (rw c.new-source.ensures.root-is at
+          (answer.ensures.indexed ns (rw (c.new-source.ensures.bytes-are, c.new-source.ensures.index-is) x)))
+          _ _ _ _ c.say.ensures;
       within = told-within a.buf.now _ _ _ answer.result _ _ _ _ c.at.ensures answer.ensures.within c.say.ensures;
     }

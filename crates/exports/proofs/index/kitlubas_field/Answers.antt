@@ -2,6 +2,8 @@
 -- that were put of it. Assumes nothing.
 use native.Mathlib.Omega.{arith}
 use Rattle.exports.proofs.IndexLaws.{slot-told, group-told, nothing-told, slot_read, group-read, nothing_read, first-put}
+use mathlib.Core.Path.{ap, ◌∙◌}
+use Rattle.std.specs.Prelude.{Some}
 use Rattle.exports.proofs.index.kitlubas_field.Goals as goal
 
 pub overflow_sub-size : goal.overflow_sub-size
@@ -16,12 +18,13 @@ returns-in-Slot c =
     let read = c.read-read in
     let span = c.text_span-start in record {
       told = λ fs here.
-          slot-told a.s.now span.result _ fs (rw c.in-Slot.is at (read.ensures.first fs here)) span.ensures.text;
+          slot-told a.s.now span.result _ fs (rw (c.in-Some.is ∙ ap Some c.in-Slot.is) at (read.ensures.first fs here))
+          span.ensures.text;
       within = omega (arith, span.ensures.within.0, span.ensures.within.1);
       put = first-put a.s.now a.from _ a.field.now _ read.ensures.first c.put.ensures;
       value =
           slot_read a.s.now a.from read.result a.field.now _ read.ensures.first read.ensures.fewer c.put.ensures
-          _ span.result c.in-Slot.is span.ensures.is;
+          _ span.result (c.in-Some.is ∙ ap Some c.in-Slot.is) span.ensures.is;
     }
 
 pub returns-in-Group : goal.returns-in-Group
@@ -30,22 +33,24 @@ returns-in-Group c =
     let read = c.read-read in
     let span = c.text_span-start-in-Group in record {
       told = λ fs here.
-          group-told a.s.now span.result _ fs (rw c.in-Group.is at (read.ensures.first fs here)) span.ensures.text;
+          group-told a.s.now span.result _ fs (rw (c.in-Some.is ∙ ap Some c.in-Group.is) at (read.ensures.first fs here))
+          span.ensures.text;
       within = omega (arith, span.ensures.within.0, span.ensures.within.1);
       put = first-put a.s.now a.from _ a.field.now _ read.ensures.first c.put.ensures;
       value =
           group-read a.s.now a.from read.result a.field.now _ read.ensures.first read.ensures.fewer c.put.ensures
-          _ span.result c.in-Group.is span.ensures.is;
+          _ span.result (c.in-Some.is ∙ ap Some c.in-Group.is) span.ensures.is;
     }
 
-pub returns-in-Nothing : goal.returns-in-Nothing
-returns-in-Nothing c =
+pub returns-in_default : goal.returns-in_default
+returns-in_default c =
     let a = c.args in
     let read = c.read-read in record {
-      told = λ fs here. nothing-told a.s.now fs (rw c.in-Nothing.is at (read.ensures.first fs here));
+      told = λ fs here. rw c.number.ensures (nothing-told a.s.now fs (rw c.in_default.is at (read.ensures.first fs here)));
       within = omega arith;
       put = first-put a.s.now a.from _ a.field.now _ read.ensures.first c.put.ensures;
       value =
-          nothing_read a.s.now a.from read.result a.field.now _ read.ensures.first read.ensures.fewer c.put.ensures
-          c.in-Nothing.is;
+          rw c.number.ensures
+          (nothing_read a.s.now a.from read.result a.field.now _ read.ensures.first read.ensures.fewer c.put.ensures
+          c.in_default.is);
     }

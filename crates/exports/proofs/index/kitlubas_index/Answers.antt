@@ -2,14 +2,14 @@
 use Rattle.exports.proofs.TellLaws.{told-sheet, told-refused}
 use Rattle.exports.proofs.index.kitlubas_index.Goals as goal
 
-pub returns-in-Sheet : goal.returns-in-Sheet
-returns-in-Sheet c = record {
-  told = told-sheet _ c.admit.result c.admit.ensures.answer c.in-Sheet.is;
+pub returns-in-Ok : goal.returns-in-Ok
+returns-in-Ok c = record {
+  told = told-sheet _ tt (rw c.in-Ok.is at c.admit.ensures.answer);
   index = c.admit.ensures.index;
 }
 
-pub returns-in-Refused : goal.returns-in-Refused
-returns-in-Refused c = record {
-  told = told-refused _ c.admit.result _ _ _ c.admit.ensures.answer c.in-Refused.is;
+pub returns-in-Err : goal.returns-in-Err
+returns-in-Err c = record {
+  told = rw c.number.ensures (told-refused _ _ (rw c.in-Err.is at c.admit.ensures.answer));
   index = c.admit.ensures.index;
 }

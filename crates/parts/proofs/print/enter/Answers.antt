@@ -1,12 +1,9 @@
 -- `parts::print::enter` meets its contract: by what the index has for the number, one law of LeftLaws. Assumes nothing.
-use Rattle.parts.proofs.LeftLaws.{enter_out, enter-none, enter-found}
+use Rattle.parts.proofs.LeftLaws.{enter-found, enter-none}
 use Rattle.parts.proofs.print.enter.Goals as goal
 
-pub returns-then-node-ge-NODES : goal.returns-then-node-ge-NODES
-returns-then-node-ge-NODES c = enter_out _ _ c.if-node-ge-NODES.true
+pub returns-in-Some : goal.returns-in-Some
+returns-in-Some c = enter-found _ _ _ c.nth.ensures _ c.in-Some.is
 
-pub returns-in-At : goal.returns-in-At
-returns-in-At c = enter-found _ _ c.if-node-ge-NODES.false _ c.nth.ensures _ c.in-At.is
-
-pub returns-in-Nothing : goal.returns-in-Nothing
-returns-in-Nothing c = enter-none _ _ c.if-node-ge-NODES.false _ c.nth.ensures c.in-Nothing.is
+pub returns-in-None : goal.returns-in-None
+returns-in-None c = enter-none _ _ _ c.nth.ensures c.in-None.is

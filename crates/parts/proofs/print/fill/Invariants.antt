@@ -3,7 +3,7 @@ use Rattle.parts.proofs.LeftLaws.{Filling}
 use Rattle.parts.proofs.print.fill.Given as goal
 
 abbrev pub invariant-loop-next : goal.invariant-loop-next
-invariant-loop-next l = Filling l.s l.index l.initial.next l.initial.out l.out l.n l.next
+invariant-loop-next l = Filling l.sheet.source.bytes.now l.sheet.source.index.now l.initial.next l.initial.out l.out l.n l.next
 
 abbrev pub decreases-loop-next : goal.decreases-loop-next
-decreases-loop-next l = most_left l.s l.next
+decreases-loop-next l = most_left l.sheet.source.bytes.now l.next

@@ -2,10 +2,10 @@
 use Rattle.parts.proofs.SheetLaws.{start-sheet, start-refused}
 use Rattle.parts.proofs.print.start.Goals as goal
 
-pub returns-in-Sheet : goal.returns-in-Sheet
-returns-in-Sheet c =
-    let admitted = c.admit-verdict.ensures in
-    λ room. start-sheet _ _ admitted.answer _ _ (admitted.index room) c.in-Sheet.is c.enter.ensures
+pub returns-in-Ok : goal.returns-in-Ok
+returns-in-Ok c =
+    λ room. start-sheet _ _ _ tt (rw c.in-Ok.is at c.admit.ensures.answer) (c.admit.ensures.index room)
+    (rw c.new.ensures.index-is at c.enter.ensures)
 
-pub returns-in-Refused : goal.returns-in-Refused
-returns-in-Refused c = λ room. start-refused _ _ c.admit-verdict.ensures.answer c.admit-verdict.new.index _ _ _ c.in-Refused.is
+pub returns-in-Err : goal.returns-in-Err
+returns-in-Err c = λ room. start-refused _ c.admit.new.index _ (rw c.in-Err.is at c.admit.ensures.answer)

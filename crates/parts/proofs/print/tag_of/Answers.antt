@@ -3,14 +3,14 @@ use mathlib.Core.Path.{sym}
 use Rattle.parts.proofs.LeftLaws.{node-found}
 use Rattle.parts.proofs.print.tag_of.Goals as goal
 
-pub returns-in-At : goal.returns-in-At
-returns-in-At c =
+pub returns-in-Some : goal.returns-in-Some
+returns-in-Some c =
     λ s ns n x i.
     let e = node-found s ns _ _ n _ c.nth.ensures x i in
-    sym (rw c.in-At.is at e).tag-offset
+    sym (rw c.in-Some.is at e).tag-offset
 
-pub returns-in-Nothing : goal.returns-in-Nothing
-returns-in-Nothing c =
+pub returns-in-None : goal.returns-in-None
+returns-in-None c =
     λ s ns n x i.
     let e = node-found s ns _ _ n _ c.nth.ensures x i in
-    absurd (rw c.in-Nothing.is at e)
+    absurd (rw c.in-None.is at e)

@@ -1,7 +1,5 @@
 -- `row::before_first` meets its contract: the zeros below the lowest bit, by the lowest byte that is not 0. Assumes nothing.
-use mathlib.Core.Path.{refl}
 use native.Mathlib.Omega.{arith}
-use lib.Count.{trailing_le}
 use Rattle.row.proofs.WordLaws.{zeros-most, zeros_least}
 use Rattle.row.proofs.ends.before_first.Goals as goal
 
@@ -22,9 +20,3 @@ pub returns-then-bits-ne0-4 : goal.returns-then-bits-ne0-4
 returns-then-bits-ne0-4 c =
     let bits = c.args.bits in
     omega (arith, zeros_least 64 24 bits (omega arith) c.if-bits-ne0-3.false, zeros-most 64 32 bits c.if-bits-ne0-4.true)
-
-pub overflow_cast-result : goal.overflow_cast-result
-overflow_cast-result c = record { fits = omega (arith, trailing_le 64 c.args.bits) }
-
-pub returns : goal.returns
-returns c = refl

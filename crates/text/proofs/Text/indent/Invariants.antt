@@ -1,14 +1,8 @@
-use mathlib.Core.Path.{◌≡◌}
-use Prim.Native.Nat.{◌*◌}
-use lib.ListN.{length}
+use Rattle.std.proofs.Common.{◌-◌, ◌*◌}
 use Rattle.text.specs.Lines.{spaces}
 use Rattle.text.proofs.Laws.{Left}
 use Rattle.text.proofs.Text.indent.Given as goal
 
-abbrev pub invariant-loop-left : goal.invariant-loop-left
-invariant-loop-left l =
-    (length l.buf ≡ length l.initial.buf)
-    × Left l.buf l.t (spaces (l.left * 4)) l.initial.buf l.initial.t (spaces (l.indent * 4))
-
-abbrev pub decreases-loop-left : goal.decreases-loop-left
-decreases-loop-left l = l.left
+abbrev pub invariant-loop : goal.invariant-loop
+invariant-loop l =
+    Left l.buf l.t (spaces ((l.indent - l.counter) * 4)) l.initial.buf l.initial.t (spaces (l.indent * 4))

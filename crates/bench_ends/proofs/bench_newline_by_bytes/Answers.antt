@@ -1,7 +1,0 @@
--- `bench_ends::bench_newline_by_bytes` meets its contract: it answers what the search finds. Assumes nothing.
-use mathlib.Core.Path.{ap, ◌∙◌}
-use Rattle.bench_ends.specs.Searches.{answered}
-use Rattle.bench_ends.proofs.bench_newline_by_bytes.Goals as goal
-
-pub returns : goal.returns
-returns c = c.answer.ensures ∙ ap answered c.find_by_bytes.ensures

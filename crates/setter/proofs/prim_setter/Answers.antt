@@ -1,0 +1,33 @@
+-- `setter::prim_setter` meets its contract: the default's refusal, or the setter with its mask. Assumes nothing.
+use native.Mathlib.Omega.{arith}
+use Rattle.std.proofs.lemmas.Result.{err_from_is_err_and}
+use Rattle.text.proofs.Laws.{some-text}
+use Rattle.names.specs.Names.{name_of}
+use Rattle.nodes.specs.Index.{sheet_of}
+use Rattle.setter.proofs.ArmLaws.{prim-refused, bool-here, number-here}
+use Rattle.setter.proofs.prim_setter.Goals as goal
+
+pub returns-in_err-prim_default-clause-text : goal.returns-in_err-prim_default-clause-text
+returns-in_err-prim_default-clause-text c =
+    let x = c.args.target.now in
+    let e = err_from_is_err_and c.from_residual.result c.from_residual.ensures.1 in
+    λ root ns sl is n0 le. rw (e.1, e.2) (prim-refused (sheet_of root ns) sl x.slot is x.tag (name_of x.name)
+    x.slot.discriminant n0 (omega arith) c.in_err-prim_default.ensures)
+
+pub returns-then-target-eq-BOOL : goal.returns-then-target-eq-BOOL
+returns-then-target-eq-BOOL c =
+    let x = c.args.target.now in
+    record {
+      text = λ root ns sl is n0 le. bool-here (sheet_of root ns) sl x.slot is x.tag (name_of x.name) x.slot.discriminant _
+          c.in_ok-prim_default.ensures c.if-target-eq-BOOL.true (c.boolean.ensures root);
+      within = some-text (c.boolean.ensures (name_of x.name));
+    }
+
+pub returns : goal.returns
+returns c =
+    let x = c.args.target.now in
+    record {
+      text = λ root ns sl is n0 le. number-here (sheet_of root ns) sl x.slot is x.tag (name_of x.name) x.slot.discriminant _
+          c.in_ok-prim_default.ensures n0 c.if-target-eq-BOOL.false (omega arith) (c.number.ensures root);
+      within = some-text (c.number.ensures (name_of x.name));
+    }

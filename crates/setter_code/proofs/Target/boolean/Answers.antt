@@ -1,0 +1,19 @@
+-- `setter_code::Target::boolean` meets its contract: its parts, one after the other. Assumes nothing.
+use Rattle.text.specs.Bytes.{ascii}
+use Rattle.text.proofs.Laws.{◌⨾◌}
+use Rattle.names.specs.Names.{name_of}
+use Rattle.calls.specs.Calls.{set_bool_field}
+use Rattle.codegen.specs.Default.{value, prim_default}
+use Rattle.codegen.specs.Mask.{mask_or}
+use Rattle.setter_code.specs.Parts.{tag_line}
+use Rattle.setter_code.proofs.Laws.{only-text, bool_open, retext}
+use Rattle.setter_code.proofs.Target.boolean.Goals as goal
+
+pub returns : goal.returns
+returns c =
+    let slot = c.args.self.now.slot in
+    λ root. retext (only-text root c.args.self.now.tag (name_of c.args.self.now.name) slot.discriminant
+    (set_bool_field slot.offset (ascii "value") (mask_or (prim_default (value slot.default slot.bits)))) (ascii "bool"))
+    (retext (bool_open (name_of c.args.self.now.name) (tag_line c.args.self.now.tag slot.discriminant))
+    (c.set_open-t.ensures ⨾ c.bytes-t.ensures ⨾ c.tag_line-t.ensures ⨾ c.bytes-t-2.ensures)
+    ⨾ c.set_bool-t.ensures ⨾ c.bytes.ensures)

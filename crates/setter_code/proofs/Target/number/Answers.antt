@@ -1,0 +1,19 @@
+-- `setter_code::Target::number` meets its contract: its parts, one after the other. Assumes nothing.
+use Rattle.text.specs.Bytes.{ascii}
+use Rattle.text.proofs.Laws.{◌⨾◌}
+use Rattle.names.specs.Names.{name_of}
+use Rattle.calls.specs.Calls.{set_data_field}
+use Rattle.codegen_types.specs.Primitive.{primitive_text}
+use Rattle.codegen.specs.Default.{value, prim_default}
+use Rattle.codegen.specs.Mask.{mask_or}
+use Rattle.setter_code.proofs.Laws.{only-text, retext}
+use Rattle.setter_code.proofs.Target.number.Goals as goal
+
+pub returns : goal.returns
+returns c =
+    let slot = c.args.self.now.slot in
+    λ root. retext (only-text root c.args.self.now.tag (name_of c.args.self.now.name) slot.discriminant
+    (set_data_field (primitive_text slot.kind) slot.offset (ascii "value")
+    (mask_or (prim_default (value slot.default slot.bits)))) (primitive_text slot.kind))
+    (c.set_open-t.ensures ⨾ c.type_name-t.ensures ⨾ c.bytes-t.ensures ⨾ c.tag_line-t.ensures ⨾ c.bytes-t-2.ensures
+    ⨾ c.set_number-t.ensures ⨾ c.bytes.ensures)

@@ -1,0 +1,12 @@
+-- `setter_code::Target::void` meets its contract: its parts, one after the other. Assumes nothing.
+use Rattle.names.specs.Names.{name_of}
+use Rattle.setter_code.proofs.Laws.{retext}
+use Rattle.text.proofs.Laws.{◌⨾◌}
+use Rattle.setter_code.proofs.Laws.{void-text}
+use Rattle.setter_code.proofs.Target.void.Goals as goal
+
+pub returns : goal.returns
+returns c =
+    let self = c.args.self.now in
+    λ root. retext (void-text root self.tag (name_of self.name) self.slot.discriminant) (c.bytes-t.ensures
+    ⨾ c.write-t.ensures ⨾ c.bytes-t-2.ensures ⨾ c.tag_line-t.ensures ⨾ c.bytes.ensures)
