@@ -11,7 +11,7 @@ use Rattle.codegen.specs.Getter.{getter_request}
 use Rattle.codegen.specs.Setter.{setter_request}
 use Rattle.record.specs.Masks.{get_mask, set_mask}
 use Rattle.record.specs.Record.{Record, get}
-use Rattle.record.specs.Types.{int, uint, float32, float64, Kind, bool, num, enum, slot_bits, kind_of}
+use Rattle.record.specs.Types.{float32, float64, Kind, num, enum, slot_bits, kind_of}
 use Rattle.meaning.specs.Claims.{MaskFits, TagFits, setter_leaves}
 use Rattle.meaning.specs.Meaning.{run_setter, run_getter}
 use Rattle.meaning.proofs.MaskLaws.{get_mask_bits}
@@ -35,13 +35,11 @@ pub get-fits : (k : Kind) (d : ℕ) (explicit : Bool) → d < 2 ^ slot_bits k �
 get-fits k d explicit h = fits-unless k d (eqb d 0) h
 
 pub set-fits : (k : Kind) (d : ℕ) (explicit : Bool) → d < 2 ^ slot_bits k → MaskFits k (set_mask k d explicit)
-set-fits bool d explicit h = fits-unless bool d (eqb d 0) h
-set-fits (num (int w)) d explicit h = fits-unless (num (int w)) d (eqb d 0) h
-set-fits (num (uint w)) d explicit h = fits-unless (num (uint w)) d (eqb d 0) h
 set-fits (num float32) d explicit h = fits-unless (num float32) d (either (eqb d 0) (eqb d (2 ^ 31))) h
 set-fits (num float64) d explicit h = fits-unless (num float64) d (either (eqb d 0) (eqb d (2 ^ 63))) h
 set-fits enum d true h = h
 set-fits enum d false h = tt
+set-fits k d explicit h = fits-unless k d (eqb d 0) h
 
 -- a discriminant has 16 bits
 tag_fits : (to d : ℕ) → d < 2 ^ 16 → TagFits (tag_of to d)

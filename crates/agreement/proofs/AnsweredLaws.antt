@@ -39,8 +39,8 @@ done-text l fill w l' upto e b = by_tests (ltb (length l) fill) (ltb (length l) 
         → text.done upto ≡ cond past (text.refused 21 0 0) (cond short (text.refused 22 0 0) (text.done (fill + length w)))
         → l' ≡ cond past l (cond short l (text.placed l fill w))
         → w ≡ bytes_between fill upto l'
-    by_tests true short h e b = let z : ◌≡◌ {A = ℕ} 0 1 = cc in let y : ⊥ = omega arith in absurd y
-    by_tests false true h e b = let z : ◌≡◌ {A = ℕ} 0 1 = cc in let y : ⊥ = omega arith in absurd y
+    by_tests true short h e b = cc
+    by_tests false true h e b = cc
     by_tests false false h e b =
         let z : upto ≡ fill + length w = cc in
         rw (z, b) (sym (placed-between l fill w (ltb-false (length l) fill h)))

@@ -3,7 +3,6 @@
 use Rattle.std.specs.Prelude.{◌≡◌, ℕ, Bool}
 use mathlib.Core.Path.{refl, sym, ap, ◌∙◌}
 use Rattle.std.specs.Prelude.{Option, None, Some}
-use native.Mathlib.Omega.{arith}
 use lib.Bits.{bit_xor}
 use lib.Pow.{pow_pos}
 use Rattle.text.specs.Bytes.{Str}
@@ -100,16 +99,13 @@ set_means_holds s id place a k w v r c =
 -- the getter is given, so the default is of the slot's kind; a run that leaves no record has no meaning
 pub no_meaning_holds : NoMeaningHolds
 no_meaning_holds s id place a k w is_reader is_fn g v r bits setter getter =
-    (λ past. go past (run_setter w v r) refl, λ e held. let m = means.0 held.0 held.1 in clash m.0 (sym e ∙ m.1))
+    (λ past. go past (run_setter w v r) refl, λ e held. let m = means.0 held.0 held.1 in cc)
   where
     means : (Holds (place_at a k) r → TagHolds (tag_at a) r → Means w v r)
         × (Means w v r → Holds (place_at a k) r × TagHolds (tag_at a) r)
     means =
         let own = own_default-holds s id place a is_reader is_fn g getter in
         set_means_holds s id place a k w v r (record { has-bits = bits; own_default = own; setter = setter })
-
-    clash : (left : Record) → None ≡ Some left → ⊥
-    clash left e = let z : ◌≡◌ {A = ℕ} 0 1 = cc in omega arith
 
     go : (Holds (place_at a k) r × TagHolds (tag_at a) r → ⊥) → (o : Option Record) → run_setter w v r ≡ o
         → run_setter w v r ≡ None

@@ -10,7 +10,7 @@ use Prim.Native.String.{String}
 use borrow.Author.Tests.{eqb-true}
 use Rattle.text.specs.Bytes.{Str, ascii, unit, cond, same}
 use Rattle.text.specs.Lines.{Line, stringify}
-use Rattle.tree.specs.Tree.{Ty, plain, list, enum, struct, interface, any_pointer, parameter, kind, Value, Slot, Sheet}
+use Rattle.tree.specs.Tree.{Ty, plain, enum, kind, Value, Slot, Sheet}
 use Rattle.tree.specs.Read.{has_words}
 use Rattle.codegen_types.specs.Out.{Out, ok, refused, ◌then◌}
 use Rattle.codegen_types.specs.TypeString.{type_string, plain_string, is_pointer}
@@ -24,7 +24,7 @@ use Rattle.record.specs.Masks.{get_mask, get_mask_text}
 use Rattle.record.specs.Types as types
 use Rattle.record.specs.Types.{Kind, kind_of}
 use Rattle.meaning.specs.Meaning.{whole}
-use Rattle.agreement.proofs.KindLaws.{by_kind, no_kind, no_pointer, no_words, getter_mask_lem}
+use Rattle.agreement.proofs.KindLaws.{by_kind, no_pointer, no_words, getter_mask_lem}
 use Rattle.agreement.proofs.SheetLaws.{Clean}
 use Rattle.agreement.proofs.WholeLaws.{Whole, ◌⊹◌, fixed}
 use Rattle.agreement.proofs.OutLaws.{ok-is, then_ok, cond-ok}
@@ -203,11 +203,7 @@ module _ (sheet : Sheet) (clean : Clean sheet) (name : Str) (is_reader is_fn : B
       let w = clean.modules id inner i in
       let z : types.enum ≡ k = cc in
       rw (← z) (record { line = refl; result = λ r. said sheet clean _ r (enum-result sheet clean inner w) })
-  typed o e p d ws (list t) inner h i = no_kind k h
-  typed o e p d ws (struct id ss) inner h i = no_kind k h
-  typed o e p d ws (interface id ss) inner h i = no_kind k h
-  typed o e p d ws any_pointer inner h i = no_kind k h
-  typed o e p d ws (parameter id j) inner h i = no_kind k h
+  typed o e p d ws _ inner h i = cc
 
   -- the text of a getter that is given
   pub getter-given : (s : Slot) (explicit : Bool) (g : Str) → kind_of (kind s.ty) ≡ Some k

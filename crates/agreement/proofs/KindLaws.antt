@@ -4,7 +4,6 @@ use Rattle.std.specs.Option.{option_map}
 use Rattle.std.specs.Prelude.{◌≡◌, ℕ, zero, suc, ◌+◌, ◌^◌, Bool, true, false, eqb, leb, List, [], ◌∷◌, get_or}
 use mathlib.Core.Path.{refl, ap}
 use Rattle.std.specs.Prelude.{Option, None, Some}
-use native.Mathlib.Omega.{arith}
 use Rattle.text.specs.Bytes.{Str, ascii, cond, both}
 use Rattle.text.proofs.BytesLaws.{both_false}
 use Rattle.row.specs.Line.{most_bits}
@@ -14,10 +13,6 @@ use Rattle.record.specs.Masks.{get_mask, get_mask_text}
 use Rattle.record.specs.Types.{int, uint, float32, float64, Kind, bool, num, enum, slot_bits, kind_of}
 use Rattle.record.specs.declared.Width.TheVariants.{One, Two, Four, Eight}
 
--- of a kind without bits nothing is claimed
-pub no_kind : {A : Type 0} (k : Kind) → None ≡ Some k → A
-no_kind k e = let z : ◌≡◌ {A = ℕ} 0 1 = cc in let y : ⊥ = omega arith in absurd y
-
 -- P holds of each kind of a table and its number in it
 abbrev Each : (ℕ → Kind → Type 0) → List (Option Kind) → Type 0
 Each P [] = Unit {0}
@@ -25,8 +20,8 @@ Each P (None ∷ ks) = Each (λ n. P (suc n)) ks
 Each P (Some k ∷ ks) = P 0 k × Each (λ n. P (suc n)) ks
 
 each_at : (P : ℕ → Kind → Type 0) (ks : List (Option Kind)) → Each P ks → (n : ℕ) (k : Kind) → get_or ks n None ≡ Some k → P n k
-each_at P [] c n k e = no_kind k e
-each_at P (None ∷ ks) c zero k e = no_kind k e
+each_at P [] c n k e = cc
+each_at P (None ∷ ks) c zero k e = cc
 each_at P (None ∷ ks) c (suc n) k e = each_at (λ n. P (suc n)) ks c n k e
 each_at P (Some a ∷ ks) c zero k e = let z : a ≡ k = cc in rw (← z) c.0
 each_at P (Some a ∷ ks) c (suc n) k e = each_at (λ n. P (suc n)) ks c.1 n k e

@@ -12,7 +12,7 @@ use Rattle.text.specs.Bytes.{Str, ascii, cond, either}
 use Rattle.text.specs.Decimal.{decimal}
 use Rattle.text.specs.Lines.{FormattedText, FormattedTexts, Branch, Line, none as no_more, ◌&◌, stringify}
 use Rattle.names.specs.Names.{camel_to_snake_case}
-use Rattle.tree.specs.Tree.{Ty, plain, list, enum, struct, interface, any_pointer, parameter, kind, Slot, Sheet}
+use Rattle.tree.specs.Tree.{Ty, plain, enum, kind, Slot, Sheet}
 use Rattle.codegen_types.specs.Out.{Out, ok, ◌then◌}
 use Rattle.codegen_types.specs.TypeString.{type_string, get_qualified_module}
 use Rattle.codegen.specs.Function.{function}
@@ -28,8 +28,8 @@ use Rattle.record.specs.Types.{int, uint, float32, float64, Kind, bool, num, kin
 use Rattle.record.specs.declared.Width.TheVariants.{One, Two, Four, Eight}
 use Rattle.meaning.specs.Meaning.{whole}
 use Rattle.agreement.specs.Slots.{tag_of, is_explicit}
-use Rattle.agreement.proofs.KindLaws.{by_kind, no_kind, masked, true_text}
-use Rattle.agreement.proofs.OutLaws.{ok-is, refused-ok, then_ok}
+use Rattle.agreement.proofs.KindLaws.{by_kind, masked, true_text}
+use Rattle.agreement.proofs.OutLaws.{ok-is, then_ok}
 use Rattle.agreement.proofs.SheetLaws.{Clean}
 use Rattle.agreement.proofs.WholeLaws.{Whole, ◌⊹◌, fixed, whole_camel}
 
@@ -57,7 +57,7 @@ module _ (sheet : Sheet) (o e q b : ℕ) (ws : List ℕ) (explicit : Bool) where
       (at (num (uint One)) "u8" refl (number (num (uint One)))) (at (num (uint Two)) "u16" refl (number (num (uint Two))))
       (at (num (uint Four)) "u32" refl (number (num (uint Four)))) (at (num (uint Eight)) "u64" refl (number (num (uint Eight))))
       (at (num float32) "f32" refl (float (num float32) (2 ^ 31))) (at (num float64) "f64" refl (float (num float64) (2 ^ 63)))
-      (λ p e. refused-ok e)
+      (λ p e. cc)
     where
       at : (k : Kind) (t : String) → whole (ascii t) ≡ true → {m : Option Str}
           → m ≡ option_map (set_mask_text k) (set_mask k b explicit)
@@ -88,7 +88,7 @@ enum_mask_lem s flag h = rw (eq-eqb s.default.kind 15 (sym h)) (go s.explicit fl
         ≡ ok (option_map (set_mask_text types.enum) (cond (eqb e 1) (Some s.default.bits) None))
     go zero h = refl
     go (suc zero) h = refl
-    go (suc (suc e)) h = let z : ⊥ = omega arith in absurd z
+    go (suc (suc e)) h = absurd (omega arith)
 
 -- a slot with bits whose default is of its type
 module _ (sheet : Sheet) (clean : Clean sheet) (o e q n b : ℕ) (ws : List ℕ) (k : Kind) (p : Parts) (flag : e < 2) where
@@ -110,22 +110,13 @@ module _ (sheet : Sheet) (clean : Clean sheet) (o e q n b : ℕ) (ws : List ℕ)
       let w = clean.modules id a.value a.first in
       let z : types.enum ≡ k = cc in
       rw (← z) (enum-sets (enum id ss) a.value w d a.rest)
-  sets (list t) h d f = no_kind k h
-  sets (struct id ss) h d f = no_kind k h
-  sets (interface id ss) h d f = no_kind k h
-  sets any_pointer h d f = no_kind k h
-  sets (parameter id j) h d f = no_kind k h
+  sets _ h d f = cc
 
 -- a type of kind 0 is Void
 void-parts : (sheet : Sheet) (s : Slot) (t : Ty) (p : Parts) → kind t ≡ 0 → setter_parts sheet s t ≡ ok p
     → setter_only (ascii "_value") no_more (ascii "()") ≡ p
 void-parts sheet s (plain n) p h e = ok-is (rw h at e)
-void-parts sheet s (list t) p h e = let z : ⊥ = omega arith in absurd z
-void-parts sheet s (enum id ss) p h e = let z : ⊥ = omega arith in absurd z
-void-parts sheet s (struct id ss) p h e = let z : ⊥ = omega arith in absurd z
-void-parts sheet s (interface id ss) p h e = let z : ⊥ = omega arith in absurd z
-void-parts sheet s any_pointer p h e = let z : ⊥ = omega arith in absurd z
-void-parts sheet s (parameter id j) p h e = let z : ⊥ = omega arith in absurd z
+void-parts sheet s _ p h e = absurd (omega arith)
 
 -- ---- the text
 

@@ -19,7 +19,7 @@ use Rattle.codegen_types.specs.TypeString.{node_of, get_qualified_module}
 use Rattle.agreement.proofs.WholeLaws.{Whole, whole_graphic, whole-name}
 use Rattle.requests.specs.Requests.{there, field_at}
 use Rattle.agreement.specs.Slots.{SlotAt}
-use Rattle.agreement.proofs.OutLaws.{ok-is, refused-ok, then_ok}
+use Rattle.agreement.proofs.OutLaws.{ok-is, then_ok}
 
 -- the root, and the modules that are looked up, have no byte 10
 pub record Clean (sheet : Sheet) : Type 0 where
@@ -49,7 +49,7 @@ every-id test id (m ∷ l) n e h =
 
 -- what may be missing is there
 or_ok : {A : Type 0} (k : ℕ) (o : Option A) (a : A) → or_refused k o ≡ ok a → o ≡ Some a
-or_ok k None a e = refused-ok e
+or_ok k None a e = cc
 or_ok k (Some b) a e = ap Some (ok-is e)
 
 node_by_id : (id : ℕ) (l : List Node) (n : Node) → node_of l id ≡ ok n → by_id id l ≡ Some n

@@ -6,7 +6,7 @@ use native.Mathlib.Omega.{arith}
 use borrow.Author.Tests.{eqb-false, ne_eqb}
 use Rattle.text.specs.Bytes.{Str, ascii, unit, cond, both}
 use Rattle.column.specs.Texts.{between, is_word, is_graphic, all, sized, is_field_name, is_graphic_text}
-use Rattle.column.proofs.Laws.{field-name_chars}
+use Rattle.column.proofs.Laws.{passed, field-name_chars}
 use Rattle.column.proofs.CharLaws.{or_high, chars_all}
 use Rattle.names.specs.Names.{is_uppercase, snake_byte, snake_from, taken, camel_to_snake_case}
 use Rattle.meaning.specs.Meaning.{whole}
@@ -29,23 +29,18 @@ fixed t e = record { is = e }
 whole_cons : (c : ℕ) (s : Str) → (c ≡ 10 → ⊥) → whole s ≡ true → whole (c ∷ s) ≡ true
 whole_cons c s h w = rw (ne_eqb c 10 h) w
 
--- a test that holds, of two where the first failing means false
-cond-true : (a b : Bool) → cond a b false ≡ true → (a ≡ true) × (b ≡ true)
-cond-true true b e = (refl, e)
-cond-true false b e = let z : ◌≡◌ {A = ℕ} 0 1 = cc in let y : ⊥ = omega arith in absurd y
-
 -- bytes that all pass a test which byte 10 fails
 whole-all : (ok : ℕ → Bool) → ok 10 ≡ false → (t : Str) → all ok t ≡ true → whole t ≡ true
 unfolding all
 whole-all ok h [] e = refl
 whole-all ok h (c ∷ t) e =
-    let (passes, rest) = cond-true (ok c) (all ok t) e in
-    whole_cons c t (λ z. let y : ◌≡◌ {A = Bool} true false = cc in let x : ◌≡◌ {A = ℕ} 0 1 = cc in omega arith)
+    let (passes, rest) = passed (ok c) (all ok t) e in
+    whole_cons c t (λ z. cc)
     (whole-all ok h t rest)
 
 pub whole_graphic : (most : ℕ) (t : Str) → is_graphic_text most t ≡ true → Whole t
 unfolding is_graphic_text is_graphic
-whole_graphic most t e = record { is = whole-all is_graphic refl t (cond-true (sized most t) (all is_graphic t) e).1 }
+whole_graphic most t e = record { is = whole-all is_graphic refl t (passed (sized most t) (all is_graphic t) e).1 }
 
 pub whole-name : (t : Str) → is_field_name t ≡ true → Whole t
 unfolding is_word
@@ -62,10 +57,8 @@ whole-byte first b t h = go (is_uppercase b t) first (between 65 90 b)
         → whole (cond (both capital (not first)) (unit 95) [] ++ unit (cond lowered (b + 32) b)) ≡ true
     go true true true = whole_cons (b + 32) [] (λ e. omega arith) refl
     go true true false = whole_cons b [] h refl
-    go true false true = whole_cons (b + 32) [] (λ e. omega arith) refl
-    go true false false = whole_cons b [] h refl
-    go false first true = whole_cons (b + 32) [] (λ e. omega arith) refl
-    go false first false = whole_cons b [] h refl
+    go _ _ true = whole_cons (b + 32) [] (λ e. omega arith) refl
+    go _ _ false = whole_cons b [] h refl
 
 whole-snake : (first : Bool) (t : Str) → whole t ≡ true → whole (snake_from first t) ≡ true
 unfolding snake_from
@@ -75,7 +68,7 @@ whole-snake first (c ∷ t) w =
     rw (whole_append, whole-byte first c t h) (whole-snake false t rest)
   where
     parts : (b : Bool) → eqb c 10 ≡ b → cond b false (whole t) ≡ true → (c ≡ 10 → ⊥) × (whole t ≡ true)
-    parts true e w = let z : ◌≡◌ {A = ℕ} 0 1 = cc in let y : ⊥ = omega arith in absurd y
+    parts true e w = cc
     parts false e w = (eqb-false c 10 e, w)
 
 pub whole_camel : (t : Str) → Whole t → Whole (camel_to_snake_case t)

@@ -29,6 +29,7 @@ use Rattle.tree.specs.Read.{among, overlap, fields_up_to, read_fields, group_ids
 use Rattle.tree.specs.Read.{read_sheet}
 use Rattle.tree.specs.Print.{scope_count, type_rows, word_rows, field_rows, param_rows, node_rows, sheet_rows, printed}
 use Rattle.tree.specs.Worked.{named_field, lone_slot, node, worked_sheet}
+use Rattle.codegen_types.specs.Leaf.{leaf_of}
 use Rattle.codegen_types.specs.TypeString as types
 use Rattle.codegen_types.specs.TypeString.{type_string, scopes_of, node_of, arguments_of, accumulate, outermost_first}
 use Rattle.codegen_types.specs.TypeString.{angled, do_branding}
@@ -43,7 +44,7 @@ use Rattle.record.specs.Record.{found, stored, get_bits, put_bits}
 use Rattle.meaning.specs.Examples.{some16}
 use Rattle.meaning.specs.Reading.{type_name, truth, get_mask_of, set_mask_of, data_arg}
 use Rattle.meaning.specs.Meaning.{writes, gets, gets_in, run_op, run_line, run_lines, run_setter, run_getter}
-use Rattle.requests.specs.Requests.{leaf_of, field_at, type_text, accessor_text, of_field, Outcome, gives, refuses, outcome_of}
+use Rattle.requests.specs.Requests.{field_at, type_text, accessor_text, of_field, Outcome, gives, refuses, outcome_of}
 use Rattle.requests.specs.declared.Accessor.{Accessor}
 use Rattle.requests.specs.declared.Accessor.TheVariants.{TypeText, Getter, Setter, Haser, Zeroing}
 
@@ -192,7 +193,7 @@ table =
     ∷ row_of (asked 11 Zeroing)
     ("self.builder.set_data_field::<u16>(4, 0u16);" ∷ "self.builder.set_data_field::<u16>(4, 0u16);" ∷ [])
     -- GetType of a struct with module bed and no parameters
-    ∷ row (text (outcome_of (admitted bytes) 7 (of_field 1 (TypeText 9)))) "bed::get_type::"
+    ∷ row (text (outcome_of (admitted bytes) 7 (of_field 1 (TypeText (leaf_of 9))))) "bed::get_type::"
     ∷ []
 
 -- every row's text is what it must be

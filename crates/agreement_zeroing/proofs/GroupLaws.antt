@@ -5,7 +5,6 @@ use Rattle.std.specs.Prelude.{◌≡◌, ℕ, zero, suc, Bool, true, false, eqb,
 use mathlib.Core.Path.{refl, sym, ap, ap₂, ◌∙◌}
 use mathlib.Core.Logic.{inl, inr}
 use Rattle.std.specs.Prelude.{Option, None, Some}
-use native.Mathlib.Omega.{arith}
 use Rattle.text.specs.Bytes.{Str, cond}
 use Rattle.text.specs.Lines.{FormattedTexts, Branch, Line, ◌&◌, to_lines, flat_map}
 use Rattle.tree.specs.Tree.{Slot, Arm, slot, group, Field, Node, Sheet}
@@ -140,7 +139,7 @@ covers-slot s More clear more covered seen = by-line (zero_line s) refl
     by-line : (o : Option Str) → zero_line s ≡ o → CoversAfter (Both Due More) seen (zero_slot seen clear o more)
     by-line None e =
         covers-as More (Both Due More) seen seen
-        (λ code c. covers_more Due More seen code (λ l d. let z : ◌≡◌ {A = ℕ} 0 1 = cc in let w : ⊥ = omega arith in absurd w) c)
+        (λ code c. covers_more Due More seen code (λ l d. cc) c)
         (more seen) (covered seen)
     by-line (Some line) e = by-seen line e (contains seen line) refl
 

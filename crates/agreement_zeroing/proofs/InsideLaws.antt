@@ -4,7 +4,6 @@ use Rattle.std.specs.Prelude.{◌≡◌, ℕ, zero, suc, List, [], ◌∷◌}
 use mathlib.Core.Path.{refl, ap, ◌∙◌}
 use mathlib.Core.Logic.{inl, inr}
 use Rattle.std.specs.Prelude.{Option, None, Some}
-use native.Mathlib.Omega.{arith}
 use Rattle.text.specs.Bytes.{Str}
 use Rattle.tree.specs.Tree.{Field, Node, Sheet}
 use Rattle.tree.specs.Read.{sheet, admitted}
@@ -26,7 +25,7 @@ node-found nodes id n e = rw e
 
 nth_in : (fs : List Field) (place : ℕ) (f : Field) → nth place fs ≡ Some f → In f fs
 unfolding nth
-nth_in [] place f e = let z : ◌≡◌ {A = ℕ} 0 1 = cc in omega arith
+nth_in [] place f e = cc
 nth_in (g ∷ fs) zero f e = inl cc
 nth_in (g ∷ fs) (suc place) f e = inr (nth_in fs place f e)
 
@@ -37,7 +36,7 @@ found_in nodes id place n f e = by-node (by_id id nodes) refl e
   where
     by_field : (m : Node) → by_id id nodes ≡ Some m → (o : Option Field) → nth place m.fields ≡ o
         → ◌then◌ {B = Node × Field} (there o) (λ g. ok (m, g)) ≡ ok (n, f) → (node_of nodes id ≡ ok n) × In f n.fields
-    by_field m h None k e = let z : ◌≡◌ {A = ℕ} 0 1 = cc in absurd (omega arith)
+    by_field m h None k e = cc
     by_field m h (Some g) k e =
         let p : ◌≡◌ {A = Node × Field} (m, g) (n, f) = cc in
         let q : m ≡ n = ap (λ (x : Node × Field). x.0) p in
@@ -48,7 +47,7 @@ found_in nodes id place n f e = by-node (by_id id nodes) refl e
         → ◌then◌ {B = Node × Field} (there o) (λ m. ◌then◌ {B = Node × Field} (there (nth place m.fields)) (λ g. ok (m, g)))
         ≡ ok (n, f)
         → (node_of nodes id ≡ ok n) × In f n.fields
-    by-node None h e = let z : ◌≡◌ {A = ℕ} 0 1 = cc in absurd (omega arith)
+    by-node None h e = cc
     by-node (Some m) h e = by_field m h (nth place m.fields) refl e
 
 -- ---- what is due of the group

@@ -5,7 +5,6 @@ use Rattle.std.specs.Prelude.{◌≡◌, ℕ, ◌^◌, ◌<◌, Bool, true, fals
 use mathlib.Core.Path.{ap, ◌∙◌}
 use mathlib.Core.Logic.{inl, inr}
 use Rattle.std.specs.Prelude.{Some}
-use native.Mathlib.Omega.{arith}
 use Rattle.text.specs.Bytes.{Str}
 use Rattle.text.specs.Lines.{FormattedTexts, Branch, to_lines, stringify}
 use Rattle.tree.specs.Tree.{kind, Sheet}
@@ -49,7 +48,7 @@ run_of s tree is g w e r long = go (zero_fields_of_group tree 16 g) (group-cover
     go : (o : Out Zeroing) → Given o (λ z. Covers (Due tree.nodes g) [] z.result)
         → (o then λ z. ok (stringify (Branch z.result))) ≡ ok w → Run s g w r
     go (ok z) c e = record { tree = tree; is-admitted = is; code = z.result; text = cc; covers = c; long = long }
-    go (refused k) c e = let z : ◌≡◌ {A = ℕ} 0 1 = cc in absurd (omega arith)
+    go (refused k) c e = cc
 
 module _ {s : Str} {g : ℕ} {w : Str} {r : Record} (c : Run s g w r) where
   zeroed : meaning.TextZeroed c.covers.zeros (Branch c.code) r

@@ -82,11 +82,7 @@ unfolding codegen.zero_line
 pointer-line s e =
     let n = kind s.ty in
     let h = both_true (leb 12 n) (cond (eqb n 15) false true) e in
-    line_clear n s.offset (leb-true 12 n h.0) (λ z. other (eqb n 15) h.1 (eq-eqb n 15 z))
-  where
-    other : (b : Bool) → cond b false true ≡ true → b ≡ true → ⊥
-    other true e f = let z : ◌≡◌ {A = ℕ} 0 1 = cc in omega arith
-    other false e f = let z : ◌≡◌ {A = ℕ} 0 1 = cc in omega arith
+    line_clear n s.offset (leb-true 12 n h.0) (λ z. let e = rw (eq-eqb n 15 z) at h.1 in cc)
 
 -- the line of any slot is a zero's
 pub zero_of : (s : Slot) (l : Str) → codegen.zero_line s ≡ Some l → (z : Zero) × (zeroing_line z ≡ l)
@@ -94,7 +90,7 @@ unfolding codegen.zero_line
 zero_of s l e = go (zero_at (kind s.ty) s.offset (kind_of (kind s.ty))) (sym (line-zero (kind s.ty) s.offset) ∙ e)
   where
     go : (z : Option Zero) → option_map zeroing_line z ≡ Some l → (z : Zero) × (zeroing_line z ≡ l)
-    go None e = let z : ◌≡◌ {A = ℕ} 0 1 = cc in absurd (omega arith)
+    go None e = cc
     go (Some z) e = (z, cc)
 
 -- ---- lines that were seen before
@@ -102,17 +98,16 @@ zero_of s l e = go (zero_at (kind s.ty) s.offset (kind_of (kind s.ty))) (sym (li
 same-equal : (a b : Str) → same a b ≡ true → a ≡ b
 unfolding same
 same-equal [] [] e = refl
-same-equal [] (y ∷ b) e = cc
-same-equal (x ∷ a) [] e = cc
 same-equal (x ∷ a) (y ∷ b) e =
     let h = both_true (eqb x y) (same a b) e in
     let f : x ≡ y = eqb-true x y h.0 in
     let g : a ≡ b = same-equal a b h.1 in
     cc
+same-equal _ _ e = cc
 
 pub contains_in : (seen : List Str) (l : Str) → contains seen l ≡ true → In l seen
 unfolding contains
-contains_in [] l e = let z : ◌≡◌ {A = ℕ} 0 1 = cc in omega arith
+contains_in [] l e = cc
 contains_in (m ∷ seen) l e = go (same m l) refl e (contains_in seen l)
   where
     go : (b : Bool) → same m l ≡ b → either b (contains seen l) ≡ true → (contains seen l ≡ true → In l seen) → In l (m ∷ seen)

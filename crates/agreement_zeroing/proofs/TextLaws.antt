@@ -4,7 +4,7 @@ use Rattle.std.specs.Prelude.{◌≡◌, ℕ, List, [], ◌∷◌}
 use mathlib.Core.Logic.{inl, inr}
 use Rattle.std.specs.Prelude.{Some}
 use Rattle.text.specs.Lines.{FormattedText, to_lines, stringify}
-use Rattle.record.specs.Lines.{Zero, of_slot, of_tag, of_pointer, zeroing_line, zero_texts}
+use Rattle.record.specs.Lines.{Zero, of_pointer, zeroing_line, zero_texts}
 use Rattle.record.specs.Record.{Record}
 use Rattle.meaning.specs.Claims.{In, HoldsZero, ZeroHas, ZeroClears}
 use Rattle.meaning.specs.Meaning.{Op}
@@ -35,23 +35,20 @@ module _ (zs : List Zero) (ft : FormattedText) (is : to_lines ft 0 ≡ zero_text
   holds-zeros r long z i = go z (each_write (HoldsOp r) zs ft is long z i)
     where
       go : (z : Zero) → HoldsOp r (zero_op z) → HoldsZero z r
-      go (of_slot k o) h = h
-      go (of_tag o) h = h
       go (of_pointer j) h = h
+      go _ h = h
 
   -- a bit that no line touches is no zero's, and so for a pointer
   pub spares_bit : (b : ℕ) → EachWrite (SparesBit b) (stringify ft) → (z : Zero) → In z zs → ZeroHas z b → ⊥
   spares_bit b spared z i = go z (each_write (SparesBit b) zs ft is spared z i)
     where
       go : (z : Zero) → SparesBit b (zero_op z) → ZeroHas z b → ⊥
-      go (of_slot k o) f h = f h
-      go (of_tag o) f h = f h
       go (of_pointer j) f h = h
+      go _ f h = f h
 
   pub spares_pointer : (j : ℕ) → EachWrite (SparesPointer j) (stringify ft) → (z : Zero) → In z zs → ZeroClears z j → ⊥
   spares_pointer j spared z i = go z (each_write (SparesPointer j) zs ft is spared z i)
     where
       go : (z : Zero) → SparesPointer j (zero_op z) → ZeroClears z j → ⊥
-      go (of_slot k o) f h = h
-      go (of_tag o) f h = h
       go (of_pointer i) f h = f h
+      go _ f h = h

@@ -167,7 +167,7 @@ pub fn set_tag(offset: u64, discriminant: u64, t: Text, buf: &mut [u8]) -> Text
     t.bytes(buf, b");")
 }
 
-// The lines that zero a Bool, a number or an enum by its type, a union's tag and a pointer.
+// The line that zeroes a Bool.
 pub fn zero_bool(offset: u64, t: Text, buf: &mut [u8]) -> Text
     ensures { Wrote buf.old t (zero_bool offset) buf.new result }
 {
@@ -176,6 +176,7 @@ pub fn zero_bool(offset: u64, t: Text, buf: &mut [u8]) -> Text
     t.bytes(buf, b", false);")
 }
 
+// The line that zeroes a number or an enum, by its type.
 pub fn zero_data(typ: &[u8], offset: u64, t: Text, buf: &mut [u8]) -> Text
     ensures { Wrote buf.old t (zero_data typ.now offset) buf.new result }
 {
@@ -188,12 +189,14 @@ pub fn zero_data(typ: &[u8], offset: u64, t: Text, buf: &mut [u8]) -> Text
     t.bytes(buf, b");")
 }
 
+// The line that zeroes a union's tag.
 pub fn zero_tag(offset: u64, t: Text, buf: &mut [u8]) -> Text
     ensures { Wrote buf.old t (zero_tag offset) buf.new result }
 {
     set_tag(offset, 0, t, buf)
 }
 
+// The line that clears a pointer.
 pub fn clear_pointer(offset: u64, t: Text, buf: &mut [u8]) -> Text
     ensures { Wrote buf.old t (clear_pointer offset) buf.new result }
 {

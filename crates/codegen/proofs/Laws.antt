@@ -35,11 +35,7 @@ module _ (k b : ℕ) where
       go false false high e f g rest =
           let n1 = eqb-false k 1 e in let low = leb-false 2 k f in let z : ⊥ = omega arith in absurd z
 
-  -- kind 0, and those from 12 on, are refused
-  pub refused-below : k < 1 → prim_default (value k b) ≡ refused 11
-  unfolding prim_default
-  refused-below lo = rw (let z : k ≡ 0 = omega arith in z) refl
-
+  -- those from 12 on are refused
   pub refused-above : 12 ≤ k → prim_default (value k b) ≡ refused 11
   unfolding prim_default
   refused-above hi =

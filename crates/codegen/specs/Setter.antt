@@ -1,7 +1,6 @@
 -- `generate_setter` of codegen.rs for a slot: a setter, an initializer, or both. Assumes nothing.
 use Rattle.std.specs.Prelude.{ℕ, Bool, true, false, [], ◌++◌, ◌==◌, nat_le}
 use Rattle.std.specs.Prelude.{Option, None, Some}
-use Rattle.std.specs.Prelude.{Option, Some}
 use Rattle.text.specs.Bytes.{Str, ascii, cond, either}
 use Rattle.text.specs.Decimal.{decimal}
 use Rattle.text.specs.Lines.{FormattedText, FormattedTexts, Indent, Branch, Line, none, ◌&◌, stringify}

@@ -2,7 +2,6 @@
 -- `mut`. Assumes nothing.
 use Rattle.std.specs.Prelude.{ℕ, zero, suc, Bool, false, List, [], ◌∷◌, ◌==◌}
 use Rattle.std.specs.Prelude.{Option, None, Some}
-use Rattle.std.specs.Prelude.{Option, Some}
 use Rattle.text.specs.Bytes.{Str, ascii, cond, either, same}
 use Rattle.text.specs.Lines.{FormattedText, FormattedTexts, Branch, Line, none, ◌&◌, stringify}
 use Rattle.tree.specs.Tree.{kind, Slot, Arm, slot, group, Field, Node, Sheet}

@@ -2,6 +2,7 @@
 #![tactic(auto)]
 
 ghost use Rattle.std.specs.Prelude.{◌≡◌};
+ghost use Rattle.terms.specs.Kinds.{number_of};
 ghost use Rattle.text.specs.Bytes.{ascii};
 ghost use Rattle.text.specs.Text.{Wrote};
 ghost use Rattle.calls.specs.Calls.{get_data_field, set_bool_field, set_data_field, zero_data};
@@ -15,25 +16,25 @@ ghost use Rattle.codegen_types.specs.TypeString.{is_pointer_kind};
 
 use calls::Mask;
 use field::Slot;
-use terms::{Refusal, kinds};
+use terms::{Kind, Refusal};
 use text::Text;
 
 // The mask of a getter: the default's bits, looked at as a number, which is signed for Int8 to Int64.
-pub fn getter_mask(kind: u64, bits: u64) -> Option<Mask>
-    ensures { mask_text result ≡ getter_mask (value kind bits) }
+pub fn getter_mask(kind: Kind, bits: u64) -> Option<Mask>
+    ensures { mask_text result ≡ getter_mask (value (number_of kind) bits) }
 {
     if bits == 0 {
         return None;
     }
     Some(match kind {
-        kinds::BOOL => Mask::True,
-        kinds::INT8 => Mask::Signed { half: 0x80, bits },
-        kinds::INT16 => Mask::Signed { half: 0x8000, bits },
-        kinds::INT32 => Mask::Signed {
+        Kind::Bool => Mask::True,
+        Kind::Int8 => Mask::Signed { half: 0x80, bits },
+        Kind::Int16 => Mask::Signed { half: 0x8000, bits },
+        Kind::Int32 => Mask::Signed {
             half: 0x8000_0000,
             bits,
         },
-        kinds::INT64 => Mask::Signed {
+        Kind::Int64 => Mask::Signed {
             half: 0x8000_0000_0000_0000,
             bits,
         },
@@ -49,33 +50,34 @@ fn is_float_zero(sign: u64, bits: u64) -> bool
 }
 
 // The mask of a setter of a Bool or a number; the refusal of a default that is no primitive.
-pub fn prim_default(kind: u64, bits: u64) -> Result<Option<Mask>, Refusal>
-    ensures { masked result ≡ prim_default (value kind bits) }
+pub fn prim_default(kind: Kind, bits: u64) -> Result<Option<Mask>, Refusal>
+    ensures { masked result ≡ prim_default (value (number_of kind) bits) }
 {
     match kind {
-        kinds::FLOAT32 => {
+        Kind::Void => Err(Refusal::SetterDefault),
+        Kind::Float32 => {
             let zero = is_float_zero(0x8000_0000, bits);
             Ok(if zero { None } else { Some(Mask::U32(bits)) })
         }
-        kinds::FLOAT64 => {
+        Kind::Float64 => {
             let zero = is_float_zero(0x8000_0000_0000_0000, bits);
             Ok(if zero { None } else { Some(Mask::U64(bits)) })
         }
-        kinds::BOOL..=kinds::UINT64 => Ok(getter_mask(kind, bits)),
+        kind if kind.is_primitive() => Ok(getter_mask(kind, bits)),
         _ => Err(Refusal::SetterDefault),
     }
 }
 
 // The same mask, and none where the default is refused.
-fn setter_mask(default: u64, bits: u64) -> Option<Mask>
-    ensures { mask_text result ≡ mask_or (prim_default (value default bits)) }
+fn setter_mask(default: Kind, bits: u64) -> Option<Mask>
+    ensures { mask_text result ≡ mask_or (prim_default (value (number_of default) bits)) }
 {
     prim_default(default, bits).unwrap_or(None)
 }
 
 // The get of a number, masked by its default.
 pub fn get_number(
-    kind: u64,
+    kind: Kind,
     offset: u64,
     bits: u64,
     is_reader: bool,
@@ -83,7 +85,8 @@ pub fn get_number(
     buf: &mut [u8],
 ) -> Text
     ensures { Wrote buf.old t
-        (get_data_field is_reader (primitive_text kind) offset (getter_mask (value kind bits))) buf.new result }
+        (get_data_field is_reader (primitive_text (number_of kind)) offset
+        (getter_mask (value (number_of kind) bits))) buf.new result }
 {
     let typ = codegen_types::primitive(kind);
     let mask = getter_mask(kind, bits);
@@ -91,19 +94,26 @@ pub fn get_number(
 }
 
 // The set of a Bool, masked by the default of any primitive kind.
-pub fn set_bool(offset: u64, default: u64, bits: u64, t: Text, buf: &mut [u8]) -> Text
+pub fn set_bool(offset: u64, default: Kind, bits: u64, t: Text, buf: &mut [u8]) -> Text
     ensures { Wrote buf.old t
-        (set_bool_field offset (ascii "value") (mask_or (prim_default (value default bits)))) buf.new result }
+        (set_bool_field offset (ascii "value") (mask_or (prim_default (value (number_of default) bits)))) buf.new result }
 {
     let mask = setter_mask(default, bits);
     calls::set_bool_field(offset, b"value", mask, t, buf)
 }
 
 // The set of a number, masked by the default of any primitive kind.
-pub fn set_number(kind: u64, offset: u64, default: u64, bits: u64, t: Text, buf: &mut [u8]) -> Text
+pub fn set_number(
+    kind: Kind,
+    offset: u64,
+    default: Kind,
+    bits: u64,
+    t: Text,
+    buf: &mut [u8],
+) -> Text
     ensures { Wrote buf.old t
-        (set_data_field (primitive_text kind) offset (ascii "value") (mask_or (prim_default (value default bits))))
-        buf.new result }
+        (set_data_field (primitive_text (number_of kind)) offset (ascii "value")
+        (mask_or (prim_default (value (number_of default) bits)))) buf.new result }
 {
     let typ = codegen_types::primitive(kind);
     let mask = setter_mask(default, bits);
@@ -111,18 +121,18 @@ pub fn set_number(kind: u64, offset: u64, default: u64, bits: u64, t: Text, buf:
 }
 
 // The line that zeroes a number.
-pub fn zero_number(kind: u64, offset: u64, t: Text, buf: &mut [u8]) -> Text
-    ensures { Wrote buf.old t (zero_data (primitive_text kind) offset) buf.new result }
+pub fn zero_number(kind: Kind, offset: u64, t: Text, buf: &mut [u8]) -> Text
+    ensures { Wrote buf.old t (zero_data (primitive_text (number_of kind)) offset) buf.new result }
 {
     let typ = codegen_types::primitive(kind);
     calls::zero_data(typ, offset, t, buf)
 }
 
 // Whether a type of this kind is a pointer.
-pub fn is_pointer(kind: u64) -> bool
-    ensures { result ≡ is_pointer_kind kind }
+pub fn is_pointer(kind: Kind) -> bool
+    ensures { result ≡ is_pointer_kind (number_of kind) }
 {
-    !matches!(kind, kinds::VOID..=kinds::FLOAT64 | kinds::ENUM)
+    !kind.is_primitive() && kind != Kind::Enum
 }
 
 // A haser's line that tests the tag, where the field has a discriminant: a setter's writes another call.
@@ -140,7 +150,7 @@ fn tag_test_line(tag: u64, discriminant: u64, is_reader: bool, t: Text, buf: &mu
 // `generate_haser` of a slot, for the name and the tag's offset of its field.
 pub fn haser(name: &[u8], slot: Slot, tag: u64, is_reader: bool, t: Text, buf: &mut [u8]) -> Text
     ensures { Wrote buf.old t
-        (haser_of tag name.now slot.discriminant slot.kind slot.offset is_reader) buf.new result }
+        (haser_of tag name.now slot.discriminant (number_of slot.kind) slot.offset is_reader) buf.new result }
 {
     if !is_pointer(slot.kind) {
         return t.no_lines(buf);

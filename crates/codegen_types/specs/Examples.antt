@@ -1,6 +1,6 @@
--- Worked texts and refusals of types, computed: a table of what is easy to get wrong, and one theorem over its rows. Assumes
--- nothing.
-use Rattle.std.specs.Prelude.{◌≡◌, refl, List, [], ◌∷◌, map, ℕ, zero, suc, ◌+◌}
+-- Worked texts and refusals of types, computed: a table of what is easy to get wrong, and one theorem over its rows; and the
+-- leaves at their numbers. Assumes nothing.
+use Rattle.std.specs.Prelude.{◌≡◌, refl, List, [], ◌∷◌, map, ℕ, zero, suc, ◌+◌, Some}
 use Prim.Native.String.{String}
 use Rattle.text.specs.Bytes.{Str, ascii}
 use Rattle.text.specs.Lines.{join}
@@ -9,12 +9,13 @@ use Rattle.tree.specs.Tree.{stop, unbound, bound, Node, Sheet}
 use Rattle.tree.specs.Worked.{worked_node, worked_sheet}
 use Rattle.nodes.specs.Index.{by_id, nth}
 use Rattle.codegen_types.specs.Out.{Out, ok, refused}
+use Rattle.codegen_types.specs.Leaf.{leaf_number, leaf_of}
 use Rattle.codegen_types.specs.TypeString.{type_string, scopes_of, bindings_of, node_of, scope_of, all_of, arguments_of}
 use Rattle.codegen_types.specs.TypeString.{accumulate, outermost_first, angled, do_branding, list_string}
 use Rattle.codegen_types.specs.TypeString.{parameter_name, parameter_string}
 use Rattle.codegen_types.specs.declared.Leaf.{Leaf}
-use Rattle.codegen_types.specs.declared.Leaf.TheVariants.{Reader, Builder, Owned, Client, ServerDispatch, Pipeline}
-use Rattle.codegen_types.specs.declared.Leaf.TheVariants.{GetType}
+use Rattle.codegen_types.specs.declared.Leaf.TheVariants.{Reader, Builder, Owned, Client, Server, ServerDispatch}
+use Rattle.codegen_types.specs.declared.Leaf.TheVariants.{Pipeline, GetType}
 use Rattle.codegen_types.specs.declared.Lifetime.TheVariants.{A, Anonymous}
 
 -- a node by its id, its parent's, its module and its parameters
@@ -97,3 +98,17 @@ worked : map (λ (r : Row). type_string r.type sheet r.leaf) table ≡ map (λ (
 unfolding table chained type_string scopes_of bindings_of node_of by_id nth scope_of all_of arguments_of accumulate
     outermost_first join angled do_branding list_string parameter_name parameter_string
 worked = refl
+
+-- each leaf stands at its number
+pub numbered : (leaf : Leaf) → leaf_of (leaf_number leaf) ≡ Some leaf
+unfolding leaf_of nth
+numbered (Reader A) = refl
+numbered (Reader Anonymous) = refl
+numbered (Builder A) = refl
+numbered (Builder Anonymous) = refl
+numbered Owned = refl
+numbered Client = refl
+numbered Server = refl
+numbered ServerDispatch = refl
+numbered Pipeline = refl
+numbered GetType = refl

@@ -1,10 +1,13 @@
--- `Leaf` of codegen_types.rs: its display, its `bare_name`, and what `type_string` and `do_branding` ask of it. Assumes
--- nothing.
-use Rattle.std.specs.Prelude.{List, [], ◌∷◌, ◌++◌}
+-- `Leaf` of codegen_types.rs: its display, its `bare_name`, what `type_string` and `do_branding` ask of it, and its number in a
+-- request. Assumes nothing.
+use Rattle.std.specs.Prelude.{List, [], ◌∷◌, ◌++◌, ℕ, Option, Result}
+use Rattle.std.specs.Option.{ok_or}
 use Rattle.text.specs.Bytes.{Str, ascii}
+use Rattle.nodes.specs.Index.{nth}
 use Rattle.codegen_types.specs.declared.Leaf.{Leaf}
 use Rattle.codegen_types.specs.declared.Leaf.TheVariants.{Reader, Builder, Owned, Client, Server, ServerDispatch}
 use Rattle.codegen_types.specs.declared.Leaf.TheVariants.{Pipeline, GetType}
+use Rattle.codegen_types.specs.declared.NoLeaf.{NoLeaf}
 use Rattle.codegen_types.specs.declared.Lifetime.{Lifetime}
 use Rattle.codegen_types.specs.declared.Lifetime.TheVariants.{A, Anonymous}
 
@@ -66,3 +69,30 @@ maybe_colons Server = []
 maybe_colons ServerDispatch = ascii "::"
 maybe_colons Pipeline = []
 maybe_colons GetType = ascii "::"
+
+-- document 01's number of each leaf
+abbrev pub leaf_number : Leaf → ℕ
+leaf_number (Reader A) = 0
+leaf_number (Reader Anonymous) = 2
+leaf_number (Builder A) = 1
+leaf_number (Builder Anonymous) = 3
+leaf_number Owned = 4
+leaf_number Client = 5
+leaf_number Server = 6
+leaf_number ServerDispatch = 7
+leaf_number Pipeline = 8
+leaf_number GetType = 9
+
+-- the leaves by their numbers
+abbrev pub leaf_numbers : List Leaf
+leaf_numbers =
+    Reader A ∷ Builder A ∷ Reader Anonymous ∷ Builder Anonymous
+    ∷ Owned ∷ Client ∷ Server ∷ ServerDispatch ∷ Pipeline ∷ GetType ∷ []
+
+-- the leaf with a number; no other number is a leaf's
+unfoldable pub leaf_of : ℕ → Option Leaf
+leaf_of n = nth n leaf_numbers
+
+-- the same, or the number that no leaf has
+abbrev pub leaf_or_number : ℕ → Result Leaf NoLeaf
+leaf_or_number n = ok_or (leaf_of n) (record { 0 = n })

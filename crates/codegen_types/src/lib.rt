@@ -4,13 +4,14 @@
 #![tactic(auto)]
 
 ghost use Rattle.std.specs.Prelude.{◌++◌, ◌≡◌};
+ghost use Rattle.terms.specs.Kinds.{number_of};
 ghost use Rattle.text.specs.Bytes.{ascii};
 ghost use Rattle.text.specs.Text.{Wrote};
-ghost use Rattle.codegen_types.specs.Leaf.{bare_name, display, lifetime_comma};
+ghost use Rattle.codegen_types.specs.Leaf.{bare_name, display, lifetime_comma, leaf_or_number};
 ghost use Rattle.codegen_types.specs.TypeString.{element_leaf};
 ghost use Rattle.codegen_types.specs.Primitive.{primitive_text};
 
-use terms::kinds;
+use terms::Kind;
 use text::Text;
 
 // The lifetimes that are asked for: 'a and '_.
@@ -32,6 +33,10 @@ pub enum Leaf {
     Pipeline,
     GetType,
 }
+
+// A number that no leaf has.
+#[derive(Clone, Copy, Debug, PartialEq, Eq)]
+pub struct NoLeaf(pub u64);
 
 // A leaf's text, and what a list writes of it up to its element.
 #[derive(Clone, Copy)]
@@ -76,41 +81,64 @@ impl Leaf {
     }
 }
 
+// The leaf with document 01's number: 0 to 3 are Reader and Builder, first with 'a, then with '_; 4 to 9 have no lifetime.
+impl TryFrom<u64> for Leaf {
+    type Error = NoLeaf;
+
+    ghost try_from_gives = { λ number r. r ≡ leaf_or_number number };
+
+    #[tactic(auto, unfolding(crate::specs::Leaf::leaf_of, nodes::specs::Index::nth))]
+    fn try_from(number: u64) -> Result<Leaf, NoLeaf> {
+        match number {
+            0 => Ok(Leaf::Reader(Lifetime::A)),
+            1 => Ok(Leaf::Builder(Lifetime::A)),
+            2 => Ok(Leaf::Reader(Lifetime::Anonymous)),
+            3 => Ok(Leaf::Builder(Lifetime::Anonymous)),
+            4 => Ok(Leaf::Owned),
+            5 => Ok(Leaf::Client),
+            6 => Ok(Leaf::Server),
+            7 => Ok(Leaf::ServerDispatch),
+            8 => Ok(Leaf::Pipeline),
+            9 => Ok(Leaf::GetType),
+            _ => Err(NoLeaf(number)),
+        }
+    }
+}
+
 // The leaf that a list asks of an element of this kind.
-pub fn element_leaf(kind: u64) -> Leaf
-    ensures { result ≡ element_leaf kind }
+pub fn element_leaf(kind: Kind) -> Leaf
+    ensures { result ≡ element_leaf (number_of kind) }
 {
-    if kind == kinds::INTERFACE {
-        Leaf::Client
-    } else {
-        Leaf::Owned
+    match kind {
+        Kind::Interface => Leaf::Client,
+        _ => Leaf::Owned,
     }
 }
 
 // The text of the type of this kind: Void to Float64; any other kind has none.
-pub fn primitive(kind: u64) -> &'static [u8]
-    ensures { result.now ≡ primitive_text kind }
+pub fn primitive(kind: Kind) -> &'static [u8]
+    ensures { result.now ≡ primitive_text (number_of kind) }
 {
     match kind {
-        kinds::VOID => b"()",
-        kinds::BOOL => b"bool",
-        kinds::INT8 => b"i8",
-        kinds::INT16 => b"i16",
-        kinds::INT32 => b"i32",
-        kinds::INT64 => b"i64",
-        kinds::UINT8 => b"u8",
-        kinds::UINT16 => b"u16",
-        kinds::UINT32 => b"u32",
-        kinds::UINT64 => b"u64",
-        kinds::FLOAT32 => b"f32",
-        kinds::FLOAT64 => b"f64",
+        Kind::Void => b"()",
+        Kind::Bool => b"bool",
+        Kind::Int8 => b"i8",
+        Kind::Int16 => b"i16",
+        Kind::Int32 => b"i32",
+        Kind::Int64 => b"i64",
+        Kind::Uint8 => b"u8",
+        Kind::Uint16 => b"u16",
+        Kind::Uint32 => b"u32",
+        Kind::Uint64 => b"u64",
+        Kind::Float32 => b"f32",
+        Kind::Float64 => b"f64",
         _ => b"",
     }
 }
 
 // The text of a primitive type.
-pub fn type_name(kind: u64, t: Text, buf: &mut [u8]) -> Text
-    ensures { Wrote buf.old t (primitive_text kind) buf.new result }
+pub fn type_name(kind: Kind, t: Text, buf: &mut [u8]) -> Text
+    ensures { Wrote buf.old t (primitive_text (number_of kind)) buf.new result }
 {
     t.bytes(buf, primitive(kind))
 }

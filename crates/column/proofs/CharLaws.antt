@@ -20,12 +20,11 @@ accented_no-lead b e = go (leb 0x80 b) (leb b 0xBF) refl e
   where
     go :
         (p q : Bool) → leb b 0xBF ≡ q → both (both p q) (not (either (eqb b 0x97) (eqb b 0xB7))) ≡ true → is_lead b ≡ false
-    go true true h e = ne_eqb b 0xC3 (λ c. let l = leb-true b 0xBF h in let z : ⊥ = omega arith in z)
-    go true false h e = cc
-    go false q h e = cc
+    go true true h e = ne_eqb b 0xC3 (λ c. let l = leb-true b 0xBF h in omega arith)
+    go _ _ h e = cc
 
 pub low-no-lead : (b : ℕ) → b < 128 → is_lead b ≡ false
-low-no-lead b h = ne_eqb b 0xC3 (λ c. let z : ⊥ = omega arith in z)
+low-no-lead b h = ne_eqb b 0xC3 (λ c. omega arith)
 
 pub word-no-lead : (b : ℕ) → is_word b ≡ true → is_lead b ≡ false
 unfolding is_word
@@ -50,11 +49,11 @@ word_low b e = go (ltb b 128) refl
           lt-leb b 122 (omega arith),
           le-leb 65 b (omega arith),
           lt-leb b 90 (omega arith),
-          ne_eqb b 95 (λ c. let z : ⊥ = omega arith in z),
+          ne_eqb b 95 (λ c. omega arith),
           le-leb 48 b (omega arith),
           lt-leb b 57 (omega arith),
         ) at e in
-        let z : ◌≡◌ {A = ℕ} 0 1 = cc in omega arith
+        cc
 
 -- a second byte stands inside the text
 accented_inside : (t : Str) (i : ℕ) → is_accented (get_or t i 0) ≡ true → i < length t
@@ -64,7 +63,7 @@ accented_inside t i e = go (ltb i (length t)) refl
     go true h = ltb-true i (length t) h
     go false h =
         let low = rw (get_or-eq_default t 0 (ltb-false i (length t) h)) at e in
-        let z : ◌≡◌ {A = ℕ} 0 1 = cc in omega arith
+        cc
 
 -- a letter stands inside the text, both its bytes
 pub letter-inside :
@@ -73,7 +72,7 @@ letter-inside t i e = go (is_lead (get_or t i 0)) e
   where
     go : (p : Bool) → both p (is_accented (get_or t (i + 1) 0)) ≡ true → i + 1 < length t
     go true e = accented_inside t (i + 1) e
-    go false e = let z : ◌≡◌ {A = ℕ} 0 1 = cc in omega arith
+    go false e = cc
 
 module _ (ok : ℕ → Bool) where
   -- after the first byte of a letter
@@ -112,8 +111,7 @@ module _ (ok : ℕ → Bool) where
           go true true l s b =
               let on : i + 1 + 1 ≡ i + 2 = omega arith in
               chars-begun l ∙ begun-on t (i + 1) s ∙ ap (λ (n : ℕ). are_chars ok false (drop n t)) on
-          go true false l s b = cc
-          go false q l s b = cc
+          go _ _ l s b = cc
 
       -- neither
       pub chars-stop :
@@ -143,9 +141,8 @@ may_high ok true b e = go (ok b) (leb 128 b) refl e
     go :
         (p q : Bool) → leb 128 b ≡ q → both (both q (leb b 0xBF)) (not (either (eqb b 0x97) (eqb b 0xB7))) ≡ true
         → either p q ≡ true
-    go true q h e = refl
-    go false true h e = refl
     go false false h e = cc
+    go _ _ h e = refl
 may_high ok false b e = go (ok b) (is_lead b) refl e
   where
     go : (p q : Bool) → is_lead b ≡ q → either p q ≡ true → either p (leb 128 b) ≡ true

@@ -1,12 +1,12 @@
 -- Laws of columns and texts: what a definition gives from one byte on, what four bytes make as one number, and what the bytes of
 -- a name are. Assumes nothing.
-use mathlib.Core.Path.{◌≡◌, refl, sym, ap, ◌∙◌}
+use mathlib.Core.Path.{◌≡◌, refl, ◌∙◌}
 use mathlib.Core.Bool.{Bool, true, false, not}
 use mathlib.Core.List.{[], ◌∷◌}
 use Rattle.std.specs.Prelude.{◌&&◌}
 use Rattle.std.specs.List.{list_all}
 use Rattle.std.specs.Int.{IsInRange}
-use Prim.Native.Nat.{ℕ, ◌+◌, ◌-◌, ◌*◌, ◌/◌, ◌^◌, ◌≤◌, ◌<◌}
+use Prim.Native.Nat.{ℕ, ◌+◌, ◌-◌, ◌*◌, ◌^◌, ◌≤◌, ◌<◌}
 use native.Mathlib.Omega.{arith}
 use native.Mathlib.Nat.{pow-suc, pow-le-pow_right}
 use native.Mathlib.Numerals.{add-one}
@@ -53,9 +53,7 @@ one_more_digit v i d l h = rw (add-one, pow-suc 10 i) (omega arith)
 -- what stands above the lowest byte
 above : (x a u v : ℕ) → x < 256 → a < 256 → x + 256 * u ≡ a + 256 * v → u ≡ v
 above x a u v hx ha e =
-    let p : (x + 256 * u) / 256 ≡ u = omega arith in
-    let q : (a + 256 * v) / 256 ≡ v = omega arith in
-    sym p ∙ ap (λ (n : ℕ). n / 256) e ∙ q
+    omega arith
 
 -- the bytes a, b, c and d stand from i on
 pub record Four (t : Str) (i a b c d : ℕ) : Type 0 where
@@ -76,7 +74,7 @@ four_are t i a b c d fits positive ha hb hc e = go (ltb (length t) (i + 4)) refl
         (p : Bool) → ltb (length t) (i + 4) ≡ p
         → cond p 0 (four (get_or t i 0) (get_or t (i + 1) 0) (get_or t (i + 2) 0) (get_or t (i + 3) 0)) ≡ four a b c d
         → Four t i a b c d
-    go true k e = let z : ⊥ = omega arith in absurd z
+    go true k e = absurd (omega arith)
     go false k e =
         let x₀ = get_or t i 0 in
         let x₁ = get_or t (i + 1) 0 in
@@ -123,36 +121,31 @@ may_length t e = go (leb 1 (length t)) (leb (length t) 64) refl refl e
         (p q : Bool) → leb 1 (length t) ≡ p → leb (length t) 64 ≡ q
         → cond (both p q) (not (is_digit (get_or t 0 0))) false ≡ true → (1 ≤ length t) × (length t ≤ 64)
     go true true l h e = (leb-true _ _ l, leb-true _ _ h)
-    go true false l h e = let z : ◌≡◌ {A = ℕ} 0 1 = cc in let n : ⊥ = omega arith in absurd n
-    go false q l h e = let z : ◌≡◌ {A = ℕ} 0 1 = cc in let n : ⊥ = omega arith in absurd n
+    go _ _ l h e = cc
 
--- a test that was passed, and the one after it
-first-passed : (p q : Bool) → cond p q false ≡ true → p ≡ true
-first-passed true q e = refl
-first-passed false q e = cc
-
-next-passed : (p q : Bool) → cond p q false ≡ true → q ≡ true
-next-passed true q e = e
-next-passed false q e = cc
+-- both of two tests that were passed
+pub passed : (p q : Bool) → cond p q false ≡ true → (p ≡ true) × (q ≡ true)
+passed true q e = (refl, e)
+passed false q e = cc
 
 -- the length and the first byte of a name, and of a field's name
 pub name_may : (t : Str) → is_name t ≡ true → may_be_name t ≡ true
 unfolding is_name
-name_may t e = first-passed (may_be_name t) (all is_word t) e
+name_may t e = (passed (may_be_name t) (all is_word t) e).0
 
 pub field-name_may : (t : Str) → is_field_name t ≡ true → may_be_name t ≡ true
 unfolding is_field_name
-field-name_may t e = first-passed (may_be_name t) (are_chars is_word false t) e
+field-name_may t e = (passed (may_be_name t) (are_chars is_word false t) e).0
 
 -- the bytes of a name, of a field's name and of a graphic text
 pub name-all : (t : Str) → is_name t ≡ true → all is_word t ≡ true
 unfolding is_name
-name-all t e = next-passed (may_be_name t) (all is_word t) e
+name-all t e = (passed (may_be_name t) (all is_word t) e).1
 
 pub field-name_chars : (t : Str) → is_field_name t ≡ true → are_chars is_word false t ≡ true
 unfolding is_field_name
-field-name_chars t e = next-passed (may_be_name t) (are_chars is_word false t) e
+field-name_chars t e = (passed (may_be_name t) (are_chars is_word false t) e).1
 
 pub graphic_all : (most : ℕ) (t : Str) → is_graphic_text most t ≡ true → all is_graphic t ≡ true
 unfolding is_graphic_text
-graphic_all most t e = next-passed (sized most t) (all is_graphic t) e
+graphic_all most t e = (passed (sized most t) (all is_graphic t) e).1

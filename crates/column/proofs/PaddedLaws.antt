@@ -16,14 +16,10 @@ use lib.Seq.{drop-cons, drop-drop, get_or-drop, take-append_seam, get_or-append_
 use borrow.Author.Tests.{eq-eqb, ne_eqb, lt-ltb, le-ltb, ltb-true, ltb-false, eqb-true, eqb-false}
 use Rattle.text.specs.Bytes.{Str, cond, unit}
 use Rattle.text.specs.Decimal.{decimal}
-use Rattle.text.proofs.DecimalLaws.{decimal-low, decimal-high, decimal-length}
+use Rattle.text.proofs.DecimalLaws.{decimal-low, decimal-high, by_last_digit, decimal-length}
 use Rattle.column.specs.Number.{trimmed, digits, lone, unpadded, number, within, column_of, most, padded}
 use Rattle.column.specs.Texts.{ends_in}
 use Rattle.column.proofs.Laws.{unpadded-digits}
-
--- none is no number
-pub none-some : {A : Type 0} {v : ℕ} → None ≡ Some v → A
-none-some e = let z : ◌≡◌ {A = ℕ} 0 1 = cc in let y : ⊥ = omega arith in absurd y
 
 -- a byte that goes on with a number: it is a digit, and the number fits
 module _ (v b : ℕ) (t : Str) where
@@ -36,10 +32,8 @@ module _ (v b : ℕ) (t : Str) where
       go :
           (p : Bool) → ltb b 48 ≡ p → (q : Bool) → ltb 57 b ≡ q → (r : Bool) → ltb (v * 10 + (b - 48)) (2 ^ 64) ≡ r
           → cond p None (cond q None (cond r (digits (v * 10 + (b - 48)) t) None)) ≡ Some n → A
-      go true _ q _ r _ e = none-some e
-      go false _ true _ r _ e = none-some e
-      go false _ false _ false _ e = none-some e
       go false l false h true s e = f (ltb-false b 48 l) (ltb-false 57 b h) (ltb-true _ (2 ^ 64) s) e
+      go _ _ _ _ _ _ e = cc
 
   digits-on : 48 ≤ b → b ≤ 57 → v * 10 + (b - 48) < 2 ^ 64 → digits v (b ∷ t) ≡ digits (v * 10 + (b - 48)) t
   unfolding digits
@@ -59,23 +53,17 @@ abbrev Leads : Str → Type 0
 Leads s = (49 ≤ get_or s 0 0) × (get_or s 0 0 ≤ 57)
 
 leads_append : (s t : Str) → Leads s → Leads (s ++ t)
-leads_append [] t h = let z : ⊥ = omega arith in absurd z
+leads_append [] t h = absurd (omega arith)
 leads_append (b ∷ s) t h = h
 
 leads_some : (s : Str) → Leads s → length s ≡ 0 → ⊥
 leads_some [] h e = omega arith
 leads_some (b ∷ s) h e = omega arith
 
--- by the last digit, at most k times
-leads_decimal : (k n : ℕ) → n ≤ k → 0 < n → Leads (decimal n)
-leads_decimal zero n h p = let z : ⊥ = omega arith in absurd z
-leads_decimal (suc k) n h p = go (leads_decimal k (n / 10)) (ltb n 10) refl
-  where
-    go : (n / 10 ≤ k → 0 < n / 10 → Leads (decimal (n / 10))) → (b : Bool) → ltb n 10 ≡ b → Leads (decimal n)
-    go f true e = let l = ltb-true n 10 e in rw (decimal-low n l) (omega arith, omega arith)
-    go f false e =
-        let l = ltb-false n 10 e in
-        rw (decimal-high n l) (leads_append (decimal (n / 10)) (unit (48 + n % 10)) (f (omega arith) (omega arith)))
+leads_decimal : (n : ℕ) → 0 < n → Leads (decimal n)
+leads_decimal =
+    by_last_digit (λ n s. 0 < n → Leads s) (λ n l p. (omega arith, omega arith))
+    (λ n l f p. leads_append (decimal (n / 10)) (unit (48 + n % 10)) (f (omega arith)))
 
 digits_last : (v d : ℕ) → d ≤ 9 → v * 10 + d < 2 ^ 64 → digits v (unit (48 + d)) ≡ Some (v * 10 + d)
 unfolding digits
@@ -83,39 +71,27 @@ digits_last v d l f =
     let e : 48 + d - 48 ≡ d = omega arith in
     digits-on v (48 + d) [] (omega arith) (omega arith) (omega arith) ∙ rw e
 
-digits_low : (n : ℕ) → n < 10 → digits 0 (decimal n) ≡ Some n
-digits_low n l =
-    let z : 0 * 10 + n ≡ n = omega arith in
-    rw (decimal-low n l) (digits_last 0 n (omega arith) (omega arith) ∙ ap Some z)
-
-digits_decimal : (k n : ℕ) → n ≤ k → n < 2 ^ 64 → digits 0 (decimal n) ≡ Some n
-digits_decimal zero n h s = digits_low n (omega arith)
-digits_decimal (suc k) n h s = go (digits_decimal k (n / 10)) (ltb n 10) refl
-  where
-    go :
-        (n / 10 ≤ k → n / 10 < 2 ^ 64 → digits 0 (decimal (n / 10)) ≡ Some (n / 10)) → (b : Bool) → ltb n 10 ≡ b
-        → digits 0 (decimal n) ≡ Some n
-    go f true e = digits_low n (ltb-true n 10 e)
-    go f false e =
-        let l = ltb-false n 10 e in
-        let w : n / 10 * 10 + n % 10 ≡ n = omega arith in
-        rw (decimal-high n l)
-        (digits_append (decimal (n / 10)) (unit (48 + n % 10)) 0 (n / 10) (f (omega arith) (omega arith))
-        ∙ digits_last (n / 10) (n % 10) (omega arith) (omega arith) ∙ rw w)
+digits_decimal : (n : ℕ) → n < 2 ^ 64 → digits 0 (decimal n) ≡ Some n
+digits_decimal =
+    by_last_digit (λ n t. n < 2 ^ 64 → digits 0 t ≡ Some n)
+    (λ n l s. let z : 0 * 10 + n ≡ n = omega arith in digits_last 0 n (omega arith) (omega arith) ∙ ap Some z)
+    (λ n l f s.
+    let w : n / 10 * 10 + n % 10 ≡ n = omega arith in
+    digits_append (decimal (n / 10)) (unit (48 + n % 10)) 0 (n / 10) (f (omega arith))
+    ∙ digits_last (n / 10) (n % 10) (omega arith) (omega arith) ∙ rw w)
 
 -- 0 is printed alone; any other number does not begin with 0
 unpadded-decimal : (n : ℕ) → n < 2 ^ 64 → unpadded (decimal n) ≡ Some n
 unfolding unpadded
 unpadded-decimal zero s = rw (decimal-low 0 (omega arith))
 unpadded-decimal (suc n) s =
-    let l = leads_decimal (suc n) (suc n) (omega arith) (omega arith) in
-    unpadded-digits (decimal (suc n)) (leads_some (decimal (suc n)) l) (omega arith)
-    ∙ digits_decimal (suc n) (suc n) (omega arith) s
+    let l = leads_decimal (suc n) (omega arith) in
+    unpadded-digits (decimal (suc n)) (leads_some (decimal (suc n)) l) (omega arith) ∙ digits_decimal (suc n) s
 
 -- no number begins with a space
 decimal-no_space : (n : ℕ) → get_or (decimal n) 0 0 ≡ 32 → ⊥
 decimal-no_space zero e = let z = rw (decimal-low 0 (omega arith)) at e in omega arith
-decimal-no_space (suc n) e = let l = leads_decimal (suc n) (suc n) (omega arith) (omega arith) in omega arith
+decimal-no_space (suc n) e = let l = leads_decimal (suc n) (omega arith) in omega arith
 
 trimmed-spaces : (k : ℕ) (s : Str) → (get_or s 0 0 ≡ 32 → ⊥) → trimmed (replicate k 32 ++ s) ≡ s
 unfolding trimmed
@@ -153,12 +129,12 @@ decimal-digits (b ∷ s) v n p e = digits-back v b s n e (λ l h f g.
 
 decimal-unpadded : (s : Str) (n : ℕ) → unpadded s ≡ Some n → s ≡ decimal n
 unfolding unpadded
-decimal-unpadded [] n e = none-some e
+decimal-unpadded [] n e = cc
 decimal-unpadded (b ∷ s) n e = go (eqb b 48) refl e
   where
     alone : b ≡ 48 → (s : Str) → lone s ≡ Some n → b ∷ s ≡ decimal n
     alone z [] e = let h : n ≡ 0 = cc in rw (z, h, decimal-low 0 (omega arith))
-    alone z (x ∷ s) e = none-some e
+    alone z (x ∷ s) e = cc
 
     go : (t : Bool) → eqb b 48 ≡ t → cond t (lone s) (digits 0 (b ∷ s)) ≡ Some n → b ∷ s ≡ decimal n
     go true z e = alone (eqb-true b 48 z) s e
@@ -223,15 +199,14 @@ pub record Stands (t : Str) (a least most n : ℕ) : Type 0 where
 
 within-back :
     {A : Type 0} (least most n : ℕ) (v : Option ℕ) → within least most v ≡ Some n → (v ≡ Some n → least ≤ n → n ≤ most → A) → A
-within-back least most n None e f = none-some e
+within-back least most n None e f = cc
 within-back {A} least most n (Some v) e f = go (ltb v least) refl (ltb most v) refl e
   where
     go : (p : Bool) → ltb v least ≡ p → (q : Bool) → ltb most v ≡ q → cond p None (cond q None (Some v)) ≡ Some n → A
-    go true _ q _ e = none-some e
-    go false _ true _ e = none-some e
     go false l false h e =
         let s : v ≡ n = cc in
         f e (rw s at (ltb-false v least l)) (rw s at (ltb-false most v h))
+    go _ _ _ _ e = cc
 
 pub column_stands : (t : Str) (a least most n : ℕ) → column_of t a least most ≡ Some n → Stands t a least most n
 unfolding column_of
@@ -240,7 +215,7 @@ column_stands t a least most n e = go (ltb (length t) (a + 21)) refl e
     go :
         (p : Bool) → ltb (length t) (a + 21) ≡ p → cond p None (within least most (number (take 21 (drop a t)))) ≡ Some n
         → Stands t a least most n
-    go true _ e = none-some e
+    go true _ e = cc
     go false w e = within-back least most n (number (take 21 (drop a t))) e (λ v l h.
         let b = ltb-false (length t) (a + 21) w in
         let m = length-take-le 21 (drop a t) (rw (length-drop a t) (omega arith)) in
@@ -269,23 +244,17 @@ ends_stands ok t a e = go (eqb (get_or t a 0) 32) refl e
         inside (no l) f =
             let m : length t ≤ a = omega arith in
             let z = sym f ∙ get_or-eq_default t 0 m in
-            let y : ⊥ = omega arith in
-            absurd y
-    go false s e = let z : ◌≡◌ {A = ℕ} 0 1 = cc in let y : ⊥ = omega arith in absurd y
+            absurd (omega arith)
+    go false s e = cc
 
 -- ---- a number by its last two bytes, where a space stands before them
 
 -- the last digit of a number, and those before it
 last-digit : (n : ℕ) (P : Str → Type 0) → ((front : Str) → P (front ++ unit (48 + n % 10))) → P (decimal n)
-last-digit n P f = go (ltb n 10) refl
-  where
-    go : (t : Bool) → ltb n 10 ≡ t → P (decimal n)
-    go true e =
-        let l = ltb-true n 10 e in
-        let m : n % 10 ≡ n = omega arith in
-        let p = f [] in
-        rw (decimal-low n l) (rw m at p)
-    go false e = rw (decimal-high n (ltb-false n 10 e)) (f (decimal (n / 10)))
+last-digit n P f =
+    by_last_digit (λ k s. k ≡ n → P s)
+    (λ k l e. let m : n % 10 ≡ k = omega arith in let p = f [] in rw m at p)
+    (λ k l g e. rw e (f (decimal (n / 10)))) n refl
 
 -- the third byte from the end of 21
 third_last :
@@ -336,7 +305,7 @@ last-two n rest s h = go (ltb n 10) (ltb n 100) refl refl
         let y = low (n % 10) (omega arith) in
         rw (padded, decimal-high n l, decimal-low (n / 10) (omega arith), x, y) (omega arith)
     go false false e f =
-        let z = three_digits n rest (ltb-false n 100 f) s in let y : ⊥ = omega arith in absurd y
+        let z = three_digits n rest (ltb-false n 100 f) s in absurd (omega arith)
 
 -- the number in the columns from a on, by their last two bytes
 pub known_two :

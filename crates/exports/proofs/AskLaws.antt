@@ -1,9 +1,7 @@
--- What the code's answer says of a request is what is told at the boundary: by the two cases of the answer. Assumes nothing.
+-- What the code's answer says of a request is what is asked of it at the boundary. Assumes nothing.
 use mathlib.Core.Path.{◌≡◌, ap, subst, ◌∙◌}
-use Rattle.std.specs.Prelude.{Result, Ok, Err}
-use Prim.Native.Nat.{ℕ, ◌≤◌}
-use lib.ListN.{take}
-use native.Mathlib.Omega.{arith}
+use Rattle.std.specs.Prelude.{Result}
+use Prim.Native.Nat.{ℕ}
 use Rattle.text.specs.Bytes.{Str}
 use Rattle.text.specs.Text.{state_at}
 use Rattle.text.specs.declared.Text.{Text}
@@ -11,11 +9,10 @@ use Rattle.tree.specs.Tree.{Sheet}
 use Rattle.tree.specs.Read.{sheet}
 use Rattle.requests.specs.Requests.{request_text, Outcome, outcome, entry_answer, entry_buffer}
 use Rattle.requests.specs.declared.Request.{Request}
-use Rattle.requests.specs.Told.{in_numbers, Answered, AnswerWithin}
+use Rattle.requests.specs.Told.{in_numbers, Answered}
 use Rattle.sheet.specs.declared.Refused.{Refused}
 use Rattle.exports.specs.Boundary.{number_in, line_in, column_in, fill_in, reply_of, ask, Asked}
 use Rattle.exports.specs.Parts.{Said}
-use Rattle.exports.specs.Boundary.{AskedWithin}
 
 -- a request that comes to o, asked at the state t of a fill count
 module _ (l : Str) (fill : ℕ) (o : Outcome) (t : Text) (l' : Str) (r : Result Text Refused) (at : t ≡ state_at fill)
@@ -47,21 +44,3 @@ pub asked_in :
 asked_in l fill sh id q q' t l' r e at answered =
     asked l fill (outcome (request_text sh id q')) t l' r at
     (subst (λ (x : Request). Answered l t (outcome (request_text sh id x)) l' r) e answered)
-
--- over any index: what is promised of the answer is told
-pub told-within : (l l' : Str) (fill : ℕ) (t : Text) (r : Result Text Refused) (fill' number line column : ℕ) → t ≡ state_at fill
-    → AnswerWithin l t l' r → Said (in_numbers r) fill fill' number line column → AskedWithin l fill l' fill' number
-told-within l l' fill t (Ok u) fill' number line column e h s =
-    let x : take fill l' ≡ take fill l = rw e at h.0 in
-    let y : fill ≤ u.at = rw e at h.1 in record {
-      before = x;
-      not-below = omega (arith, y, s.fill_is);
-      not-past = λ within. omega (arith, h.2, s.fill_is);
-      refused_so = λ n. absurd (n s.number_is);
-    }
-told-within l l' fill t (Err r) fill' number line column e h s = record {
-  before = ap (λ (x : Str). take fill x) h;
-  not-below = omega (arith, s.fill_is);
-  not-past = λ within. omega (arith, s.fill_is);
-  refused_so = λ n. (h, s.fill_is);
-}

@@ -2,6 +2,7 @@
 -- answers; what an index tells of a sheet's nodes, and a position of its fields. Assumes nothing.
 use Rattle.std.specs.Prelude.{◌≡◌, Bool, true, false, List, [], ◌∷◌, ℕ, ◌-◌, ◌%◌, ◌^◌, ◌≤◌, min, eqb, ltb, length, take, drop}
 use Rattle.std.specs.Prelude.{Option, None, Some}
+use Rattle.terms.specs.Kinds.{number_of}
 use Rattle.text.specs.Bytes.{Str, cond, either}
 use Rattle.text.specs.Decimal.{signed}
 use Rattle.text.specs.Text.{adv, put, state_at}
@@ -20,6 +21,7 @@ use Rattle.nodes.specs.declared.Entry.{Entry}
 use Rattle.sheet.specs.Admission.{IndexOf}
 use Rattle.codegen_types.specs.Out as refusal
 use Rattle.codegen_types.specs.Out.{Out, ok, ◌then◌}
+use Rattle.codegen_types.specs.Leaf.{leaf_of}
 use Rattle.field.specs.Field.{ReadsFirst, Fewer, FindsField}
 use Rattle.field.specs.Numbers.{field_size, field_in, with_field}
 use Rattle.field.specs.declared.Field.{Field}
@@ -101,10 +103,10 @@ reply_of o l fill = record { answer = entry_answer l fill o; buffer = entry_buff
 abbrev pub ask : Admitted → ℕ → Request → Str → ℕ → Reply
 ask a id request = reply_of (outcome_of a id request)
 
--- the texts of a field by their numbers; a type's text is asked for a leaf
+-- the texts of a field by their numbers; a type's text is asked for the leaf with a number
 abbrev pub accessors : ℕ → List Accessor
 accessors leaf =
-    TypeText leaf
+    TypeText (leaf_of leaf)
     ∷ Getter true false ∷ Getter false false ∷ Getter true true ∷ Getter false true
     ∷ Setter ∷ Haser true ∷ Haser false ∷ Zeroing ∷ []
 
@@ -235,7 +237,7 @@ FirstPut s from l numbers =
 -- nothing
 abbrev pub ValueTold : Str → Option Field → ℕ → ℕ → ℕ → ℕ → ℕ → Type 0
 ValueTold s (Some (field.Slot r)) number kind at size next =
-    (number ≡ 0) × (kind ≡ r.kind) × SpanTold (span_between s r.at r.typ) at size × (next ≡ r.next)
+    (number ≡ 0) × (kind ≡ number_of r.kind) × SpanTold (span_between s r.at r.typ) at size × (next ≡ r.next)
 ValueTold s (Some (field.Group g)) number kind at size next =
     (number ≡ 0) × (kind ≡ 19) × SpanTold (span_between s g.at g.next) at size × (next ≡ g.next)
 ValueTold s None number kind at size next = (number ≡ 15) × (kind ≡ 0) × (at ≡ 0) × (size ≡ 0) × (next ≡ 0)

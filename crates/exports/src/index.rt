@@ -172,7 +172,7 @@ pub fn kitlubas_field(
     match read {
         Field::Slot(slot) => {
             let Span { start, end } = row::text_span(s, slot.at, slot.typ);
-            *kind = slot.kind;
+            *kind = slot.kind.number();
             *at = start;
             *size = end - start;
             *next = slot.next;

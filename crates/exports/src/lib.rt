@@ -17,6 +17,7 @@ ghost use Rattle.exports.specs.Boundary.{Fills, FillsName, Signed, Told, Asked, 
 ghost use Rattle.exports.specs.Parts.{Said};
 ghost use Rattle.std.specs.Prelude.{◌≡◌, ◌-◌, ◌^◌, min};
 
+use codegen_types::Leaf;
 pub use index::{
     claims, kitlubas_answer_in, kitlubas_field, kitlubas_index, kitlubas_index_size, kitlubas_node,
     kitlubas_text,
@@ -58,7 +59,7 @@ pub fn kitlubas_signed(at: usize, buf: &mut [u8], width: u32, n: u64) -> usize
     }
 }
 
-// A line at a level of indentation; an empty line; what `stringify` makes of no lines.
+// A line at a level of indentation.
 pub fn kitlubas_line(at: usize, buf: &mut [u8], indent: usize, line: &[u8]) -> usize
     ensures { Fills buf.old at (ended (to_lines (Line line.now) indent)) buf.new result }
 {
@@ -66,6 +67,7 @@ pub fn kitlubas_line(at: usize, buf: &mut [u8], indent: usize, line: &[u8]) -> u
     count(t)
 }
 
+// An empty line.
 pub fn kitlubas_blank_line(at: usize, buf: &mut [u8]) -> usize
     ensures { Fills buf.old at (ended (to_lines BlankLine 0)) buf.new result }
 {
@@ -73,6 +75,7 @@ pub fn kitlubas_blank_line(at: usize, buf: &mut [u8]) -> usize
     count(t)
 }
 
+// What `stringify` makes of no lines.
 pub fn kitlubas_no_lines(at: usize, buf: &mut [u8]) -> usize
     ensures { Fills buf.old at (stringify (Branch none)) buf.new result }
 {
@@ -80,9 +83,9 @@ pub fn kitlubas_no_lines(at: usize, buf: &mut [u8]) -> usize
     count(t)
 }
 
-// The names made of a name: `camel_to_snake_case`, the name of its default's constant, `module_name`. A name is taken that has
-// at most 64 bytes, of ASCII and letters from U+00C0 to U+00FF in UTF-8. Each stands whole: a writer as an argument would lend
-// the buffer to a closure, with a contract as long as these bodies.
+// The snake name of a name, `camel_to_snake_case`. A name is taken that has at most 64 bytes, of ASCII and letters from U+00C0 to
+// U+00FF in UTF-8. This and the next two stand whole: a writer as an argument would lend the buffer to a closure, with a contract
+// as long as these bodies.
 pub fn kitlubas_snake(at: usize, buf: &mut [u8], name: &[u8]) -> usize
     ensures { FillsName buf.old at camel_to_snake_case name.now buf.new result }
 {
@@ -93,6 +96,7 @@ pub fn kitlubas_snake(at: usize, buf: &mut [u8], name: &[u8]) -> usize
     count(t)
 }
 
+// The name of a name's default's constant.
 pub fn kitlubas_default_name(at: usize, buf: &mut [u8], name: &[u8]) -> usize
     ensures { FillsName buf.old at default_name name.now buf.new result }
 {
@@ -103,6 +107,7 @@ pub fn kitlubas_default_name(at: usize, buf: &mut [u8], name: &[u8]) -> usize
     count(t)
 }
 
+// The module of a name, `module_name`.
 pub fn kitlubas_module_name(at: usize, buf: &mut [u8], name: &[u8]) -> usize
     ensures { FillsName buf.old at module_name name.now buf.new result }
 {
@@ -140,14 +145,16 @@ fn say(answer: Result<Text, Refused>, fill: &mut usize, line: &mut usize, column
     }
 }
 
-// The text of a field with a number: 0 is its type's text for a leaf, 1 and 2 are the getters of reader and builder, 3 and 4 the
-// same as functions, 5 is the setter, 6 and 7 are the hasers of reader and builder, 8 is the zeroing.
+// The text of a field with a number: 0 is its type's text for the leaf with a number, 1 and 2 are the getters of reader and
+// builder, 3 and 4 the same as functions, 5 is the setter, 6 and 7 are the hasers of reader and builder, 8 is the zeroing.
 #[tactic(auto, unfolding(crate::specs::Boundary::accessor_numbered, nodes::specs::Index::nth))]
 fn accessor_of(number: u64, leaf: u64) -> Option<Accessor>
     ensures { result ≡ accessor_numbered number leaf }
 {
     match number {
-        0 => Some(Accessor::TypeText { leaf }),
+        0 => Some(Accessor::TypeText {
+            leaf: Leaf::try_from(leaf).ok(),
+        }),
         1 => Some(Accessor::Getter {
             is_reader: true,
             is_fn: false,

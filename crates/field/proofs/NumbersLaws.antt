@@ -8,6 +8,7 @@ use borrow.Author.Tests.{eq-eqb, ne_eqb, lt-ltb, le-ltb}
 use lib.Dec.{lit<}
 use lib.ListN.{length, take, set, get_or, length-drop}
 use lib.Seq.{get_or-take}
+use Rattle.terms.proofs.KindLaws.{kind-back}
 use Rattle.tree.proofs.OtherLines.{never}
 use Rattle.field.specs.Numbers.{field_numbers, begun, with_field, slot_in, group_in, field_in}
 use Rattle.std.specs.Prelude.{Option, Some, None}
@@ -103,7 +104,9 @@ field_put l f h = rw (← put_some l f h) (go f)
     room None = omega (arith, length-drop 1 l)
 
     go : (f : Option Field) → field_in (begun (field_numbers f) l) ≡ f
-    go (Some (field.Slot r)) = sym (get-slot (begun (field_numbers (Some (field.Slot r))) l) (room (Some (field.Slot r))) refl)
+    go (Some (field.Slot r)) =
+        sym (get-slot (begun (field_numbers (Some (field.Slot r))) l) (room (Some (field.Slot r))) refl)
+        ∙ rw (kind-back r.kind, kind-back r.default) refl
     go (Some (field.Group g)) =
         sym (get-group (begun (field_numbers (Some (field.Group g))) l) (room (Some (field.Group g))) refl)
     go None =

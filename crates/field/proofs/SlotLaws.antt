@@ -8,6 +8,8 @@ use native.Mathlib.Omega.{arith}
 use Rattle.std.specs.Prelude.{Some, None, Result, Ok, Err}
 use denote.Enum.Declared.{tag_of}
 use lib.ListN.{drop, length}
+use Rattle.terms.specs.Kinds.{number_of}
+use Rattle.terms.specs.declared.kinds.Kind.{Kind}
 use Rattle.text.specs.Bytes.{Str}
 use Rattle.row.specs.Rows.{rows, rest_of}
 use Rattle.row.specs.Line as content
@@ -100,9 +102,10 @@ module _ (s : Str) (typ : ℕ) (t : TypeSpan) (type-is : Gets (read_type 16 (row
 
   -- words that are refused
   pub slot-no-words :
-      (o e p k b : ℕ) (after : Rows) (P : tree.Slot → Rows → Type 0) (has : Bool) (w : Result Counted RefusedRow)
+      (o e p : ℕ) (k : Kind) (b : ℕ) (after : Rows) (P : tree.Slot → Rows → Type 0) (has : Bool) (w : Result Counted RefusedRow)
       → line_said (Ok (line.Value k b)) ≡ line_at (rows (drop t.past s)) → after ≡ rest_of (rows (drop t.past s))
-      → has ≡ has_words e k → counted s w ≡ map_r length (read_words_up_to (most_words has)) after → result_ok w ≡ None
+      → has ≡ has_words e (number_of k) → counted s w ≡ map_r length (read_words_up_to (most_words has)) after
+      → result_ok w ≡ None
       → Gets (read_slot o e p (rows (drop typ s))) P
   unfolding line_said value_of
   slot-no-words o e p k b after P has (Ok c) here rest has-is refused bad = never cc
@@ -114,8 +117,8 @@ module _ (s : Str) (typ : ℕ) (t : TypeSpan) (type-is : Gets (read_type 16 (row
           → P (record { offset = o; explicit = e; option = p; ty = ty; default = v; words = ws }) z
       none ty q v w ws z et ev ew =
           let at : rows (drop t.past s) ≡ q = (gets-got _ _ ty q type-is et).past in
-          let g : value_of q ≡ got (record { kind = k; bits = b }) (rest_of q) = rw (← at, ← here) refl in
-          let v-is : v ≡ record { kind = k; bits = b } = cc in
+          let g : value_of q ≡ got (record { kind = number_of k; bits = b }) (rest_of q) = rw (← at, ← here) refl in
+          let v-is : v ≡ record { kind = number_of k; bits = b } = cc in
           let w-is : w ≡ rest_of q = cc in
           let w-after : w ≡ after = w-is ∙ sym (rw at at rest) in
           let words : read_words has after ≡ got ws z =
@@ -132,14 +135,14 @@ module _ (s : Str) (r : Slot) (t : TypeSpan) (type-is : Gets (read_type 16 (rows
     (kind : r.kind ≡ t.kind) (id : r.id ≡ t.id)
     (here : line_said (Ok (line.Value r.default r.bits)) ≡ line_at (rows (drop t.past s)))
     (after : rows (drop r.words s) ≡ rest_of (rows (drop t.past s)))
-    (has : Bool) (has-is : has ≡ has_words r.explicit r.default)
+    (has : Bool) (has-is : has ≡ has_words r.explicit (number_of r.default))
     (words-are : got r.count (rows (drop r.next s))
     ≡ map_r length (read_words_up_to (most_words has)) (rows (drop r.words s))) where
   value-is : (q : Rows) (v : Value) (w : Rows) → rows (drop t.past s) ≡ q → value_of q ≡ got v w
-      → (v ≡ record { kind = r.default; bits = r.bits }) × (w ≡ rows (drop r.words s))
+      → (v ≡ record { kind = number_of r.default; bits = r.bits }) × (w ≡ rows (drop r.words s))
   unfolding line_said value_of
   value-is q v w e ev =
-      let g : value_of q ≡ got (record { kind = r.default; bits = r.bits }) (rest_of q) = rw (← e, ← here) refl in
+      let g : value_of q ≡ got (record { kind = number_of r.default; bits = r.bits }) (rest_of q) = rw (← e, ← here) refl in
       let w-is : w ≡ rest_of q = cc in
       (cc, w-is ∙ sym (rw e at after))
 
@@ -167,7 +170,7 @@ module _ (s : Str) (r : Slot) (t : TypeSpan) (type-is : Gets (read_type 16 (rows
                 offset = refl;
                 explicit = refl;
                 option = refl;
-                kind = typ.kind ∙ sym kind;
+                kind = typ.kind ∙ sym (ap number_of kind);
                 id = rw id typ.id;
                 default = ap (λ (y : Value). y.kind) default.0;
                 bits = ap (λ (y : Value). y.bits) default.0;
@@ -182,7 +185,7 @@ module _ (s : Str) (r : Slot) (t : TypeSpan) (type-is : Gets (read_type 16 (rows
   slot-fewer : length (rows (drop t.past s)) ≤ length (rows (drop r.typ s)) → Fewer s r.typ (Some (field.Slot r))
   unfolding line_said
   slot-fewer h =
-      let v = row-fewer _ _ (content.Value r.default r.bits) here after tt in
+      let v = row-fewer _ _ (content.Value (number_of r.default) r.bits) here after tt in
       let w = counted-fewer (most_words has) (rows (drop r.words s)) r.count (rows (drop r.next s)) words-are in
       omega arith
 

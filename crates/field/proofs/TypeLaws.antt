@@ -2,15 +2,18 @@
 -- is read. Assumes nothing.
 use mathlib.Core.Path.{◌≡◌, refl, sym, ap, ◌∙◌}
 use mathlib.Core.Bool.{Bool, true, false}
-use Prim.Native.Nat.{ℕ, zero, suc, ◌<◌, ◌≤◌, min}
-use native.Mathlib.Decide.{dec_lt}
+use mathlib.Core.Logic.{◌⊎◌}
+use Prim.Native.Nat.{ℕ, zero, suc, ◌≤◌}
 use Rattle.std.specs.Prelude.{[], ◌∷◌, Ok, Err}
 use native.Mathlib.Nat.{add-zero}
 use native.Mathlib.Omega.{arith}
-use borrow.Author.Tests.{eq-eqb, ne_eqb, eqb-true, eqb-false, ltb-true, lt-ltb, le-ltb}
+use borrow.Author.Tests.{eqb-true, eqb-false, ltb-true}
 use denote.Enum.Declared.{tag_of}
 use lib.Dec.{eqb, ltb}
 use lib.ListN.{drop, length}
+use Rattle.terms.specs.Kinds.{number_of}
+use Rattle.terms.specs.declared.kinds.Kind.{Kind}
+use Rattle.terms.specs.declared.kinds.Kind.TheVariants as kinds
 use Rattle.text.specs.Bytes.{Str, cond}
 use Rattle.row.specs.Rows.{rows, rest_of}
 use Rattle.row.specs.Line as content
@@ -27,6 +30,7 @@ use Rattle.tree.specs.Read.{read_type, type_from, branded}
 use Rattle.tree.proofs.OtherLines.{not-type, not_type-tag}
 use Rattle.tree.proofs.WalkLaws.{by_told}
 use Rattle.row.specs.Part.{owed}
+use Rattle.row.proofs.PartLaws.{owed-none, owed-branded}
 use Rattle.row.proofs.Laws.{rows-fewer}
 use Rattle.types.specs.Find.{After, kind_at, past_rows, AllParts, Past}
 use Rattle.types.proofs.Laws.{on-type, on-map, on-all, past-type, past_next, past-none, parts_next, type-parts}
@@ -69,7 +73,8 @@ type-id (suc n) rs =
     go k a b c false false false false f e q = eqb-false a 0 e
 
 -- the type that is read, by its row
-type-gets : (s : Str) (r : TypeSpan) (rs : Rows) → r.kind ≡ kind_at rs → r.id ≡ id_at rs → Past rs 1 (rows (drop r.past s))
+type-gets : (s : Str) (r : TypeSpan) (rs : Rows) → number_of r.kind ≡ kind_at rs → r.id ≡ id_at rs
+    → Past rs 1 (rows (drop r.past s))
     → Gets (read_type 16 rs) (TypeIs s r)
 type-gets s r rs k i p = go (read_type 16 rs) (type-kind 16 rs) (type-id 16 rs) (past-type 16 rs) (type-parts 16 rs)
   where
@@ -102,9 +107,9 @@ module _ (rs : Rows) (P : Ty → Rows → Type 0) where
       rw (← here) (by_told (λ g. Gets g P) (fault_of 84 (line_at rs)) (no misplaced) rs (λ k. tt) tt)
 
 -- where it is one, and the rows after it
-module _ (s : Str) (r : TypeSpan) (rs rest : Rows) (k a b c : ℕ) (here : line_said (Ok (line.Typ k a b c)) ≡ line_at rs)
-    (after : rest ≡ rest_of rs) (kind : r.kind ≡ min k 18) (id : r.id ≡ a) where
-  past_is : Past rest (owed (content.Typ k a b c)) (rows (drop r.past s)) → Past rs 1 (rows (drop r.past s))
+module _ (s : Str) (r : TypeSpan) (rs rest : Rows) (k : Kind) (a b c : ℕ)
+    (here : line_said (Ok (line.Typ k a b c)) ≡ line_at rs) (after : rest ≡ rest_of rs) (kind : r.kind ≡ k) (id : r.id ≡ a) where
+  past_is : Past rest (owed (content.Typ (number_of k) a b c)) (rows (drop r.past s)) → Past rs 1 (rows (drop r.past s))
   unfolding line_said
   past_is h = λ p.
       h (rw (add-zero, ← here, ← after) at (parts_next rs 0 p).1) ∙ sym (rw (add-zero, ← here, ← after) at (past_next rs 0))
@@ -113,27 +118,20 @@ module _ (s : Str) (r : TypeSpan) (rs rest : Rows) (k a b c : ℕ) (here : line_
   unfolding line_said
   id-is = id ∙ rw (← here) refl
 
-  kind-is : r.kind ≡ kind_at rs
-  kind-is = kind ∙ kind-here rs k a b c here
+  kind-is : number_of r.kind ≡ kind_at rs
+  kind-is = ap number_of kind ∙ kind-here rs k a b c here
 
-  pub type-alone : (k ≡ 14 → ⊥) → (15 ≤ k → k ≤ 17 → ⊥) → rows (drop r.past s) ≡ rest
+  pub type-alone :
+      (k ≡ kinds.List → ⊥) → (k ≡ kinds.Enum → ⊥) → (k ≡ kinds.Struct → ⊥) → (k ≡ kinds.Interface → ⊥)
+      → rows (drop r.past s) ≡ rest → Gets (read_type 16 rs) (TypeIs s r)
+  type-alone l e t i p =
+      type-gets s r rs kind-is id-is (past_is (rw (← owed-none a b c k l e t i) (λ _. p ∙ sym (past-none rest))))
+
+  pub type-list : k ≡ kinds.List → Past rest 1 (rows (drop r.past s)) → Gets (read_type 16 rs) (TypeIs s r)
+  unfolding owed
+  type-list h p = type-gets s r rs kind-is id-is (past_is (rw h p))
+
+  pub type_brand :
+      (k ≡ kinds.Enum) ⊎ ((k ≡ kinds.Struct) ⊎ (k ≡ kinds.Interface)) → Past rest b (rows (drop r.past s))
       → Gets (read_type 16 rs) (TypeIs s r)
-  unfolding owed
-  type-alone m n p = type-gets s r rs kind-is id-is (past_is (go (dec_lt k 14)))
-    where
-      go : Dec (k < 14) → Past rest (owed (content.Typ k a b c)) (rows (drop r.past s))
-      go (Prim.yes h) = λ _. p ∙ rw (lt-ltb k 14 h) (sym (past-none rest))
-      go (Prim.no h) =
-          let l : 14 ≤ k = omega arith in
-          let u : 18 ≤ k = omega arith in
-          λ _. p ∙ rw (le-ltb k 14 l, ne_eqb k 14 m, le-ltb k 18 u) (sym (past-none rest))
-
-  pub type-list : k ≡ 14 → Past rest 1 (rows (drop r.past s)) → Gets (read_type 16 rs) (TypeIs s r)
-  unfolding owed
-  type-list h p = type-gets s r rs kind-is id-is (past_is (rw (le-ltb k 14 (omega arith), eq-eqb k 14 h) p))
-
-  pub type_brand : 15 ≤ k → k < 18 → Past rest b (rows (drop r.past s)) → Gets (read_type 16 rs) (TypeIs s r)
-  unfolding owed
-  type_brand h u p =
-      let n : k ≡ 14 → ⊥ = λ z. omega arith in
-      type-gets s r rs kind-is id-is (past_is (rw (le-ltb k 14 (omega arith), ne_eqb k 14 n, lt-ltb k 18 u) p))
+  type_brand e p = type-gets s r rs kind-is id-is (past_is (rw (← owed-branded a b c k e) p))

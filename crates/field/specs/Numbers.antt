@@ -1,6 +1,7 @@
 -- A field as numbers that a caller lends: what it is, 0 for nothing, 1 for a slot and 2 for a group, and what was read of it,
 -- in the order of its struct. Assumes nothing.
 use Rattle.std.specs.Prelude.{List, [], ◌∷◌, ◌++◌, ℕ, eqb, ltb, length, drop, get_or, Option, Some, None}
+use Rattle.terms.specs.Kinds.{number_of, kind_numbered}
 use Rattle.text.specs.Bytes.{cond}
 use Rattle.field.specs.declared.Slot.{Slot}
 use Rattle.field.specs.declared.Group.{Group}
@@ -14,7 +15,7 @@ field_size = 14
 -- the numbers of a field
 abbrev pub slot_numbers : Slot → List ℕ
 slot_numbers r =
-    1 ∷ r.offset ∷ r.discriminant ∷ r.explicit ∷ r.option ∷ r.kind ∷ r.id ∷ r.default ∷ r.bits ∷ r.at ∷ r.typ
+    1 ∷ r.offset ∷ r.discriminant ∷ r.explicit ∷ r.option ∷ number_of r.kind ∷ r.id ∷ number_of r.default ∷ r.bits ∷ r.at ∷ r.typ
     ∷ r.words ∷ r.count ∷ r.next ∷ []
 
 abbrev pub group_numbers : Group → List ℕ
@@ -40,9 +41,9 @@ slot_in l = record {
   discriminant = get_or l 2 0;
   explicit = get_or l 3 0;
   option = get_or l 4 0;
-  kind = get_or l 5 0;
+  kind = kind_numbered (get_or l 5 0);
   id = get_or l 6 0;
-  default = get_or l 7 0;
+  default = kind_numbered (get_or l 7 0);
   bits = get_or l 8 0;
   at = get_or l 9 0;
   typ = get_or l 10 0;

@@ -1,6 +1,7 @@
 -- What the parts of a slot that are read one after the other say of the sheet: its type, its words, and all that follows its F
 -- row. Assumes nothing.
 use Rattle.std.specs.Prelude.{◌≡◌, Bool, true, false, ℕ, drop, Option, Some, None}
+use Rattle.terms.specs.Kinds.{number_of}
 use Rattle.text.specs.Bytes.{Str}
 use Rattle.row.specs.Rows.{rows}
 use Rattle.row.specs.Line.{text_at}
@@ -20,7 +21,7 @@ Gets (no k rest) P = Unit {0}
 
 -- r has the kind and the a of a type, and the position in s of the rows after it
 pub record TypeIs (s : Str) (r : TypeSpan) (ty : Ty) (rest : Rows) : Type 0 where
-  pub kind : tree.kind ty ≡ r.kind
+  pub kind : tree.kind ty ≡ number_of r.kind
   pub id : HasId ty r.id
   pub past : rows (drop r.past s) ≡ rest
 

@@ -1,5 +1,6 @@
 -- What a slot by value says of the sheet: it is the slot that is read at its F row. Assumes nothing.
 use Rattle.std.specs.Prelude.{◌≡◌, ℕ, ◌<◌, drop, length}
+use Rattle.terms.specs.Kinds.{number_of}
 use Rattle.text.specs.Bytes.{Str}
 use Rattle.row.specs.Rows.{rows, rest_of}
 use Rattle.row.specs.Line.{text_at}
@@ -30,9 +31,9 @@ pub record SlotIs (r : Slot) (sl : tree.Slot) : Type 0 where
   pub offset : sl.offset ≡ r.offset
   pub explicit : sl.explicit ≡ r.explicit
   pub option : sl.option ≡ r.option
-  pub kind : tree.kind sl.ty ≡ r.kind
+  pub kind : tree.kind sl.ty ≡ number_of r.kind
   pub id : HasId sl.ty r.id
-  pub default : sl.default.kind ≡ r.default
+  pub default : sl.default.kind ≡ number_of r.default
   pub bits : sl.default.bits ≡ r.bits
 
 -- and its positions in s are those of the F row, of the row after it, where the type stands, and of the words
@@ -42,5 +43,5 @@ pub record SlotHere (s : Str) (r : Slot) (f : SlotField) : Type 0 where
   pub discriminant : f.discriminant ≡ r.discriminant
   pub slot : SlotIs r f.slot
   pub typ : Has (read_type 16 (rows (drop r.typ s))) (λ ty. ty ≡ f.slot.ty)
-  pub words : Has (read_words (has_words r.explicit r.default) (rows (drop r.words s))) (λ ws. ws ≡ f.slot.words)
+  pub words : Has (read_words (has_words r.explicit (number_of r.default)) (rows (drop r.words s))) (λ ws. ws ≡ f.slot.words)
   pub count : r.count ≡ length f.slot.words

@@ -18,7 +18,7 @@ ghost use Rattle.field.specs.Parts.{Gets, TypeIs, most_words, SlotRead};
 ghost use Rattle.field.specs.Numbers.{slot_numbers, group_numbers, with_field, slot_in, group_in, field_in};
 
 use row::Line;
-use terms::kinds;
+use terms::Kind;
 use tree::{Counted, RefusedRow};
 
 // How many numbers are room enough for any field: what it is, and the thirteen of a slot.
@@ -45,10 +45,10 @@ pub struct Slot {
     pub explicit: u64,
     pub option: u64,
     // The type's kind, and the id of its node; of an AnyPointer, whether it is a parameter.
-    pub kind: u64,
+    pub kind: Kind,
     pub id: u64,
     // The default's kind and its bits.
-    pub default: u64,
+    pub default: Kind,
     pub bits: u64,
     // Where the F row stands, the type, the words, how many these are, and where the next field begins.
     pub at: usize,
@@ -93,9 +93,9 @@ impl Slot {
             self.discriminant,
             self.explicit,
             self.option,
-            self.kind,
+            self.kind.number(),
             self.id,
-            self.default,
+            self.default.number(),
             self.bits,
             self.at as u64,
             self.typ as u64,
@@ -130,9 +130,9 @@ impl Slot {
             discriminant,
             explicit,
             option,
-            kind,
+            kind: Kind::from(kind),
             id,
-            default,
+            default: Kind::from(default),
             bits,
             at: at as usize,
             typ: typ as usize,
@@ -194,7 +194,7 @@ impl Field {
 // What the row of a type says, kind and a, and where the rows after the type begin.
 #[derive(Clone, Copy)]
 struct TypeSpan {
-    kind: u64,
+    kind: Kind,
     id: u64,
     past: usize,
 }
@@ -208,21 +208,17 @@ fn type_span(s: &[u8], at: usize) -> TypeSpan
     let got = row::next(s, at);
     let Ok(Line::Typ { kind, a, b, .. }) = got.line else {
         return TypeSpan {
-            kind: kinds::VOID,
+            kind: Kind::Void,
             id: 0,
             past: got.next,
         };
     };
     let past = match kind {
-        kinds::LIST => types::past(s, got.next, 1),
-        kinds::ENUM..=kinds::INTERFACE => types::past(s, got.next, b),
+        Kind::List => types::past(s, got.next, 1),
+        Kind::Enum | Kind::Struct | Kind::Interface => types::past(s, got.next, b),
         _ => got.next,
     };
-    TypeSpan {
-        kind: kind.min(kinds::ANY_POINTER),
-        id: a,
-        past,
-    }
+    TypeSpan { kind, id: a, past }
 }
 
 // The W rows at a position, up to 255, where there may be any.

@@ -6,6 +6,7 @@ use mathlib.Core.List.{append_assoc}
 use Rattle.std.specs.Prelude.{Result, Ok}
 use native.Mathlib.Omega.{arith}
 use borrow.Author.Tests.{ne_eqb, le-leb, lt-leb}
+use Rattle.terms.specs.Kinds.{number_of}
 use Rattle.text.specs.Bytes.{Str, ascii, cond, both, same}
 use Rattle.text.specs.Text.{Wrote}
 use Rattle.text.specs.declared.Text.{Text}
@@ -234,21 +235,23 @@ module _ (sheet : Sheet) (s : tree.Slot) (is_reader is_fn : Bool) (r : Slot) (is
   unfolding result_of
   with-option option e = rw e refl
 
-  prim-out : r.kind ≤ 11 → result_out sheet s is_reader is_fn ≡ ok (as_function is_fn (primitive_text r.kind))
+  prim-out : number_of r.kind ≤ 11
+      → result_out sheet s is_reader is_fn ≡ ok (as_function is_fn (primitive_text (number_of r.kind)))
   unfolding result_of
   prim-out le =
-      with-option false (no-option s (rw (is.kind, lt-leb 12 r.kind (omega arith)) refl))
-      ∙ at_plain (λ ty. result_of sheet ty (module_leaf is_reader) false is_fn ≡ ok (as_function is_fn (primitive_text r.kind)))
-      s.ty r.id r.kind is.id is.kind le
+      with-option false (no-option s (rw (is.kind, lt-leb 12 (number_of r.kind) (omega arith)) refl))
+      ∙ at_plain (λ ty. result_of sheet ty (module_leaf is_reader) false is_fn
+      ≡ ok (as_function is_fn (primitive_text (number_of r.kind))))
+      s.ty r.id (number_of r.kind) is.id is.kind le
       (rw (
-        prim_text sheet (module_leaf is_reader) r.kind le,
-        ne_eqb r.kind 15 (λ z. let q : ⊥ = omega arith in absurd q),
-        ne_eqb r.kind 17 (λ z. let q : ⊥ = omega arith in absurd q),
-        ne_eqb r.kind 18 (λ z. let q : ⊥ = omega arith in absurd q),
-        le-leb r.kind 11 le,
+        prim_text sheet (module_leaf is_reader) (number_of r.kind) le,
+        ne_eqb (number_of r.kind) 15 (λ z. let q : ⊥ = omega arith in absurd q),
+        ne_eqb (number_of r.kind) 17 (λ z. let q : ⊥ = omega arith in absurd q),
+        ne_eqb (number_of r.kind) 18 (λ z. let q : ⊥ = omega arith in absurd q),
+        le-leb (number_of r.kind) 11 le,
       ) refl)
 
-  enum-out : r.kind ≡ 15 → result_out sheet s is_reader is_fn
+  enum-out : number_of r.kind ≡ 15 → result_out sheet s is_reader is_fn
       ≡ (get_qualified_module sheet r.id then λ m. ok (arrow is_fn ++ enum_result sheet.root m))
   unfolding result_of type_string same
   enum-out k =
@@ -260,7 +263,7 @@ module _ (sheet : Sheet) (s : tree.Slot) (is_reader is_fn : Bool) (r : Slot) (is
       (λ m. ok (arrow is_fn ++ enum_result sheet.root m))
       (λ m. ap ok (sym (fn_arrow is_fn (enum_result sheet.root m) refl))))
 
-  client-out : r.kind ≡ 17 → result_out sheet s is_reader is_fn
+  client-out : number_of r.kind ≡ 17 → result_out sheet s is_reader is_fn
       ≡ (type_string s.ty sheet Client then λ c. ok (arrow is_fn ++ fallible_result sheet.root c))
   unfolding result_of
   client-out k =
@@ -283,7 +286,7 @@ module _ (sheet : Sheet) (s : tree.Slot) (is_reader is_fn : Bool) (r : Slot) (is
       result : ℕ → Scopes → Out Str
       result i ss = client i ss then λ c. ok (arrow is_fn ++ fallible_result sheet.root c)
 
-  any_out : r.kind ≡ 18 → r.id ≡ 0 → result_out sheet s is_reader is_fn
+  any_out : number_of r.kind ≡ 18 → r.id ≡ 0 → result_out sheet s is_reader is_fn
       ≡ (type_string s.ty sheet (module_leaf is_reader) then λ w. ok (arrow is_fn ++ optional (not (eqb r.option 0)) w))
   unfolding result_of type_string
   any_out k i =
@@ -304,13 +307,14 @@ module _ (sheet : Sheet) (s : tree.Slot) (is_reader is_fn : Bool) (r : Slot) (is
           rw (append_assoc sheet.root (ascii "::any_pointer::") (display (module_leaf is_reader)))
           (not-unit sheet.root (ascii ":any_pointer::" ++ display (module_leaf is_reader)))
 
-  fails-out : 11 < r.kind → (r.kind ≡ 15 → ⊥) → (r.kind ≡ 17 → ⊥) → (r.kind ≡ 18 → r.id ≡ 0 → ⊥)
+  fails-out : 11 < number_of r.kind → (number_of r.kind ≡ 15 → ⊥) → (number_of r.kind ≡ 17 → ⊥)
+      → (number_of r.kind ≡ 18 → r.id ≡ 0 → ⊥)
       → result_out sheet s is_reader is_fn ≡ (type_string s.ty sheet (module_leaf is_reader) then λ w. ok
       (arrow is_fn ++ fallible_result sheet.root (optional (not (eqb r.option 0)) w)))
   unfolding result_of
   fails-out lo n15 n17 any =
       with-option option
-      (has-option s r is (rw (is.kind, le-leb 12 r.kind (omega arith), ne_eqb _ _ n15, ne_eqb _ _ n17) refl))
+      (has-option s r is (rw (is.kind, le-leb 12 (number_of r.kind) (omega arith), ne_eqb _ _ n15, ne_eqb _ _ n17) refl))
       ∙ then_same (type_string s.ty sheet (module_leaf is_reader))
       (λ w. result_type sheet s.ty (optional option w) then λ result. ok (as_function is_fn result))
       (λ w. ok (arrow is_fn ++ fallible_result sheet.root (optional option w)))
@@ -335,12 +339,13 @@ module _ (sheet : Sheet) (is_reader is_fn : Bool) (bytes : Str) (r : Slot) (f : 
   typed : (P : Ty → Type 0) → On (read_type 16 (rows (drop r.typ bytes))) P → P f.slot.ty
   typed P x = on-has P (read_type 16 (rows (drop r.typ bytes))) f.slot.ty x h.typ
 
-  pub prim_here : {l l' : List ℕ} {t t₁ : Text} → r.kind ≤ 11 → Wrote l t (as_function is_fn (primitive_text r.kind)) l' t₁
+  pub prim_here : {l l' : List ℕ} {t t₁ : Text} → number_of r.kind ≤ 11
+      → Wrote l t (as_function is_fn (primitive_text (number_of r.kind))) l' t₁
       → Writes out l t l' (Ok t₁)
   prim_here le w = rw (prim-out sheet f.slot is_reader is_fn r h.slot le) (whole w)
 
   module _ {l l₁ : List ℕ} {t t₁ : Text} (arrowed : Wrote l t (arrow is_fn) l₁ t₁) (l' : List ℕ) (q : Result Text Refusal) where
-    pub enum-here : r.kind ≡ 15
+    pub enum-here : number_of r.kind ≡ 15
         → Writes (get_qualified_module sheet r.id then λ typ. ok (enum_result sheet.root typ)) l₁ t₁ l' q
         → Writes out l t l' q
     enum-here k x =
@@ -358,17 +363,18 @@ module _ (sheet : Sheet) (is_reader is_fn : Bool) (bytes : Str) (r : Slot) (f : 
         front g (type_string f.slot.ty sheet leaf) arrowed
         (typed (λ ty. Writes (type_string ty sheet leaf then λ typ. ok (g typ)) l₁ t₁ l' q) x)
 
-    pub client-here : r.kind ≡ 17 → Typed Client (fallible_result sheet.root) → Writes out l t l' q
+    pub client-here : number_of r.kind ≡ 17 → Typed Client (fallible_result sheet.root) → Writes out l t l' q
     client-here k x =
         rw (client-out sheet f.slot is_reader is_fn r h.slot k) (arrow_typed Client (fallible_result sheet.root) x)
 
     module _ (leaf : Leaf) (leaf-is : leaf ≡ module_leaf is_reader) where
-      pub any_here : r.kind ≡ 18 → r.id ≡ 0 → Typed leaf (optional (not (eqb r.option 0))) → Writes out l t l' q
+      pub any_here : number_of r.kind ≡ 18 → r.id ≡ 0 → Typed leaf (optional (not (eqb r.option 0))) → Writes out l t l' q
       any_here k i x =
           rw (any_out sheet f.slot is_reader is_fn r h.slot k i, ← leaf-is)
           (arrow_typed leaf (optional (not (eqb r.option 0))) x)
 
-      pub fails-here : 11 < r.kind → (r.kind ≡ 15 → ⊥) → (r.kind ≡ 17 → ⊥) → (r.kind ≡ 18 → r.id ≡ 0 → ⊥)
+      pub fails-here : 11 < number_of r.kind → (number_of r.kind ≡ 15 → ⊥) → (number_of r.kind ≡ 17 → ⊥)
+          → (number_of r.kind ≡ 18 → r.id ≡ 0 → ⊥)
           → Typed leaf (λ w. fallible_result sheet.root (optional (not (eqb r.option 0)) w)) → Writes out l t l' q
       fails-here lo n15 n17 any x =
           rw (fails-out sheet f.slot is_reader is_fn r h.slot lo n15 n17 any, ← leaf-is)

@@ -5,6 +5,7 @@ use mathlib.Core.Path.{refl, sym, ap, ◌∙◌}
 use Rattle.std.specs.Prelude.{None, Some, Ok}
 use Rattle.codegen_types.specs.Written.{Writes}
 use borrow.Author.Tests.{eqb-true, leb-true}
+use Rattle.terms.specs.Kinds.{number_of}
 use Rattle.text.specs.Bytes.{Str, unit, cond}
 use Rattle.text.specs.Lines.{stringify}
 use Rattle.text.specs.Text.{Wrote}
@@ -39,15 +40,15 @@ use Rattle.getter.proofs.ResultLaws.{at_plain, prim_text}
 
 -- a declaration by a slot's numbers is that of the tree's slot, where the default is of the slot's type
 pub declared-here : {l : List ℕ} {t : Text} {l' : List ℕ} {t' : Text} (root name bytes : Str) (r : Slot) (f : SlotField)
-    → SlotHere bytes r f → r.kind ≡ r.default → Wrote l t (declared_by root name bytes r) l' t'
+    → SlotHere bytes r f → number_of r.kind ≡ number_of r.default → Wrote l t (declared_by root name bytes r) l' t'
     → Wrote l t (declared (default_declaration root name f.slot)) l' t'
 declared-here {l} {t} {l'} {t'} root name bytes r f h k w =
-    rw (h.slot.explicit, h.slot.kind) (go (has_words r.explicit r.kind) refl w)
+    rw (h.slot.explicit, h.slot.kind) (go (has_words r.explicit (number_of r.kind)) refl w)
   where
     there : Rows
     there = rows (drop r.words bytes)
 
-    go : (b : Bool) → has_words r.explicit r.kind ≡ b
+    go : (b : Bool) → has_words r.explicit (number_of r.kind) ≡ b
         → Wrote l t (cond b (declaration_text root (default_name name) r.count (words_at r.count there)) []) l' t'
         → Wrote l t (declared (cond b (Some (word_array_declaration root (default_name name) f.slot.words true)) None)) l' t'
     go true e x =
@@ -60,20 +61,20 @@ declared-here {l} {t} {l'} {t'} root name bytes r f h k w =
 fragment-typ : (sheet : Sheet) (root name : Str) (s : tree.Slot) (is_reader is_fn : Bool) (r : Slot) → SlotIs r s
     → (leaf : Leaf) (w : Str)
     → type_string s.ty sheet leaf ≡ ok w
-    → fragment_of root name s is_reader is_fn (primitive_text r.kind) ≡ fragment_of root name s is_reader is_fn w
+    → fragment_of root name s is_reader is_fn (primitive_text (number_of r.kind)) ≡ fragment_of root name s is_reader is_fn w
 fragment-typ sheet root name s is_reader is_fn r is leaf w e = go (leb (kind s.ty) 11) refl
   where
-    plain-text : kind s.ty ≤ 11 → type_string s.ty sheet leaf ≡ ok (primitive_text r.kind)
+    plain-text : kind s.ty ≤ 11 → type_string s.ty sheet leaf ≡ ok (primitive_text (number_of r.kind))
     plain-text le =
         at_plain (λ ty. type_string ty sheet leaf
-        ≡ ok (primitive_text r.kind)) s.ty r.id r.kind is.id is.kind (rw is.kind at le)
-        (prim_text sheet leaf r.kind (rw is.kind at le))
+        ≡ ok (primitive_text (number_of r.kind))) s.ty r.id (number_of r.kind) is.id is.kind (rw is.kind at le)
+        (prim_text sheet leaf (number_of r.kind) (rw is.kind at le))
 
     go : (b : Bool) → leb (kind s.ty) 11 ≡ b
-        → fragment_of root name s is_reader is_fn (primitive_text r.kind) ≡ fragment_of root name s is_reader is_fn w
+        → fragment_of root name s is_reader is_fn (primitive_text (number_of r.kind)) ≡ fragment_of root name s is_reader is_fn w
     go true f =
         let p = plain-text (leb-true (kind s.ty) 11 f) in
-        let q : primitive_text r.kind ≡ w = cc in
+        let q : primitive_text (number_of r.kind) ≡ w = cc in
         ap (fragment_of root name s is_reader is_fn) q
     go false f = rw f refl
 
@@ -81,7 +82,7 @@ fragment-typ sheet root name s is_reader is_fn r is leaf w e = go (leb (kind s.t
 abbrev code_text : Str → Str → tree.Slot → Bool → Bool → Slot → Str
 code_text root name s is_reader is_fn r =
     stringify (getter_code s is_reader (cond (eqb s.option 0) false true)
-    (fragment_of root name s is_reader is_fn (primitive_text r.kind)))
+    (fragment_of root name s is_reader is_fn (primitive_text (number_of r.kind))))
 
 -- the outcome of a slot r of the tree's s, by those of its result type, its option and its default
 module _ (sheet : Sheet) (name : Str) (s : tree.Slot) (is_reader is_fn : Bool) (r : Slot) (is : SlotIs r s) where

@@ -2,6 +2,7 @@
 #![tactic(auto)]
 
 ghost use Rattle.std.specs.Prelude.{◌≡◌, Bool, drop};
+ghost use Rattle.terms.specs.Kinds.{number_of};
 ghost use Rattle.text.specs.Bytes.{Str};
 ghost use Rattle.text.specs.Text.{Wrote};
 ghost use Rattle.row.specs.Rows.{rows};
@@ -20,7 +21,7 @@ ghost use Rattle.getter.specs.Result.{arrow, enum_result, fallible_result, resul
 use codegen_types::{Leaf, Lifetime};
 use field::Slot;
 use nodes::Source;
-use terms::{Refusal, kinds};
+use terms::{Kind, Refusal};
 use text::Text;
 
 // The leaf of a Reader's getter, or a Builder's.
@@ -40,7 +41,7 @@ fn option_allowed(slot: Slot) -> Result<(), Refusal>
     if slot.option == 0 {
         return Ok(());
     }
-    if slot.kind != kinds::INTERFACE && codegen::is_pointer(slot.kind) {
+    if slot.kind != Kind::Interface && codegen::is_pointer(slot.kind) {
         return Ok(());
     }
     Err(Refusal::OptionMisplaced)
@@ -68,17 +69,17 @@ fn arrow(is_fn: bool, t: Text, buf: &mut [u8]) -> Text
 }
 
 // The result type of a Bool or a number, and of Void, which a function leaves out.
-fn prim_result(kind: u64, is_fn: bool, t: Text, buf: &mut [u8]) -> Text
-    ensures { Wrote buf.old t (as_function is_fn (primitive_text kind)) buf.new result }
+fn prim_result(kind: Kind, is_fn: bool, t: Text, buf: &mut [u8]) -> Text
+    ensures { Wrote buf.old t (as_function is_fn (primitive_text (number_of kind))) buf.new result }
 {
-    if kind == kinds::VOID {
-        if is_fn {
-            return t;
+    match kind {
+        Kind::Void if is_fn => t,
+        Kind::Void => t.bytes(buf, b"()"),
+        _ => {
+            let t = arrow(is_fn, t, buf);
+            codegen_types::type_name(kind, t, buf)
         }
-        return t.bytes(buf, b"()");
     }
-    let t = arrow(is_fn, t, buf);
-    codegen_types::type_name(kind, t, buf)
 }
 
 // The result type of an enum, whose node has this id.
@@ -153,16 +154,16 @@ fn result_type(
     ensures within { Within buf.old t buf.new result }
 {
     let kind = slot.kind;
-    if kind <= kinds::FLOAT64 {
+    if kind.is_primitive() {
         return Ok(prim_result(kind, is_fn, t, buf));
     }
     let t = arrow(is_fn, t, buf);
     let leaf = module_leaf(is_reader);
     let option = slot.option != 0;
     match kind {
-        kinds::ENUM => enum_result(source, slot.id, t, buf),
-        kinds::INTERFACE => fallible_result(source, slot.typ, Leaf::Client, false, t, buf),
-        kinds::ANY_POINTER if slot.id == 0 => optional_type(source, slot.typ, leaf, option, t, buf),
+        Kind::Enum => enum_result(source, slot.id, t, buf),
+        Kind::Interface => fallible_result(source, slot.typ, Leaf::Client, false, t, buf),
+        Kind::AnyPointer if slot.id == 0 => optional_type(source, slot.typ, leaf, option, t, buf),
         _ => fallible_result(source, slot.typ, leaf, option, t, buf),
     }
 }

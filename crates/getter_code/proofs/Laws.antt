@@ -1,10 +1,13 @@
 -- The parts of a getter's code, one after the other, are its text; which arm a slot's kind leads to; and the code of a slot of
 -- the tree is that of its numbers. Assumes nothing.
-use Rattle.std.specs.Prelude.{◌≡◌, ℕ, ◌<◌, ◌≤◌, Bool, true, false, not, eqb, List, [], ◌++◌}
+use Rattle.std.specs.Prelude.{◌≡◌, ℕ, ◌<◌, Bool, true, false, not, eqb, List, [], ◌++◌}
 use mathlib.Core.Path.{refl, sym, ap, ◌∙◌}
+use mathlib.Core.Logic.{◌⊎◌, inl, inr}
 use mathlib.Core.List.{append_assoc}
 use native.Mathlib.Omega.{arith}
-use borrow.Author.Tests.{eqb-true, eqb-false, ne_eqb, le-leb, lt-leb}
+use borrow.Author.Tests.{eqb-true, eqb-false, ne_eqb, le-leb}
+use Rattle.terms.specs.Kinds.{number_of, is_primitive}
+use Rattle.terms.specs.declared.kinds.Kind.TheVariants as kinds
 use Rattle.text.specs.Bytes.{Str, ascii, unit, cond}
 use Rattle.text.specs.Text.{Wrote}
 use Rattle.text.specs.declared.Text.{Text}
@@ -110,31 +113,31 @@ module _ (k a : ℕ) where
     other : is_parameter (type_by k a) ≡ false
     other = no-parameter (type_by k a) (λ f. n18 (sym (kind_by k a) ∙ f))
 
-    pub fallible-never : k < 12 → false ≡ is_fallible (type_by k a)
-    fallible-never lt = sym (rw (other, kind_by k a, ne_eqb k 18 n18, le-leb k 11 (omega arith)) refl)
+    pub fallible-other : not (is_primitive k) ≡ is_fallible (type_by k a)
+    fallible-other = sym (rw (other, kind_by k a, ne_eqb k 18 n18) (whole (is_primitive k)))
+      where
+        whole : (b : Bool) → cond b false true ≡ not b
+        whole true = refl
+        whole false = refl
 
-    pub fallible-always : 12 ≤ k → true ≡ is_fallible (type_by k a)
-    fallible-always le = sym (rw (other, kind_by k a, ne_eqb k 18 n18, lt-leb k 11 le) refl)
-
-module _ (root name : Str) (r : Slot) (is_reader is_fn : Bool) (n0 : r.kind ≡ 0 → ⊥) (n1 : r.kind ≡ 1 → ⊥) where
-  pub fragment-number : r.kind < 12
-      → get_data_field is_reader (primitive_text r.kind) r.offset (getter_mask (value r.kind r.bits))
+module _ (root name : Str) (r : Slot) (is_reader is_fn : Bool) where
+  pub fragment-number :
+      (number_of r.kind ≡ 0 → ⊥) → (number_of r.kind ≡ 1 → ⊥) → number_of r.kind < 12
+      → get_data_field is_reader (primitive_text (number_of r.kind)) r.offset (getter_mask (value (number_of r.kind) r.bits))
       ≡ fragment_by root name r is_reader is_fn
-  fragment-number lt =
-      sym (rw (kind_by r.kind r.id, ne_eqb r.kind 0 n0, ne_eqb r.kind 1 n1, le-leb r.kind 11 (omega arith)) refl)
+  fragment-number n0 n1 lt =
+      let k = number_of r.kind in
+      sym (rw (kind_by k r.id, ne_eqb k 0 n0, ne_eqb k 1 n1, le-leb k 11 (omega arith)) refl)
 
-  pub fragment-pointer : 12 ≤ r.kind → (r.kind ≡ 15 → ⊥) → (r.kind ≡ 17 → ⊥) → (r.kind ≡ 18 → ⊥)
+  pub fragment-pointer :
+      (r.kind ≡ kinds.Text) ⊎ ((r.kind ≡ kinds.Data) ⊎ ((r.kind ≡ kinds.List) ⊎ (r.kind ≡ kinds.Struct)))
       → from_pointer root is_reader r.offset (pointer_default r.explicit name) ≡ fragment_by root name r is_reader is_fn
-  fragment-pointer h n15 n17 n18 =
-      sym (rw (
-        kind_by r.kind r.id,
-        ne_eqb r.kind 0 n0,
-        ne_eqb r.kind 1 n1,
-        lt-leb r.kind 11 h,
-        ne_eqb r.kind 15 n15,
-        ne_eqb r.kind 17 n17,
-        ne_eqb r.kind 18 n18,
-      ) refl)
+  fragment-pointer e = elim e [
+    | inl e ↦ sym (rw (kind_by (number_of r.kind) r.id, e) refl)
+    | inr (inl e) ↦ sym (rw (kind_by (number_of r.kind) r.id, e) refl)
+    | inr (inr (inl e)) ↦ sym (rw (kind_by (number_of r.kind) r.id, e) refl)
+    | inr (inr (inr e)) ↦ sym (rw (kind_by (number_of r.kind) r.id, e) refl)
+  ]
 
 -- ---- the code with an option
 
@@ -185,36 +188,37 @@ option-lines is_reader fallible o fragment =
 -- ---- the code of a slot of the tree
 
 module _ (r : Slot) (s : tree.Slot) (i : SlotIs r s) where
-  both-parameter : r.kind ≡ 18 → is_parameter (type_by r.kind r.id) ≡ is_parameter s.ty
+  both-parameter : number_of r.kind ≡ 18 → is_parameter (type_by (number_of r.kind) r.id) ≡ is_parameter s.ty
   both-parameter k =
-      parameter_by r.kind r.id k
+      parameter_by (number_of r.kind) r.id k
       ∙ sym (parameter-is s.ty r.id i.id (i.kind ∙ k))
 
-  same-parameter : (b : Bool) → eqb r.kind 18 ≡ b → is_parameter (type_by r.kind r.id) ≡ is_parameter s.ty
-  same-parameter true e = both-parameter (eqb-true r.kind 18 e)
+  same-parameter : (b : Bool) → eqb (number_of r.kind) 18 ≡ b → is_parameter (type_by (number_of r.kind) r.id) ≡ is_parameter s.ty
+  same-parameter true e = both-parameter (eqb-true (number_of r.kind) 18 e)
   same-parameter false e =
-      let n = eqb-false r.kind 18 e in
-      no-parameter (type_by r.kind r.id) (λ f. n (sym (kind_by r.kind r.id) ∙ f))
+      let n = eqb-false (number_of r.kind) 18 e in
+      no-parameter (type_by (number_of r.kind) r.id) (λ f. n (sym (kind_by (number_of r.kind) r.id) ∙ f))
       ∙ sym (no-parameter s.ty (λ f. n (sym i.kind ∙ f)))
 
-  same_kind : kind (type_by r.kind r.id) ≡ kind s.ty
-  same_kind = kind_by r.kind r.id ∙ sym i.kind
+  same_kind : kind (type_by (number_of r.kind) r.id) ≡ kind s.ty
+  same_kind = kind_by (number_of r.kind) r.id ∙ sym i.kind
 
-  same-fallible : is_fallible (type_by r.kind r.id) ≡ is_fallible s.ty
-  same-fallible = rw (same-parameter (eqb r.kind 18) refl, same_kind) refl
+  same-fallible : is_fallible (type_by (number_of r.kind) r.id) ≡ is_fallible s.ty
+  same-fallible = rw (same-parameter (eqb (number_of r.kind) 18) refl, same_kind) refl
 
   module _ (d : s.default.kind ≡ kind s.ty) (root name : Str) (is_reader is_fn : Bool) where
-    same-fragment : fragment_by root name r is_reader is_fn ≡ fragment_of root name s is_reader is_fn (primitive_text r.kind)
+    same-fragment : fragment_by root name r is_reader is_fn
+        ≡ fragment_of root name s is_reader is_fn (primitive_text (number_of r.kind))
     same-fragment = rw (
-      same-parameter (eqb r.kind 18) refl,
+      same-parameter (eqb (number_of r.kind) 18) refl,
       same_kind,
       ← i.offset,
       ← i.explicit,
-      ← default-is s.default r.kind r.bits (d ∙ i.kind) i.bits,
+      ← default-is s.default (number_of r.kind) r.bits (d ∙ i.kind) i.bits,
     ) refl
 
     pub code_of : {l : List ℕ} {t : Text} {l' : List ℕ} {t' : Text}
         → Wrote l t (stringify (code_by root name r is_reader is_fn)) l' t'
         → Wrote l t (stringify (getter_code s is_reader (cond (eqb s.option 0) false true)
-        (fragment_of root name s is_reader is_fn (primitive_text r.kind)))) l' t'
+        (fragment_of root name s is_reader is_fn (primitive_text (number_of r.kind))))) l' t'
     code_of w = rw (i.option, ← same-fragment, ← same-fallible, i.offset) w

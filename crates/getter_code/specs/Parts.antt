@@ -1,5 +1,6 @@
 -- The texts of the parts from which a getter's code is written, and a slot of the tree by a slot's numbers. Assumes nothing.
 use Rattle.std.specs.Prelude.{ℕ, Bool, true, false, [], ◌==◌}
+use Rattle.terms.specs.Kinds.{number_of}
 use Rattle.text.specs.Bytes.{Str, ascii, cond}
 use Rattle.text.specs.Lines.{FormattedText}
 use Rattle.tree.specs.Tree as tree
@@ -45,14 +46,14 @@ slot_by r = record {
   offset = r.offset;
   explicit = r.explicit;
   option = r.option;
-  ty = type_by r.kind r.id;
-  default = value r.kind r.bits;
+  ty = type_by (number_of r.kind) r.id;
+  default = value (number_of r.kind) r.bits;
   words = [];
 }
 
 -- its fragment and its code
 abbrev pub fragment_by : Str → Str → Slot → Bool → Bool → Str
-fragment_by root name r is_reader is_fn = fragment_of root name (slot_by r) is_reader is_fn (primitive_text r.kind)
+fragment_by root name r is_reader is_fn = fragment_of root name (slot_by r) is_reader is_fn (primitive_text (number_of r.kind))
 
 abbrev pub code_by : Str → Str → Slot → Bool → Bool → FormattedText
 code_by root name r is_reader is_fn =

@@ -2,6 +2,7 @@
 #![tactic(auto)]
 
 ghost use Rattle.std.specs.Prelude.{◌≡◌};
+ghost use Rattle.terms.specs.Kinds.{number_of};
 ghost use Rattle.text.specs.Lines.{stringify};
 ghost use Rattle.text.specs.Text.{Wrote};
 ghost use Rattle.codegen.specs.Getter.{void, pointer_default, from_pointer, capability, untyped};
@@ -10,7 +11,7 @@ ghost use Rattle.getter_code.specs.Parts.{from_pointer_head, capability_head, an
 ghost use Rattle.getter_code.specs.Parts.{null_head, absent, some_end, type_by, fragment_by, code_by};
 
 use field::Slot;
-use terms::kinds;
+use terms::Kind;
 use text::Text;
 
 // The fragment of Void: a function has none.
@@ -143,37 +144,31 @@ fn fragment(
     let kind = slot.kind;
     let bits = slot.bits;
     match kind {
-        kinds::VOID => void(is_fn, t, buf),
-        kinds::BOOL => {
+        Kind::Void => void(is_fn, t, buf),
+        Kind::Bool => {
             let mask = codegen::getter_mask(kind, bits);
             calls::get_bool_field(slot.offset, mask, is_reader, t, buf)
         },
-        kinds::INT8..=kinds::FLOAT64 => codegen::get_number(
-            kind,
-            slot.offset,
-            bits,
-            is_reader,
-            t,
-            buf,
-        ),
-        kinds::ENUM => {
+        Kind::Enum => {
             let mask = codegen::getter_mask(kind, bits);
             calls::get_enum_field(slot.offset, mask, is_reader, t, buf)
         },
-        kinds::INTERFACE => capability(root, slot.offset, is_reader, t, buf),
-        kinds::ANY_POINTER => untyped(root, slot.id != 0, slot.offset, is_reader, t, buf),
-        _ => from_pointer(root, name, slot.offset, slot.explicit, is_reader, t, buf),
+        Kind::Interface => capability(root, slot.offset, is_reader, t, buf),
+        Kind::AnyPointer => untyped(root, slot.id != 0, slot.offset, is_reader, t, buf),
+        Kind::Text | Kind::Data | Kind::List | Kind::Struct => {
+            from_pointer(root, name, slot.offset, slot.explicit, is_reader, t, buf)
+        }
+        _ => codegen::get_number(kind, slot.offset, bits, is_reader, t, buf),
     }
 }
 
 // is_fallible, whether the result can be an error: for an enum, a parameter and every pointer but AnyPointer it can.
 fn is_fallible(slot: Slot) -> bool
-    ensures { result ≡ is_fallible (type_by slot.kind slot.id) }
+    ensures { result ≡ is_fallible (type_by (number_of slot.kind) slot.id) }
 {
     match slot.kind {
-        kinds::VOID..=kinds::FLOAT64 => false,
-        kinds::ANY_POINTER => slot.id != 0,
-        _ => true,
+        Kind::AnyPointer => slot.id != 0,
+        kind => !kind.is_primitive(),
     }
 }
 

@@ -1,6 +1,6 @@
 -- Lines: which bytes they don't hold, where they end, the spaces in front, and what a list of them does. Assumes nothing.
 use Rattle.std.specs.Option.{option_map, option_and_then}
-use Rattle.std.specs.Prelude.{◌≡◌, ℕ, zero, suc, ◌+◌, ◌-◌, ◌/◌, ◌%◌, ◌^◌, ◌<◌, ◌≤◌}
+use Rattle.std.specs.Prelude.{◌≡◌, ℕ, zero, suc, ◌+◌, ◌-◌, ◌%◌, ◌^◌, ◌<◌}
 use Rattle.std.specs.Prelude.{Bool, true, false, eqb, ltb, List, [], ◌∷◌, ◌++◌}
 use mathlib.Core.Path.{refl, ap, ap₂, ◌∙◌, fun_ext}
 use Rattle.std.specs.Prelude.{Option, None, Some}
@@ -11,18 +11,18 @@ use Rattle.text.specs.Bytes.{Str, ascii, unit, cond, both}
 use Rattle.text.specs.Decimal.{decimal, signed}
 use Rattle.text.specs.Lines.{FormattedText, to_lines, stringify, spaces, ended}
 use Rattle.text.proofs.LinesLaws.{stringify-lines}
-use Rattle.text.proofs.DecimalLaws.{decimal-low, decimal-high, signed_low, signed_high}
-use Rattle.calls.specs.Calls.{get_bool_field, get_data_field, set_bool_field, set_data_field, set_tag, clear_pointer}
+use Rattle.text.proofs.DecimalLaws.{by_last_digit, signed_low, signed_high}
+use Rattle.calls.specs.Calls.{member, get_bool_field, get_data_field, set_bool_field, set_data_field, set_tag, clear_pointer}
 use Rattle.calls.specs.Calls.{not_null, tag_test}
 use Rattle.record.specs.Lines.{Zero, of_slot, of_tag, of_pointer, get_line, set_line, zeroing_line}
 use Rattle.record.specs.Masks.{half_of, get_mask_text, set_mask_text, mask_bits}
 use Rattle.record.specs.Record.{Record}
-use Rattle.record.specs.Types.{Num, int, uint, float32, float64, type_name_of, Kind, bool, num, enum, place_of, tag_place}
+use Rattle.record.specs.Types.{Num, int, uint, type_name_of, Kind, bool, num, enum, place_of, tag_place}
+use Rattle.record.specs.declared.Width.TheVariants.{One}
 use Rattle.meaning.specs.Reading.{value, constant}
 use Rattle.meaning.specs.Claims.{MaskFits}
 use Rattle.meaning.specs.Meaning.{Op, set_op, clear_op, writes, whole, lines, push_byte, trim, inner, prepend, run_op, run_line}
 use Rattle.meaning.specs.Meaning.{run_lines}
-use Rattle.meaning.proofs.ReadingLaws.{by_type}
 use Rattle.meaning.proofs.CallLaws.{writes-set, writes_tag, writes-zero, writes-zero_tag, writes-clear}
 
 -- ---- no byte 10
@@ -40,17 +40,8 @@ whole-digit : (x : ℕ) → whole ((48 + x) ∷ []) ≡ true
 whole-digit x = rw (ne_eqb (48 + x) 10 (λ e. omega arith))
 
 pub whole-decimal : (n : ℕ) → whole (decimal n) ≡ true
-whole-decimal n = go n n (omega arith)
-  where
-    go : (f n : ℕ) → n ≤ f → whole (decimal n) ≡ true
-    go zero n h = rw (decimal-low n (omega arith)) (whole-digit n)
-    go (suc f) n h = pick (ltb n 10) refl (go f (n / 10))
-      where
-        pick : (b : Bool) → ltb n 10 ≡ b → (n / 10 ≤ f → whole (decimal (n / 10)) ≡ true) → whole (decimal n) ≡ true
-        pick true e ih = rw (decimal-low n (ltb-true n 10 e)) (whole-digit n)
-        pick false e ih =
-            let big = ltb-false n 10 e in
-            rw (decimal-high n big, whole_append, ih (omega arith)) (whole-digit (n % 10))
+whole-decimal =
+    by_last_digit (λ n s. whole s ≡ true) (λ n l. whole-digit n) (λ n l f. rw (whole_append, f) (whole-digit (n % 10)))
 
 whole-signed : (half m : ℕ) → whole (signed half m) ≡ true
 whole-signed half m = go (ltb m half) refl
@@ -60,7 +51,9 @@ whole-signed half m = go (ltb m half) refl
     go false e = rw (signed_high half m (ltb-false m half e)) (whole-decimal (half + half - m))
 
 pub whole-name : (t : Num) → whole (type_name_of t) ≡ true
-whole-name t = by_type (λ t. whole (type_name_of t) ≡ true) refl refl refl refl refl refl refl refl refl refl t
+whole-name (int One) = refl
+whole-name (uint One) = refl
+whole-name _ = refl
 
 whole-truth : (b : Bool) → whole (cond b (ascii "false") (ascii "true")) ≡ true
 whole-truth true = refl
@@ -70,21 +63,19 @@ pub whole-get_mask : (k : Kind) (m : ℕ) → whole (get_mask_text k m) ≡ true
 unfolding get_mask_text
 whole-get_mask bool m = whole-truth (eqb m 0)
 whole-get_mask (num (int w)) m = whole-signed (half_of w) m
-whole-get_mask (num (uint w)) m = whole-decimal m
-whole-get_mask (num float32) m = whole-decimal m
-whole-get_mask (num float64) m = whole-decimal m
-whole-get_mask enum m = whole-decimal m
+whole-get_mask _ m = whole-decimal m
 
 pub whole-set_mask : (k : Kind) (m : ℕ) → whole (set_mask_text k m) ≡ true
 unfolding set_mask_text
 whole-set_mask bool m = whole-truth (eqb m 0)
 whole-set_mask (num (int w)) m = whole-signed (half_of w) m
-whole-set_mask (num (uint w)) m = whole-decimal m
-whole-set_mask (num float32) m = simp (whole_append, whole-decimal)
-whole-set_mask (num float64) m = simp (whole_append, whole-decimal)
-whole-set_mask enum m = whole-decimal m
+whole-set_mask _ m = simp (whole_append, whole-decimal)
 
-pub ruleset wholes = (whole_append, whole-decimal, whole-name, whole-get_mask, whole-set_mask)
+pub whole-member : (is_reader : Bool) → whole (member is_reader) ≡ true
+whole-member true = refl
+whole-member false = refl
+
+pub ruleset wholes = (whole_append, whole-decimal, whole-name, whole-get_mask, whole-set_mask, whole-member)
 
 -- ---- a line says an operation: its text is the operation's, has no space in front and is one line
 
@@ -95,24 +86,21 @@ pub record Says (l : Str) (o : Op) : Type 0 where
 
 pub says-set : (k : Kind) (o : ℕ) (m : Option ℕ) → MaskFits k m
     → Says (set_line k o (option_map (set_mask_text k) m)) (set_op (place_of k o) value (mask_bits m))
+unfolding set_bool_field set_data_field
 says-set k o m h = record { reads = writes-set k o m h; tight = tight k m; one = one k m }
   where
     tight : (k : Kind) (m : Option ℕ) → trim (set_line k o (option_map (set_mask_text k) m))
         ≡ set_line k o (option_map (set_mask_text k) m)
-    tight bool None = unfold set_bool_field in refl
-    tight bool (Some m) = unfold set_bool_field in refl
-    tight (num t) None = unfold set_data_field in refl
-    tight (num t) (Some m) = unfold set_data_field in refl
-    tight enum None = unfold set_data_field in refl
-    tight enum (Some m) = unfold set_data_field in refl
+    tight bool None = refl
+    tight (num t) None = refl
+    tight enum None = refl
+    tight _ _ = refl
 
     one : (k : Kind) (m : Option ℕ) → whole (set_line k o (option_map (set_mask_text k) m)) ≡ true
-    one bool None = unfold set_bool_field in simp wholes
-    one bool (Some m) = unfold set_bool_field in simp wholes
-    one (num t) None = unfold set_data_field in simp wholes
-    one (num t) (Some m) = unfold set_data_field in simp wholes
-    one enum None = unfold set_data_field in simp wholes
-    one enum (Some m) = unfold set_data_field in simp wholes
+    one bool None = simp wholes
+    one (num t) None = simp wholes
+    one enum None = simp wholes
+    one _ _ = simp wholes
 
 pub says_tag : (o n : ℕ) → n < 2 ^ 16 → Says (set_tag o n) (set_op (tag_place o) (constant n) 0)
 unfolding set_data_field
@@ -138,18 +126,10 @@ says-zero (of_pointer i) = record { reads = writes-clear i; tight = refl; one = 
 pub whole-get : (is_reader : Bool) (k : Kind) (o : ℕ) (m : Option ℕ)
     → whole (get_line is_reader k o (option_map (get_mask_text k) m)) ≡ true
 unfolding get_bool_field get_data_field
-whole-get true bool o None = simp wholes
-whole-get true bool o (Some m) = simp wholes
-whole-get true (num t) o None = simp wholes
-whole-get true (num t) o (Some m) = simp wholes
-whole-get true enum o None = simp wholes
-whole-get true enum o (Some m) = simp wholes
-whole-get false bool o None = simp wholes
-whole-get false bool o (Some m) = simp wholes
-whole-get false (num t) o None = simp wholes
-whole-get false (num t) o (Some m) = simp wholes
-whole-get false enum o None = simp wholes
-whole-get false enum o (Some m) = simp wholes
+whole-get r bool o None = simp wholes
+whole-get r (num t) o None = simp wholes
+whole-get r enum o None = simp wholes
+whole-get r _ o _ = simp wholes
 
 pub whole-null : (is_reader : Bool) (i : ℕ) → whole (not_null is_reader i) ≡ true
 unfolding not_null
@@ -158,8 +138,7 @@ whole-null false i = simp wholes
 
 pub whole_tag : (is_reader : Bool) (o n : ℕ) → whole (tag_test is_reader o n) ≡ true
 unfolding tag_test
-whole_tag true o n = simp wholes
-whole_tag false o n = simp wholes
+whole_tag r o n = simp wholes
 
 -- ---- lines of a text
 
@@ -169,7 +148,7 @@ line-end (c ∷ l) s h = go (eqb c 10) h (line-end l s)
   where
     go : (b : Bool) → cond b false (whole l) ≡ true → (whole l ≡ true → lines (l ++ 10 ∷ s) ≡ l ∷ lines s)
         → cond b ([] ∷ lines (l ++ 10 ∷ s)) (push_byte c (lines (l ++ 10 ∷ s))) ≡ (c ∷ l) ∷ lines s
-    go true e ih = let z : ◌≡◌ {A = ℕ} 0 1 = cc in absurd (omega arith)
+    go true e ih = cc
     go false e ih = rw (ih e)
 
 pub data Wholes : List Str → Type 0 where
@@ -185,7 +164,7 @@ lines-ended (add l {ls = ls} h w) = line-end l (ended ls) h ∙ ap (λ (x : List
 pub lines-stringify : (ft : FormattedText) (l : Str) (ls : List Str) → to_lines ft 0 ≡ l ∷ ls → Wholes (l ∷ ls)
     → lines (stringify ft) ≡ l ∷ ls
 lines-stringify ft l ls e w =
-    ap (λ (s : Str). lines s) (stringify-lines ft (λ n. let z : ◌≡◌ {A = ℕ} 0 1 = cc in omega arith) ∙ ap ended e) ∙ lines-ended w
+    ap (λ (s : Str). lines s) (stringify-lines ft (λ n. cc) ∙ ap ended e) ∙ lines-ended w
 
 -- a first line, then a text
 pub lines-first : (l s : Str) → whole l ≡ true → lines (l ++ unit 10 ++ s) ≡ l ∷ lines s

@@ -15,8 +15,7 @@ use Rattle.meaning.specs.Claims.{MaskFits, expected, ExpectedHolds}
 -- a slot's place has the slot's bits
 pub slot-size : (k : Kind) (o : ℕ) → bit_count (place_of k o) ≡ slot_bits k
 slot-size bool o = refl
-slot-size (num t) o = refl
-slot-size enum o = refl
+slot-size _ o = refl
 
 -- no mask, or one whose bits fit
 pub mask_below : (k : Kind) (m : Option ℕ) → MaskFits k m → mask_bits m < 2 ^ slot_bits k

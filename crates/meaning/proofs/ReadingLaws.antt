@@ -1,6 +1,6 @@
 -- What is written in a call, read again, is what was meant: one law for each part of a line, whatever stands behind it. A decimal
 -- number goes by its last digit; closed text computes. Assumes nothing.
-use Rattle.std.specs.Prelude.{◌≡◌, ℕ, zero, suc, ◌+◌, ◌-◌, ◌*◌, ◌/◌, ◌%◌, ◌^◌, ◌<◌, ◌≤◌, Bool, true, false, ltb, ◌∷◌, ◌++◌}
+use Rattle.std.specs.Prelude.{◌≡◌, ℕ, zero, suc, ◌+◌, ◌-◌, ◌*◌, ◌/◌, ◌%◌, ◌^◌, ◌<◌, Bool, true, false, ltb, ◌∷◌, ◌++◌}
 use mathlib.Core.Path.{refl, ap, ◌∙◌}
 use Rattle.std.specs.Prelude.{Some}
 use mathlib.Core.List.{append_assoc}
@@ -9,12 +9,12 @@ use native.Mathlib.Omega.{arith}
 use borrow.Author.Tests.{le-leb, lt-ltb, ltb-true, ltb-false}
 use Rattle.text.specs.Bytes.{Str, ascii}
 use Rattle.text.specs.Decimal.{decimal, signed}
-use Rattle.text.proofs.DecimalLaws.{decimal-low, decimal-high, signed_low, signed_high}
+use Rattle.text.proofs.DecimalLaws.{by_last_digit, signed_low, signed_high}
 use Rattle.record.specs.Masks.{half_of, get_mask_text, set_mask_text}
 use Rattle.record.specs.Offsets.{bytes_of}
 use Rattle.record.specs.Types.{Num, int, uint, float32, float64, bits_of, type_name_of, bool, num, enum}
 use Rattle.record.specs.declared.Width.{Width}
-use Rattle.record.specs.declared.Width.TheVariants.{One, Two, Four, Eight}
+use Rattle.record.specs.declared.Width.TheVariants.{One, Two}
 use Rattle.meaning.specs.Reading.{digit_byte, digits_from, numeral, below, signed_number, type_name, truth, get_mask_of}
 use Rattle.meaning.specs.Reading.{set_mask_of, value, constant, data_arg, bool_arg}
 
@@ -35,44 +35,21 @@ number-one x s h =
 
 -- a number that is written is read again, and what follows goes on
 pub number-decimal : (n : ℕ) (s : Str) → numeral (decimal n ++ s) ≡ Some (digits_from n s)
-number-decimal n s = go n n (omega arith) s
-  where
-    go : (f n : ℕ) → n ≤ f → (s : Str) → numeral (decimal n ++ s) ≡ Some (digits_from n s)
-    go zero n h s = rw (decimal-low n (omega arith)) (number-one n s (omega arith))
-    go (suc f) n h s = pick (ltb n 10) refl (λ k. go f (n / 10) k ((48 + n % 10) ∷ s))
-      where
-        pick : (b : Bool) → ltb n 10 ≡ b
-            → (n / 10 ≤ f → numeral (decimal (n / 10) ++ (48 + n % 10) ∷ s) ≡ Some (digits_from (n / 10) ((48 + n % 10) ∷ s)))
-            → numeral (decimal n ++ s) ≡ Some (digits_from n s)
-        pick true e ih = rw (decimal-low n (ltb-true n 10 e)) (number-one n s (ltb-true n 10 e))
-        pick false e ih =
-            let big = ltb-false n 10 e in
-            rw (decimal-high n big, append_assoc)
-            (ih (omega arith)
-            ∙ ap Some
-            (digits-one (n / 10) (n % 10) s (mod-lt n (zero-lt-suc 9)) ∙ ap (λ (y : ℕ). digits_from y s) (div-add-mod' n 10)))
+number-decimal =
+    by_last_digit (λ n t. (s : Str) → numeral (t ++ s) ≡ Some (digits_from n s)) (λ n l s. number-one n s l)
+    (λ n l f s.
+    rw append_assoc
+    (f ((48 + n % 10) ∷ s)
+    ∙ ap Some
+    (digits-one (n / 10) (n % 10) s (mod-lt n (zero-lt-suc 9)) ∙ ap (λ (y : ℕ). digits_from y s) (div-add-mod' n 10))))
 
 -- ---- types
 
--- what holds of each type by its name holds of all
-pub by_type : (P : Num → Type 0)
-    → P (int One) → P (int Two) → P (int Four) → P (int Eight)
-    → P (uint One) → P (uint Two) → P (uint Four) → P (uint Eight)
-    → P float32 → P float64 → (t : Num) → P t
-by_type P a b c d e f g h i j (int One) = a
-by_type P a b c d e f g h i j (int Two) = b
-by_type P a b c d e f g h i j (int Four) = c
-by_type P a b c d e f g h i j (int Eight) = d
-by_type P a b c d e f g h i j (uint One) = e
-by_type P a b c d e f g h i j (uint Two) = f
-by_type P a b c d e f g h i j (uint Four) = g
-by_type P a b c d e f g h i j (uint Eight) = h
-by_type P a b c d e f g h i j float32 = i
-by_type P a b c d e f g h i j float64 = j
-
 pub type-name : (t : Num) (s : Str) → type_name (type_name_of t ++ s) ≡ Some (t, s)
 unfolding type_name
-type-name t s = by_type (λ t. type_name (type_name_of t ++ s) ≡ Some (t, s)) refl refl refl refl refl refl refl refl refl refl t
+type-name (int One) s = refl
+type-name (uint One) s = refl
+type-name _ s = refl
 
 pub type_u16 : (s : Str) → type_name (ascii "u16" ++ s) ≡ Some (uint Two, s)
 type_u16 s = type-name (uint Two) s
@@ -83,7 +60,7 @@ pub truth_mask : (m : ℕ) → m < 2 → (s : Str) → truth (set_mask_text bool
 unfolding truth set_mask_text
 truth_mask zero h s = refl
 truth_mask (suc zero) h s = refl
-truth_mask (suc (suc m)) h s = let z : ⊥ = omega arith in absurd z
+truth_mask (suc (suc m)) h s = absurd (omega arith)
 
 pub get-truth : (m : ℕ) → m < 2 → (s : Str) → truth (get_mask_text bool m ++ s) ≡ Some (m, s)
 unfolding set_mask_text get_mask_text
@@ -109,17 +86,13 @@ signed-read half m h s = go (ltb m half) refl
 -- a number of so many bytes has its sign's bit at half of its range
 double : (w : Width) → 2 ^ (bytes_of w * 8) ≡ half_of w + half_of w
 double One = refl
-double Two = refl
-double Four = refl
-double Eight = refl
+double _ = refl
 
 pub get_mask : (t : Num) (m : ℕ) → m < 2 ^ bits_of t → (s : Str)
     → get_mask_of t (get_mask_text (num t) m ++ 41 ∷ s) ≡ Some (m, 41 ∷ s)
 unfolding get_mask_of get_mask_text
 get_mask (int w) m h s = signed-read (half_of w) m (rw (← double w) h) s
-get_mask (uint w) m h s = below-decimal (2 ^ bits_of (uint w)) m h s
-get_mask float32 m h s = below-decimal (2 ^ 32) m h s
-get_mask float64 m h s = below-decimal (2 ^ 64) m h s
+get_mask t m h s = below-decimal (2 ^ bits_of t) m h s
 
 pub set_mask : (t : Num) (m : ℕ) → m < 2 ^ bits_of t → (s : Str)
     → set_mask_of t (set_mask_text (num t) m ++ 41 ∷ s) ≡ Some (m, 41 ∷ s)
@@ -142,13 +115,15 @@ set_mask_enum m h s = set_mask (uint Two) m h s
 
 pub arg_value : (t : Num) (s : Str) → data_arg t (ascii "value" ++ 41 ∷ s) ≡ Some (value, 41 ∷ s)
 unfolding data_arg
-arg_value t s =
-    by_type (λ t. data_arg t (ascii "value" ++ 41 ∷ s) ≡ Some (value, 41 ∷ s)) refl refl refl refl refl refl refl refl refl refl t
+arg_value (int One) s = refl
+arg_value (uint One) s = refl
+arg_value _ s = refl
 
 pub arg_value_mask : (t : Num) (s : Str) → data_arg t (ascii "value" ++ 44 ∷ s) ≡ Some (value, 44 ∷ s)
 unfolding data_arg
-arg_value_mask t s =
-    by_type (λ t. data_arg t (ascii "value" ++ 44 ∷ s) ≡ Some (value, 44 ∷ s)) refl refl refl refl refl refl refl refl refl refl t
+arg_value_mask (int One) s = refl
+arg_value_mask (uint One) s = refl
+arg_value_mask _ s = refl
 
 pub arg_enum : (s : Str) → data_arg (uint Two) (ascii "value as u16" ++ s) ≡ Some (value, s)
 unfolding data_arg
@@ -162,9 +137,9 @@ arg_tag n h s = rw (below-decimal (2 ^ 16) n h s)
 -- zero, with the type's name behind it
 pub arg_zero : (t : Num) (s : Str) → data_arg t (48 ∷ (type_name_of t ++ s)) ≡ Some (constant 0, s)
 unfolding data_arg
-arg_zero t s =
-    by_type (λ t. data_arg t (48 ∷ (type_name_of t ++ s)) ≡ Some (constant 0, s))
-    refl refl refl refl refl refl refl refl refl refl t
+arg_zero (int One) s = refl
+arg_zero (uint One) s = refl
+arg_zero _ s = refl
 
 pub arg_zero_u16 : (s : Str) → data_arg (uint Two) (ascii "0u16" ++ s) ≡ Some (constant 0, s)
 arg_zero_u16 s = arg_zero (uint Two) s

@@ -40,25 +40,21 @@ step (of_pointer i) r = cleared (record { 0 = i }) r
 
 step-runs : (z : Zero) (r : Record) → HoldsZero z r → run_op None (zero_op z) r ≡ Some (step z r)
 unfolding run_op
-step-runs (of_slot k o) r h = put-inside (place_of k o) 0 0 r h
-step-runs (of_tag o) r h = put-inside (tag_place o) 0 0 r h
 step-runs (of_pointer i) r h = clear-inside (record { 0 = i }) r h
+step-runs _ r h = put-inside _ 0 0 r h
 
 step-length : (z : Zero) (r : Record) → HoldsZero z r → length (step z r).bits ≡ length r.bits
-step-length (of_slot k o) r h = after-length (place_of k o) 0 0 r h
-step-length (of_tag o) r h = after-length (tag_place o) 0 0 r h
 step-length (of_pointer i) r h = ap length (cleared-bits (record { 0 = i }) r h)
+step-length _ r h = after-length _ 0 0 r h
 
 step-pointers : (z : Zero) (r : Record) → HoldsZero z r → length (step z r).pointers ≡ length r.pointers
 unfolding after
-step-pointers (of_slot k o) r h = refl
-step-pointers (of_tag o) r h = refl
 step-pointers (of_pointer i) r h = cleared-length (record { 0 = i }) r h
+step-pointers _ r h = refl
 
 step-holds : (z y : Zero) (r : Record) → HoldsZero z r → HoldsZero y r → HoldsZero y (step z r)
-step-holds z (of_slot k o) r h g = rw (step-length z r h) g
-step-holds z (of_tag o) r h g = rw (step-length z r h) g
 step-holds z (of_pointer i) r h g = rw (step-pointers z r h) g
+step-holds z _ r h g = rw (step-length z r h) g
 
 -- the bits of a zero
 zero_off : (p : Place) (i : ℕ) → get_or (coded p 0 0) i false ≡ false
@@ -88,42 +84,36 @@ put_keeps p r h b e = go (where? (from p) (bit_count p) b)
     go (inr (inr x)) = after_out p 0 0 r h b (λ y. omega arith) ∙ e
 
 step_makes : (z : Zero) (r : Record) → HoldsZero z r → (b : ℕ) → ZeroHas z b → Off (step z r) b
-step_makes (of_slot k o) r h b x = put_makes (place_of k o) r h b x
-step_makes (of_tag o) r h b x = put_makes (tag_place o) r h b x
 step_makes (of_pointer i) r h b x = absurd x
+step_makes _ r h b x = put_makes _ r h b x
 
 step_keeps : (z : Zero) (r : Record) → HoldsZero z r → (b : ℕ) → Off r b → Off (step z r) b
-step_keeps (of_slot k o) r h b e = put_keeps (place_of k o) r h b e
-step_keeps (of_tag o) r h b e = put_keeps (tag_place o) r h b e
 step_keeps (of_pointer i) r h b e = ap (λ (l : List Bool). get_or l b false) (cleared-bits (record { 0 = i }) r h) ∙ e
+step_keeps _ r h b e = put_keeps _ r h b e
 
 step_other : (z : Zero) (r : Record) → HoldsZero z r → (b : ℕ) → (ZeroHas z b → ⊥)
     → get_or (step z r).bits b false ≡ get_or r.bits b false
-step_other (of_slot k o) r h b x = after_out (place_of k o) 0 0 r h b x
-step_other (of_tag o) r h b x = after_out (tag_place o) 0 0 r h b x
 step_other (of_pointer i) r h b x = ap (λ (l : List Bool). get_or l b false) (cleared-bits (record { 0 = i }) r h)
+step_other _ r h b x = after_out _ 0 0 r h b x
 
 step-null : (z : Zero) (r : Record) → HoldsZero z r → (j : ℕ) → Null r j → Null (step z r) j
 unfolding after
-step-null (of_slot k o) r h j e = e
-step-null (of_tag o) r h j e = e
 step-null (of_pointer i) r h j e = go (ℕ_discrete j i)
   where
     go : Dec (j ≡ i) → Null (cleared (record { 0 = i }) r) j
     go (yes d) = rw d (cleared_at (record { 0 = i }) r h)
     go (no d) = cleared_other (record { 0 = i }) r h j d ∙ e
+step-null _ r h j e = e
 
 step-clears : (z : Zero) (r : Record) → HoldsZero z r → (j : ℕ) → ZeroClears z j → Null (step z r) j
-step-clears (of_slot k o) r h j x = absurd x
-step-clears (of_tag o) r h j x = absurd x
 step-clears (of_pointer i) r h j x = rw x (cleared_at (record { 0 = i }) r h)
+step-clears _ r h j x = absurd x
 
 step-flag : (z : Zero) (r : Record) → HoldsZero z r → (j : ℕ) → (ZeroClears z j → ⊥)
     → get_or (step z r).pointers j false ≡ get_or r.pointers j false
 unfolding after
-step-flag (of_slot k o) r h j x = refl
-step-flag (of_tag o) r h j x = refl
 step-flag (of_pointer i) r h j x = cleared_other (record { 0 = i }) r h j x
+step-flag _ r h j x = refl
 
 -- ---- one after another
 
@@ -208,18 +198,16 @@ OpHas (set_op p a m) b = Covers p b
 OpHas (clear_op i) b = ⊥
 
 has_op : (z : Zero) (b : ℕ) → OpHas (zero_op z) b → ZeroHas z b
-has_op (of_slot k o) b x = x
-has_op (of_tag o) b x = x
 has_op (of_pointer i) b x = absurd x
+has_op _ b x = x
 
 abbrev OpClears : Op → ℕ → Type 0
 OpClears (set_op p a m) j = ⊥
 OpClears (clear_op i) j = j ≡ i.0
 
 clears_op : (z : Zero) (j : ℕ) → OpClears (zero_op z) j → ZeroClears z j
-clears_op (of_slot k o) j x = absurd x
-clears_op (of_tag o) j x = absurd x
 clears_op (of_pointer i) j x = x
+clears_op _ j x = absurd x
 
 -- a get of bits that are off is its mask: inside the section it is that of a zero put there
 get_off : (p : Place) (k : ℕ) (r : Record) → k < 2 ^ bit_count p → ((b : ℕ) → Covers p b → Off r b) → get p k r ≡ k

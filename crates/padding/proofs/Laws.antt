@@ -1,7 +1,7 @@
 -- Laws for the loops: what stands from a position on, by the byte there, and a turn's word or row. Assumes nothing.
 use mathlib.Core.Path.{◌≡◌, refl, ap, ◌∙◌}
 use mathlib.Core.List.{[], ◌∷◌, ◌++◌}
-use Prim.Native.Nat.{ℕ, suc, ◌+◌, ◌-◌, ◌≤◌, ◌<◌}
+use Prim.Native.Nat.{ℕ, suc, ◌+◌, ◌-◌, ◌<◌}
 use native.Mathlib.Omega.{arith}
 use lib.ListN.{length, get_or, take, drop, replicate, length-drop}
 use lib.Seq.{take_all}
@@ -69,9 +69,6 @@ word-counted t = counted_while in_word t (word_len t) (word_prefix t)
 pub spaces-turn : (n : ℕ) (w : Str) → n < 21 → replicate (21 - n) 32 ++ w ≡ unit 32 ++ (replicate (21 - (n + 1)) 32 ++ w)
 spaces-turn n w h = let e : 21 - n ≡ suc (21 - (n + 1)) = omega arith in rw e
 
-pub spaces-none : (n : ℕ) (w : Str) → 21 ≤ n → replicate (21 - n) 32 ++ w ≡ w
-spaces-none n w h = let e : 21 - n ≡ 0 = omega arith in rw e
-
 -- ---- a turn over words
 
 -- a slice from a place on
@@ -116,7 +113,7 @@ row-padded (b ∷ r) n h e =
 pub row-none : {l : Str} {t : Text} (r : Str) → length r ≡ 0 → Wrote l t (padded_row r) l t
 unfolding padded_row put adv
 row-none [] h = record { bytes = refl; state = refl }
-row-none (b ∷ r) h = let z : ⊥ = omega arith in absurd z
+row-none (b ∷ r) h = absurd (omega arith)
 
 -- the row at a position, and those after it
 pub rows-turn :

@@ -3,16 +3,16 @@
 use mathlib.Core.Path.{◌≡◌, refl, ap, ◌∙◌}
 use mathlib.Core.Bool.{Bool, true, false}
 use mathlib.Core.List.{List, [], ◌∷◌, ◌++◌, append_assoc}
-use Prim.Native.Nat.{ℕ, zero, suc, ◌+◌, ◌-◌, ◌/◌, ◌%◌, ◌^◌, ◌≤◌, ◌<◌}
+use Prim.Native.Nat.{ℕ, zero, suc, ◌+◌, ◌-◌, ◌/◌, ◌%◌, ◌≤◌, ◌<◌}
 use native.Mathlib.Omega.{arith}
-use lib.Dec.{eqb, ltb, leb}
+use lib.Dec.{eqb, leb}
 use lib.ListN.{length, get_or, take, drop, replicate, length-append, length-replicate}
-use lib.Seq.{drop-append_seam, take-append_seam}
-use borrow.Author.Tests.{ne_eqb, ltb-true, ltb-false, leb-true, eqb-true}
+use lib.Seq.{drop_at, drop-append_seam, take-append_seam}
+use borrow.Author.Tests.{ne_eqb, leb-true, eqb-true}
 use Rattle.text.specs.Bytes.{Str, cond, either, unit}
 use Rattle.text.specs.Decimal.{decimal}
 use Rattle.text.proofs.BytesLaws.{both_true}
-use Rattle.text.proofs.DecimalLaws.{decimal-low, decimal-high, decimal-length}
+use Rattle.text.proofs.DecimalLaws.{by_last_digit, decimal-length}
 use Rattle.column.specs.Number.{padded}
 use Rattle.column.specs.Texts.{between, is_digit, is_word, is_graphic, all, is_name, is_field_name, is_graphic_text}
 use Rattle.column.proofs.Laws.{name-all, field-name_chars, graphic_all}
@@ -47,7 +47,7 @@ all_solid ok low (b ∷ s) e = go (all_solid ok low s) (ok b) refl e
   where
     go : (all ok s ≡ true → Solid s) → (t : Bool) → ok b ≡ t → cond t (all ok s) false ≡ true → Solid (b ∷ s)
     go f true h e = (low b h, f e)
-    go f false h e = let z : ◌≡◌ {A = ℕ} 0 1 = cc in let y : ⊥ = omega arith in absurd y
+    go f false h e = cc
 
 between-low : (lo hi b : ℕ) → between lo hi b ≡ true → lo ≤ b
 between-low lo hi b e = leb-true lo b (both_true (leb lo b) (leb b hi) e).0
@@ -88,27 +88,17 @@ graphic_solid most t e = all_solid is_graphic graphic_low t (graphic_all most t 
 digit_solid : (d : ℕ) → Solid (unit (48 + d))
 digit_solid d = (omega arith, tt)
 
-decimal_solid : (k n : ℕ) → n ≤ k → Solid (decimal n)
-decimal_solid zero n h = rw (decimal-low n (omega arith)) (digit_solid n)
-decimal_solid (suc k) n h = go (decimal_solid k (n / 10)) (ltb n 10) refl
-  where
-    go : (n / 10 ≤ k → Solid (decimal (n / 10))) → (b : Bool) → ltb n 10 ≡ b → Solid (decimal n)
-    go f true e = rw (decimal-low n (ltb-true n 10 e)) (digit_solid n)
-    go f false e =
-        rw (decimal-high n (ltb-false n 10 e))
-        (solid_append (decimal (n / 10)) (unit (48 + n % 10)) (f (omega (arith, ltb-false n 10 e))) (digit_solid (n % 10)))
+decimal_solid : (n : ℕ) → Solid (decimal n)
+decimal_solid =
+    by_last_digit (λ n s. Solid s) (λ n l. digit_solid n)
+    (λ n l f. solid_append (decimal (n / 10)) (unit (48 + n % 10)) f (digit_solid (n % 10)))
 
 decimal-some : (n : ℕ) → 0 < length (decimal n)
-decimal-some n = go (ltb n 10) refl
-  where
-    go : (b : Bool) → ltb n 10 ≡ b → 0 < length (decimal n)
-    go true e = rw (decimal-low n (ltb-true n 10 e)) (omega arith)
-    go false e =
-        rw (decimal-high n (ltb-false n 10 e), length-append (decimal (n / 10)) (unit (48 + n % 10))) (omega arith)
+decimal-some = by_last_digit (λ n s. 0 < length s) (λ n l. omega arith) (λ n l f. rw length-append (omega arith))
 
 -- a number in front of anything does not begin with a space
 number-first : (n : ℕ) (t : Str) → get_or (decimal n ++ t) 0 0 ≡ 32 → ⊥
-number-first n t e = go (decimal n) (decimal_solid n n (omega arith)) (decimal-some n) e
+number-first n t e = go (decimal n) (decimal_solid n) (decimal-some n) e
   where
     go : (s : Str) → Solid s → 0 < length s → get_or (s ++ t) 0 0 ≡ 32 → ⊥
     go [] f l e = omega arith
@@ -130,9 +120,6 @@ word-is (b ∷ w) rest f h =
     let i = word-is w rest f.1 h in
     rw (word_len, ne_eqb b 32 (omega arith), ne_eqb b 10 (omega arith)) (ap suc i)
 
-drop-seam : (k : ℕ) (s t : Str) → length s ≡ k → drop k (s ++ t) ≡ t
-drop-seam k s t e = rw (← e) (drop-append_seam s t)
-
 -- spaces, a number, and what begins with a space or byte 10
 next_word :
     (k n count : ℕ) (rest : Str) → word_len rest ≡ 0
@@ -142,8 +129,8 @@ next_word k n count rest h =
     let w = decimal n in
     let s : drop (space_len (replicate k 32 ++ (w ++ rest))) (replicate k 32 ++ (w ++ rest)) ≡ w ++ rest =
     ap (λ (m : ℕ). drop m (replicate k 32 ++ (w ++ rest))) (spaces_are k (w ++ rest) (number-first n rest))
-    ∙ drop-seam k (replicate k 32) (w ++ rest) (length-replicate k 32) in
-    let size = word-is w rest (decimal_solid n n (omega arith)) h in
+    ∙ drop_at (replicate k 32) (w ++ rest) k (length-replicate k 32) in
+    let size = word-is w rest (decimal_solid n) h in
     ap (λ (u : Str). right_justified (take (word_len u) u) ++ words_padded count (drop (word_len u) u)) s
     ∙ ap (λ (m : ℕ). right_justified (take m (w ++ rest)) ++ words_padded count (drop m (w ++ rest))) size
     ∙ rw (take-append_seam w rest, drop-append_seam w rest)
@@ -179,7 +166,7 @@ columns_are (n ∷ ns) end =
 
 no_word : (k : ℕ) (s : Str) → 0 < k → word_len (replicate k 32 ++ s) ≡ 0
 unfolding word_len
-no_word zero s l = let z : ⊥ = omega arith in absurd z
+no_word zero s l = absurd (omega arith)
 no_word (suc k) s l = refl
 
 numbers-first :
@@ -217,7 +204,7 @@ short-numbers gap (n ∷ ns) end a =
     let rest = spaced_numbers gap ns end in
     short-spaces (gap n) (decimal n ++ rest) a.0 (number-first n rest)
     ∙ ap (λ (s : Str). 32 ∷ s)
-    (short_solid (decimal n) rest (decimal_solid n n (omega arith))
+    (short_solid (decimal n) rest (decimal_solid n)
     ∙ ap (λ (s : Str). decimal n ++ s) (short-numbers gap ns end a.1))
 
 -- ---- a row
@@ -270,53 +257,31 @@ comes letter ns end count other apart tail =
           ∙ pad-numbers single ns e (single-apart ns) tail.word tail.spaces);
     }
 
--- a number that fits its columns has a space in front
-narrow : (n : ℕ) → n < 2 ^ 64 → 0 < in_columns n
-narrow n h = omega (arith, decimal-length 19 n (omega arith))
-
--- the row of each line
+-- the row of each line; each number fits its columns with a space in front
 pub line-comes : (l : Content) (text : Str) → Fits l text → Comes (print_line l text)
 unfolding number_count
 line-comes Root text f = comes 82 [] (spaced text) refl (omega arith) tt (tail_text text (graphic_solid 64 text f))
 line-comes (Node i p s x g c o) text f =
-    comes 78 (i ∷ p ∷ s ∷ x ∷ g ∷ c ∷ o ∷ []) (spaced text) refl (omega arith) (
-      narrow i (omega arith),
-      (
-        narrow p (omega arith),
-        (
-          narrow s (omega arith),
-          (
-            narrow x (omega arith),
-            (
-              narrow g (omega arith),
-              (narrow c (omega arith), (narrow o (omega arith), tt)),
-            ),
-          ),
-        ),
-      ),
-    )
+    comes 78 (i ∷ p ∷ s ∷ x ∷ g ∷ c ∷ o ∷ []) (spaced text) refl (omega arith) (omega (arith, decimal-length 19))
     (tail_text text (graphic_solid 128 text f.7))
 line-comes Parameter text f = comes 80 [] (spaced text) refl (omega arith) tt (tail_text text (name_solid text f))
 line-comes (Field o d e p) text f =
-    comes 70 (o ∷ d ∷ e ∷ p ∷ []) (spaced text) refl (omega arith)
-    (narrow o (omega arith), (narrow d (omega arith), (narrow e (omega arith), (narrow p (omega arith), tt))))
+    comes 70 (o ∷ d ∷ e ∷ p ∷ []) (spaced text) refl (omega arith) (omega (arith, decimal-length 19))
     (tail_text text (field-name_solid text f.4))
 line-comes (Group i d) text f =
-    comes 71 (i ∷ d ∷ []) (spaced text) refl (omega arith) (narrow i (omega arith), (narrow d (omega arith), tt))
+    comes 71 (i ∷ d ∷ []) (spaced text) refl (omega arith) (omega (arith, decimal-length 19))
     (tail_text text (field-name_solid text f.2))
 line-comes (Typ k a b c) text f =
     let m0 = most_a-fits k in
     let m1 = most_b-fits k a in
     let m2 = most_c-fits k a in
-    comes 84 (k ∷ a ∷ b ∷ c ∷ []) [] refl (omega arith)
-    (narrow k (omega arith), (narrow a (omega arith), (narrow b (omega arith), (narrow c (omega arith), tt)))) tail_none
+    comes 84 (k ∷ a ∷ b ∷ c ∷ []) [] refl (omega arith) (omega (arith, decimal-length 19)) tail_none
 line-comes (Scope i b n) text f =
     let m0 = most_count-fits b in
-    comes 83 (i ∷ b ∷ n ∷ []) [] refl (omega arith)
-    (narrow i (omega arith), (narrow b (omega arith), (narrow n (omega arith), tt))) tail_none
+    comes 83 (i ∷ b ∷ n ∷ []) [] refl (omega arith) (omega (arith, decimal-length 19)) tail_none
 line-comes Unbound text f = comes 85 [] [] refl (omega arith) tt tail_none
 line-comes (Value k b) text f =
     let m0 = most_bits-fits k in
-    comes 86 (k ∷ b ∷ []) [] refl (omega arith) (narrow k (omega arith), (narrow b (omega arith), tt)) tail_none
-line-comes (Word v) text f = comes 87 (v ∷ []) [] refl (omega arith) (narrow v (omega arith), tt) tail_none
+    comes 86 (k ∷ b ∷ []) [] refl (omega arith) (omega (arith, decimal-length 19)) tail_none
+line-comes (Word v) text f = comes 87 (v ∷ []) [] refl (omega arith) (omega (arith, decimal-length 19)) tail_none
 line-comes (Bad x k) text f = absurd f

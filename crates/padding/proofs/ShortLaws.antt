@@ -23,7 +23,7 @@ short_space s h = rw (short, ne_eqb (get_or s 0 0) 32 h)
 
 pub short-spaces : (k : ℕ) (s : Str) → 0 < k → (get_or s 0 0 ≡ 32 → ⊥) → short (replicate k 32 ++ s) ≡ 32 ∷ short s
 unfolding short
-short-spaces zero s l h = let z : ⊥ = omega arith in absurd z
+short-spaces zero s l h = absurd (omega arith)
 short-spaces (suc zero) s l h = short_space s h
 short-spaces (suc (suc k)) s l h = short-spaces (suc k) s (omega arith) h
 

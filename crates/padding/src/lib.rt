@@ -95,6 +95,7 @@ pub fn pad(s: &[u8], t: Text, buf: &mut [u8]) -> Text
     out
 }
 
+// Makes it a promise of this crate that padding makes a sheet of its short form, and leaves a sheet as it is.
 pub fn claims()
     ensures { PadsShortHolds × KeepsPaddedHolds }
 {}

@@ -47,22 +47,15 @@ read-few (r ∷ rs) = go (line_of r) refl
     slots o d e p i (no k us) = tt
 
     go : (l : Content) → line_of r ≡ l → On (read_field (r ∷ rs)) (λ f. length f.name ≤ 64)
-    go line.Root i = rw (i, i, i, i) tt
-    go (line.Node a b c d e f g) i = rw (i, i, i, i) tt
-    go line.Parameter i = rw (i, i, i, i) tt
     go (line.Field o d e p) i = rw i (slots o d e p i (read_slot o e p (rest_of (r ∷ rs))))
     go (line.Group j d) i = rw (i, i, i) (name-few (text_of r) (printed-line r (line.Group j d) tt i).fits.2)
-    go (line.Typ a b c d) i = rw (i, i, i, i) tt
-    go (line.Scope a b c) i = rw (i, i, i, i) tt
-    go line.Unbound i = rw (i, i, i, i) tt
-    go (line.Value a b) i = rw (i, i, i, i) tt
-    go (line.Word a) i = rw (i, i, i, i) tt
     go (line.Bad x k) i = by-letters (eqb x 70) (eqb x 71) refl refl
       where
         by-letters : (f g : Bool) → eqb x 70 ≡ f → eqb x 71 ≡ g → On (read_field (r ∷ rs)) (λ f. length f.name ≤ 64)
         by-letters true g e h = rw (i, i, e) tt
         by-letters false true e h = rw (i, i, e, i, i, h) tt
         by-letters false false e h = rw (i, i, e, i, i, h) tt
+    go _ i = rw (i, i, i, i) tt
 
 pub field-few : (rs : Rows) (f : tree.Field) (fs : List tree.Field) → FieldsHere rs (f ∷ fs) → length f.name ≤ 64
 field-few rs f fs (more e h) = rw e at (read-few rs)

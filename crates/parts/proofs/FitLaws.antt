@@ -11,7 +11,6 @@ use lib.Dec.{ltb}
 use lib.ListN.{length, take, drop, length-append, length-drop, length-take}
 use lib.Seq.{take_at, length-take-le, take-append-add, take-append-le}
 use Rattle.text.specs.Bytes.{Str, cond}
-use Rattle.text.specs.Decimal.{decimal}
 use Rattle.text.specs.Text.{state_at, Wrote}
 use Rattle.text.specs.Answer.{placed}
 use Rattle.text.specs.declared.Text.{Text}
@@ -22,35 +21,29 @@ pub use Rattle.requests.proofs.LentLaws.{text-end, lent, back}
 use Rattle.parts.specs.Program.{opening, header_text, refused_text, refused_sheet_text}
 use Rattle.parts.specs.Fit.{fit_of, TakesAtMost, Puts}
 use Rattle.parts.specs.declared.Part.{Part}
-use Rattle.parts.specs.declared.Part.TheVariants.{GetterReader, GetterBuilder, Setter, HaserReader, HaserBuilder, Zero}
+use Rattle.parts.specs.declared.Part.TheVariants.{Zero}
 
 -- ---- lengths
 
 -- a number of 64 bits has at most 20 digits
-digits-few : (n : ℕ) → n < 2 ^ 64 → length (decimal n) ≤ 20
-digits-few n h = decimal-length 19 n (omega arith)
 
 pub refused-few : (n : ℕ) → n < 2 ^ 64 → length (refused_text n) ≤ 65536
 unfolding refused_text
-refused-few n h = simp length-append (omega (arith, digits-few n h))
+refused-few n h = simp length-append (omega (arith, decimal-length 19))
 
 pub refused-sheet-few :
     (n line column : ℕ) → n < 2 ^ 64 → line < 2 ^ 64 → column < 2 ^ 64 → length (refused_sheet_text n line column) ≤ 65536
 unfolding refused_sheet_text
 refused-sheet-few n line column h k m =
-    simp length-append (omega (arith, digits-few n h, digits-few line k, digits-few column m))
+    simp length-append (omega (arith, decimal-length 19))
 
 pub header-few : (part : Part) (name : Str) → length (header_text part name) ≤ length name + 18
 unfolding header_text
 header-few part name = simp length-append (omega (arith, go part))
   where
     go : (p : Part) → length (opening p) ≤ 17
-    go GetterReader = omega arith
-    go GetterBuilder = omega arith
-    go Setter = omega arith
-    go HaserReader = omega arith
-    go HaserBuilder = omega arith
     go Zero = omega arith
+    go _ = omega arith
 
 -- ---- a text at the start of a buffer
 

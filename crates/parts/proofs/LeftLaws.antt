@@ -19,7 +19,6 @@ use Rattle.row.proofs.Laws.{rows-length}
 use Rattle.tree.specs.Tree as tree
 use Rattle.tree.specs.Tree.{Node}
 use Rattle.tree.specs.Fields.{FieldsHere}
-use Rattle.tree.proofs.OtherLines.{never}
 use Rattle.nodes.specs.Index.{nth, entry_with, Indexed, Finds, sheet_of}
 use Rattle.nodes.specs.declared.Entry.{Entry}
 use Rattle.nodes.proofs.Laws.{nth-is, with_none}
@@ -40,14 +39,14 @@ use Rattle.parts.proofs.FitLaws.{lent, back, back-length, on-within, taken-on}
 
 nth-first : {A : Type 0} (k : ℕ) (xs : List A) (x : A) → nth k xs ≡ Some x → drop k xs ≡ x ∷ drop (suc k) xs
 unfolding nth
-nth-first k [] x e = never cc
+nth-first k [] x e = cc
 nth-first zero (y ∷ xs) x e = let z : y ≡ x = cc in rw z
 nth-first (suc k) (y ∷ xs) x e = nth-first k xs x e
 
 nth_past : {A : Type 0} (k : ℕ) (xs : List A) → nth k xs ≡ None → drop k xs ≡ []
 unfolding nth
 nth_past k [] e = drop-nil k
-nth_past zero (y ∷ xs) e = never cc
+nth_past zero (y ∷ xs) e = cc
 nth_past (suc k) (y ∷ xs) e = nth_past k xs e
 
 -- ---- the first field of the node with a number
@@ -66,7 +65,7 @@ module _ (index : List ℕ) (k : ℕ) (f : Option Entry) (found-is : f ≡ entry
     where
       go : (b : Bool) → ltb k 64 ≡ b → k < 64
       go true j = ltb-true k 64 j
-      go false j = let z : None ≡ Some e = with_none index k (omega (arith, ltb-false k 64 j)) ∙ sym found-is ∙ i in never cc
+      go false j = let z : None ≡ Some e = with_none index k (omega (arith, ltb-false k 64 j)) ∙ sym found-is ∙ i in cc
 
   finds : (s : Str) (nodes : List Node) → Indexed s nodes index → Finds s index f (nth k nodes)
   finds s nodes x = rw found-is (nth-is s nodes index k x)

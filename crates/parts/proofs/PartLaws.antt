@@ -11,7 +11,6 @@ use Rattle.text.specs.Text.{state_at, Wrote}
 use Rattle.text.specs.declared.Text.{Text}
 use Rattle.tree.specs.Tree as tree
 use Rattle.tree.specs.Tree.{Node, Sheet}
-use Rattle.tree.proofs.OtherLines.{never}
 use Rattle.codegen_types.specs.Out.{Out, ok, refused}
 use Rattle.codegen_types.specs.Written.{Writes}
 use Rattle.terms.specs.Refusals.{number}
@@ -39,7 +38,7 @@ module _ {l l' : Str} {t₀ : Text} (z : t₀ ≡ state_at 0) where
   unfolding part_text
   long-part (ok w) t h g =
       let f : 65536 < length w = omega (arith, text-end z (h.text w t refl refl)) in rw (lt-ltb 65536 (length w) f)
-  long-part (refused j) t h g = let f = h.refusal in never cc
+  long-part (refused j) t h g = let f = h.refusal in cc
 
   -- it is whole
   pub whole_part : (o : Out Str) (t : Text) → Writes o l t₀ l' (Ok t) → t.at ≤ 65536 → length l < 2 ^ 63
@@ -49,7 +48,7 @@ module _ {l l' : Str} {t₀ : Text} (z : t₀ ≡ state_at 0) where
       let v = h.text w t refl refl in
       let f : length w ≤ 65536 = omega (arith, text-end z v) in
       rw (le-ltb 65536 (length w) f, ← z) v
-  whole_part (refused j) t h g b = let f = h.refusal in never cc
+  whole_part (refused j) t h g b = let f = h.refusal in cc
 
 -- ---- a part: a header of n bytes, and under it a text of m bytes of what was lent from n on
 

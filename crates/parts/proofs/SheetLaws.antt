@@ -11,7 +11,6 @@ use Rattle.std.specs.Prelude.{Ok, Err, ⊤}
 use Rattle.std.proofs.lemmas.Option.{same_Some}
 use Rattle.terms.specs.Refusals.{number}
 use Rattle.sheet.specs.declared.Refused.{Refused}
-use Rattle.tree.proofs.OtherLines.{never}
 use Rattle.parts.specs.Program.{program_text, refused_sheet_text}
 use Rattle.parts.specs.Left.{Left}
 use Rattle.parts.specs.Steps.{Enters}
@@ -32,7 +31,7 @@ unfolding program_text
 start-refused s index r told = go (admitted s) told
   where
     go : (a : Admitted) → answer_numbers (Err r) ≡ refusal_in a → Left s index (place.Refused r) (program_text a)
-    go (sheet sh) e = never cc
+    go (sheet sh) e = cc
     go (refused k l c) e =
         let same : ◌≡◌ {A = ℕ × ℕ × ℕ} (number r.refusal, r.line, r.column) (k, l, c) = same_Some _ _ e in
         ap (λ (p : ℕ × ℕ × ℕ). refused_sheet_text p.0 p.1 p.2) (sym same)

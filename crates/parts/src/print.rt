@@ -200,7 +200,7 @@ fn print_pieces(
     ensures { Comes sheet.now.source.bytes.now sheet.now.source.index.now (length out.old) result }
 {
     let mut place = start;
-    // So it is with pieces.
+    // A piece says itself where the next one begins, so no range counts them.
     loop {
         let Piece { n, next } = fill(sheet, place, out);
         if n == 0 {

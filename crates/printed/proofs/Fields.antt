@@ -57,9 +57,7 @@ words-end {A} f other rs h = go (line_at rs) refl h
     go : (l : Content) → line_at rs ≡ l → AfterField l
         → as_word {A = Reader A} l (λ w rs. f w (rest_of rs)) (or_fault 87 other) rs ≡ other rs
     go l e a_field = rw e
-    go l e a_group = rw e
-    go l e a_node = rw e
-    go l e the_end = rw e
+    go l e _ = rw e
 
 -- W lines up to a bound, and 1 to 255 where they belong
 read-words_up_to :
@@ -67,7 +65,7 @@ read-words_up_to :
     → Reads (word_rows ws rs) (read_words_up_to n (word_rows ws rs)) ws rs
 unfolding read_words_up_to word_rows every rest_of
 read-words_up_to zero [] rs l e h = reads_none
-read-words_up_to zero (w ∷ ws) rs l e h = let z : ⊥ = omega arith in absurd z
+read-words_up_to zero (w ∷ ws) rs l e h = absurd (omega arith)
 read-words_up_to (suc n) [] rs l e h = rw (words-end (λ w. map_r (w ∷◌) (read_words_up_to n)) (got []) rs h) reads_none
 read-words_up_to (suc n) (w ∷ ws) rs l e h =
     let (here, more) = both_true _ _ e in
@@ -79,7 +77,7 @@ read-words :
     (b : Bool) (ws : List ℕ) (rs : Rows) → words_fit b ws ≡ true → AfterField (line_at rs)
     → Reads (word_rows ws rs) (read_words b (word_rows ws rs)) ws rs
 unfolding read_words word_rows every rest_of
-read-words true [] rs e h = let z : ◌≡◌ {A = ℕ} 0 1 = cc in let y : ⊥ = omega arith in absurd y
+read-words true [] rs e h = cc
 read-words true (w ∷ ws) rs e h =
     let n = suc (length ws) in
     let (count, words) = both_true (both (ltb 0 n) (ltb n 256)) (every (fits 64) (w ∷ ws)) e in
@@ -90,7 +88,7 @@ read-words true (w ∷ ws) rs e h =
     reads-line (line.Word w) [] f (rw (line-here (line.Word w) [] (word_rows ws rs) f))
     (reads-map (w ∷◌) (read-words_up_to 254 ws rs (omega arith) more h))
 read-words false [] rs e h = reads_none
-read-words false (w ∷ ws) rs e h = let z = eqb-true (suc (length ws)) 0 e in let y : ⊥ = omega arith in absurd y
+read-words false (w ∷ ws) rs e h = let z = eqb-true (suc (length ws)) 0 e in absurd (omega arith)
 
 -- the tests of a slot, and of a field
 abbrev pub slot_tests : Slot → List Bool

@@ -62,8 +62,7 @@ distinct-one (x ∷ s) i =
         ≡ both (both (cond a false true) d) (cond (either e m) false true)
     go true e d m = refl
     go false true true m = refl
-    go false true false m = refl
-    go false false d m = refl
+    go _ _ _ _ = refl
 
 distinct_append : (seen new : List ℕ) → distinct (seen ++ new) ≡ both (distinct seen) (fresh seen new)
 unfolding fresh

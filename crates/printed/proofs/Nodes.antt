@@ -41,9 +41,7 @@ params-end (r ∷ rs) h = go (line_of r) refl h
         (r ∷ rs)
         ≡ got [] (r ∷ rs)
     go l e AfterField.a_field = rw e
-    go l e AfterField.a_group = rw e
-    go l e AfterField.a_node = rw e
-    go l e AfterField.the_end = rw e
+    go l e _ = rw e
 
 -- P lines
 read-params :
@@ -184,7 +182,7 @@ pub read-nodes :
     → Room (node_rows (n ∷ ns))
     → Reads (node_rows (n ∷ ns)) (read_nodes m ids seen (node_rows (n ∷ ns))) (n ∷ ns) []
 unfolding node_rows read_nodes
-read-nodes ns n zero ids seen l f room = let z : ⊥ = omega arith in absurd z
+read-nodes ns n zero ids seen l f room = absurd (omega arith)
 read-nodes [] n (suc m) ids seen l f room = reads_then _ (read_first n [] ids seen f room) reads_none
 read-nodes (k ∷ ns) n (suc m) ids seen l f room =
     let less = room_fields n.fields _ (room-params n.params _ (room-rest room)) in

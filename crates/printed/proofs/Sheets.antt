@@ -80,7 +80,7 @@ read-sheet :
     → Room (node_rows ns)
     → Reads (print_root root ∷ node_rows ns) (read_sheet (print_root root ∷ node_rows ns)) (record { root = root; nodes = ns }) []
 unfolding read_sheet rest_of
-read-sheet root [] r some few f room = let z : ⊥ = omega arith in absurd z
+read-sheet root [] r some few f room = absurd (omega arith)
 read-sheet root (n ∷ ns) r some few f room =
     let us = node_rows (n ∷ ns) in
     reads-line line.Root root r (rw (line-here line.Root root us r, text-here line.Root root us r))
@@ -151,11 +151,11 @@ prints_read s sh e = by_size (ltb 65536 (length s)) refl e
         length s ≤ 65536 → (g : Reading Sheet) → Tells (SheetAt (rows s)) g → numbered s g ≡ sheet sh
         → (printed sh ≡ s) × (well_formed sh ≡ true)
     by-reading l g (told {a = tree} {rest = rest} h) e = let z : tree ≡ sh = cc in tree-printed s sh rest l (rw z at h)
-    by-reading l g nothing e = let z : ◌≡◌ {A = ℕ} 0 1 = cc in let y : ⊥ = omega arith in absurd y
+    by-reading l g nothing e = cc
 
     by_size :
         (b : Bool) → ltb 65536 (length s) ≡ b
         → (elim b as (λ _. Admitted) [ true ↦ refused 1 0 0 | false ↦ numbered s (read_sheet (rows s)) ]) ≡ sheet sh
         → (printed sh ≡ s) × (well_formed sh ≡ true)
-    by_size true h e = let z : ◌≡◌ {A = ℕ} 0 1 = cc in let y : ⊥ = omega arith in absurd y
+    by_size true h e = cc
     by_size false h e = by-reading (ltb-false 65536 (length s) h) (read_sheet (rows s)) (tell_sheet (rows s)) e

@@ -14,7 +14,7 @@ use Rattle.column.specs.Number.{most}
 use Rattle.row.specs.Rows.{rest_of, size}
 use Rattle.row.specs.Line.{Fault, fault, misplaced, Content, line_at, as_unbound, most_a, most_b, most_c, most_count}
 use Rattle.row.specs.Print.{row_text, print_type, print_scope, print_unbound, Fits}
-use Rattle.row.specs.Line.{Root, Node, Parameter, Field, Group, Typ, Scope, Unbound, Value, Word, Bad}
+use Rattle.row.specs.Line.{Typ, Scope, Unbound, Bad}
 use Rattle.tree.specs.Tree.{Ty, plain, list, enum, struct, interface, any_pointer, parameter}
 use Rattle.tree.specs.Tree.{Scopes, end, inherit, bind, Binds, stop, unbound, bound}
 use Rattle.tree.specs.Reader.{Rows, got, no, Reader, ◌then◌, map_r, or_fault, times, on_type}
@@ -75,7 +75,7 @@ room-binds bs rs room = record { few = omega (arith, size-binds bs rs, room.few)
 -- a type is read where a level is left
 type-turn : (left : ℕ) (rs : Rows) → 0 < left → read_type left rs ≡ on_type (type_from (read_type (left - 1))) (no misplaced) rs
 unfolding read_type
-type-turn zero rs h = let z : ⊥ = omega arith in absurd z
+type-turn zero rs h = absurd (omega arith)
 type-turn (suc l) rs h = rw (sub-one (suc l))
 
 -- a T line, and what belongs to it
@@ -149,17 +149,9 @@ type-binding left rs rest t e = by-line (line_at rs) refl
         → as_unbound {A = Reader (Binds → Binds)} l (λ rs. got (λ bs. unbound bs) (rest_of rs))
         (or_fault 85 (map_r (λ t bs. bound t bs) (read_type left))) rs
         ≡ (read_type left rs then λ t. got (λ bs. bound t bs))
-    by-line Root h = rw h
-    by-line (Node i p s x g c o) h = rw h
-    by-line Parameter h = rw h
-    by-line (Field o d e p) h = rw h
-    by-line (Group i d) h = rw h
-    by-line (Typ k a b c) h = rw h
-    by-line (Scope i b n) h = rw h
     by-line Unbound h = let r = refused left h in cc
-    by-line (Value k b) h = rw h
-    by-line (Word w) h = rw h
     by-line (Bad x k) h = by_letter x k h (eqb x 85) refl
+    by-line _ h = rw h
 
 -- one scope, one binding
 module _ (left : ℕ) where

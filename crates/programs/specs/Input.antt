@@ -1,7 +1,7 @@
 -- What was read of standard input. The input of the replay programs: lines, and sheets, each after a line that has its length in
 -- decimal. Assumes nothing.
-use Rattle.std.specs.Prelude.{Result, Ok, Err}
-use Rattle.std.specs.Prelude.{true, false, [], ◌∷◌, ℕ, suc, ◌+◌, ◌-◌, ◌*◌, ◌%◌, min, eqb, ltb, length, take, drop}
+use Rattle.std.specs.Prelude.{◌≡◌, Result, Ok, Err, MatchResult, slice_range}
+use Rattle.std.specs.Prelude.{true, false, List, [], ◌∷◌, ℕ, zero, suc, ◌+◌, ◌-◌, ◌*◌, ◌%◌, min, eqb, ltb, length, take, drop}
 use Rattle.text.specs.Bytes.{Str, cond}
 use Rattle.io.specs.Counts.{IsPrefixLen}
 use Rattle.programs.specs.declared.Sheet.{Sheet}
@@ -40,3 +40,30 @@ sheet_after s from =
     cond (ltb line (length s))
     (record { start = line + 1; end = min (line + 1 + size) (length s) })
     (record { start = line; end = line })
+
+-- the bytes of the sheets from a place on, each after the end of the one before, to the end of the input; so many at most
+unfoldable pub sheets_from : ℕ → Str → ℕ → List Str
+sheets_from zero s at = []
+sheets_from (suc left) s at =
+    let sheet = sheet_after s at in
+    cond (ltb at (length s)) (slice_range s sheet.start sheet.end ∷ sheets_from left s sheet.end) []
+
+-- the sheets of an input: no more than it has bytes, since each ends past the place where it was looked for
+abbrev pub sheets_of : Str → List Str
+sheets_of s = sheets_from (length s) s 0
+
+-- a function may be called at each of the items, in order and once each, while its calls answer `Ok`, and nothing is said of any
+-- other call. The first relation says of one call that it may be made, the second what it may answer and leave
+abbrev pub CallableUpToErr :
+    {F X E : Type 0} → (F → X → Type 0) → (F → X → Result (Unit {0}) E → F → Type 0) → F → List X → Type 0
+CallableUpToErr may call f [] = Unit {0}
+CallableUpToErr {F} {X} {E} may call f (x ∷ xs) =
+    may f x × ((next : F) → call f x (Ok tt) next → CallableUpToErr may call next xs)
+
+-- it was so called, up to the first call that answers an error, which is the outcome too; where none does, that is `Ok`
+abbrev pub CalledUpToErr :
+    {F X E : Type 0} → (F → X → Result (Unit {0}) E → F → Type 0) → F → List X → Result (Unit {0}) E → Type 0
+CalledUpToErr call f [] r = r ≡ Ok tt
+CalledUpToErr {F} {X} {E} call f (x ∷ xs) r =
+    (answer : Result (Unit {0}) E) × (next : F) × call f x answer next
+    × MatchResult answer (λ _. CalledUpToErr call next xs r) (λ e. r ≡ Err e)

@@ -3,8 +3,10 @@
 #![tactic(auto)]
 
 ghost use Rattle.std.specs.Prelude.{◌≡◌, ◌+◌, ◌≤◌, min, max, length};
+ghost use Rattle.std.specs.Fn.{TakesAt, CalledAt};
 ghost use Rattle.io.specs.Counts.{IsPrefixLen};
 ghost use Rattle.programs.specs.Input.{WasRead, line_end, digit_of, decimal_of, sheet_after};
+ghost use Rattle.programs.specs.Input.{sheets_of, CallableUpToErr, CalledUpToErr};
 
 use std::io::{self, ErrorKind, Read};
 use text::Text;
@@ -100,7 +102,8 @@ pub fn next_sheet(s: &[u8], from: usize) -> Sheet
 // Hands each sheet of an input to a function, one after the other, up to the first error. A sheet says itself where the next one
 // begins, so no iterator of std goes through them.
 pub fn each_sheet<F: FnMut(&[u8]) -> io::Result<()>>(input: &[u8], mut f: F) -> io::Result<()>
-    requires { (s : F) (x : _) → F.pre s x }
+    requires { CallableUpToErr (TakesAt F.FnMut) (CalledAt F.FnMut) f (sheets_of input.now) }
+    ensures { CalledUpToErr (CalledAt F.FnMut) f (sheets_of input.now) result }
 {
     let mut at = 0;
     while at < input.len() {

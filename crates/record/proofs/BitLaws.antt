@@ -57,9 +57,8 @@ of_below (false ∷ l) = rw pow-suc (omega (arith, of_below l))
 
 flip-flip : (a b : Bool) → flip (flip a b) b ≡ a
 flip-flip true true = refl
-flip-flip true false = refl
 flip-flip false true = refl
-flip-flip false false = refl
+flip-flip _ _ = refl
 
 -- the same mask twice is no mask
 pub xors_twice : (n v m : ℕ) → xors (xors (to_bits n v) (to_bits n m)) (to_bits n m) ≡ to_bits n v
@@ -73,11 +72,9 @@ to_bits-zero (suc n) = ap (λ (l : List Bool). false ∷ l) (to_bits-zero n)
 flip-differ : (x y : ℕ) → x < 2 → y < 2 → (eqb (differ x y) 1 ≡ flip (eqb x 1) (eqb y 1)) × (differ x y < 2)
 flip-differ zero zero h k = (refl, omega arith)
 flip-differ zero (suc zero) h k = (refl, omega arith)
-flip-differ zero (suc (suc y)) h k = absurd (omega arith)
 flip-differ (suc zero) zero h k = (refl, omega arith)
 flip-differ (suc zero) (suc zero) h k = (refl, omega arith)
-flip-differ (suc zero) (suc (suc y)) h k = absurd (omega arith)
-flip-differ (suc (suc x)) y h k = absurd (omega arith)
+flip-differ _ _ h k = absurd (omega arith)
 
 -- exclusive or of numbers is exclusive or of their bits
 pub xors_xor : (n a b : ℕ) → xors (to_bits n a) (to_bits n b) ≡ to_bits n (bit_xor a b)

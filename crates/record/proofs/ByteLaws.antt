@@ -20,9 +20,8 @@ pub bytes_rest : (b : ℕ) (l : List ℕ) → Bytes (b ∷ l) → Bytes l
 bytes_rest b l h i = h (suc i)
 
 bytes_drop : (n : ℕ) (l : List ℕ) → Bytes l → Bytes (drop n l)
-bytes_drop zero l h = h
-bytes_drop (suc n) [] h = h
 bytes_drop (suc n) (x ∷ l) h = bytes_drop n l (bytes_rest x l h)
+bytes_drop _ _ h = h
 
 pub bytes_end : (a b : List ℕ) → Bytes (a ++ b) → Bytes b
 bytes_end [] b h = h
@@ -80,12 +79,11 @@ write_section k new bs h =
 
 pub section_injective : SameBytesHolds
 section_injective [] [] ha hb e = refl
-section_injective [] (y ∷ b) ha hb e = let z : ◌≡◌ {A = ℕ} 0 1 = cc in absurd (omega arith)
-section_injective (x ∷ a) [] ha hb e = let z : ◌≡◌ {A = ℕ} 0 1 = cc in absurd (omega arith)
 section_injective (x ∷ a) (y ∷ b) ha hb e =
     ap₂ ◌∷◌
     (sym (of_to 8 x (ha 0)) ∙ ap (λ (l : List Bool). of_bits (take 8 l)) e ∙ of_to 8 y (hb 0))
     (section_injective a b (bytes_rest x a ha) (bytes_rest y b hb) (ap (λ (l : List Bool). drop 8 l) e))
+section_injective _ _ ha hb e = cc
 
 -- ---- which bit a Bool is
 
@@ -137,6 +135,5 @@ length-flags [] = refl
 length-flags (b ∷ l) = ap suc (length-flags l)
 
 pub flag_at : (l : List ℕ) (i : ℕ) → get_or (flags l) i false ≡ not (eqb (get_or l i 0) 0)
-flag_at [] i = refl
-flag_at (b ∷ l) zero = refl
 flag_at (b ∷ l) (suc i) = flag_at l i
+flag_at _ _ = refl

@@ -33,7 +33,7 @@ use Rattle.record.specs.declared.ElementOffset.{ElementOffset}
 use Rattle.record.specs.declared.PointerOffset.{PointerOffset}
 use Rattle.record.specs.declared.NoMeaning.{NoMeaning}
 use Rattle.record.specs.declared.Width.{Width}
-use Rattle.record.specs.declared.Width.TheVariants.{One, Two, Four, Eight}
+use Rattle.record.specs.declared.Width.TheVariants.{One}
 use Rattle.record.proofs.BitLaws.{length-to_bits, length-xors, bit-two, to_bits_append, to_bits_mod, mask_bits}
 use Rattle.record.proofs.BitLaws.{mask_alone, xors_xor}
 use Rattle.record.proofs.SectionLaws.{write-part, length-read, found_inside, found-past, stored-inside, stored_past}
@@ -75,9 +75,8 @@ module _ (b j : ℕ) (hb : b < 256) (hj : j < 8) where
 -- a mask on a Bool
 bit-xor : (a b : Bool) → bit (not (beq a b)) ≡ bit_xor (bit a) (bit b)
 bit-xor true true = refl
-bit-xor true false = refl
 bit-xor false true = refl
-bit-xor false false = refl
+bit-xor _ _ = refl
 
 bit_below : (b : Bool) → bit b < 2
 bit_below true = omega arith
@@ -209,9 +208,7 @@ module _ (p : Place) (l : List ℕ) (h : length l * 8 < from p + bit_count p) wh
 -- as many ones as the width has bits
 ones : (w : Width) → 18446744073709551615 / 2 ^ (64 - bytes_of w * 8) ≡ 2 ^ (bytes_of w * 8) - 1
 ones One = refl
-ones Two = refl
-ones Four = refl
-ones Eight = refl
+ones _ = refl
 
 pub low_ones : {n : ℕ} (w : Width) (x : ℕ) → n ≡ bytes_of w
     → bit_and x (18446744073709551615 / 2 ^ (64 - n * 8)) ≡ x % 2 ^ (bytes_of w * 8)
@@ -286,9 +283,8 @@ not-bit true = refl
 not-bit false = refl
 
 set-flags : (l : List ℕ) (i : ℕ) → flags (set l i 0) ≡ set (flags l) i false
-set-flags [] i = refl
-set-flags (b ∷ l) zero = refl
 set-flags (b ∷ l) (suc i) = ap (λ (r : List Bool). not (eqb b 0) ∷ r) (set-flags l i)
+set-flags _ _ = refl
 
 module _ (l : List ℕ) (i : PointerOffset) where
   null-inside : i.0 < length l → null_flag i (flags l) ≡ eqb (get_or l i.0 0) 0
@@ -339,7 +335,7 @@ module _ (l : List ℕ) (i : PointerOffset) (a : ℕ) (e : a ≡ pointer_address
 -- bytes are a number below 256 to their count
 little-below : (n : ℕ) (l : List ℕ) → Bytes l → length l ≤ n → little l < 256 ^ n
 little-below n [] b h = one-le-pow n 256 (zero-lt-suc 255)
-little-below zero (x ∷ l) b h = let z : ⊥ = omega arith in absurd z
+little-below zero (x ∷ l) b h = absurd (omega arith)
 little-below (suc n) (x ∷ l) b h = rw pow-succ' (omega (arith, little-below n l (bytes_rest x l b) (omega arith), b 0))
 
 -- the number of the bytes behind the ones that are still to come

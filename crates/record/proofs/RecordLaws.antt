@@ -104,8 +104,7 @@ put-held p v m r s e = go (dec_lt (length r.bits) (from p + bit_count p))
     go : Dec (length r.bits < from p + bit_count p) → Holds p r
     go (yes h) =
         let d : ◌≡◌ {A = Option Record} None (Some s) = sym (put-past p v m r h) ∙ e in
-        let z : ◌≡◌ {A = ℕ} 0 1 = cc in
-        absurd (omega arith)
+        cc
     go (no h) = omega arith
 
 -- and it leaves as many bits as there were

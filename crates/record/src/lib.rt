@@ -70,6 +70,7 @@ impl TryFrom<u32> for Width {
 
     ghost try_from_gives = { λ n r. r ≡ measured n };
 
+    // The width of so many bytes.
     fn try_from(bytes: u32) -> Result<Width, NoWidth> {
         match bytes {
             1 => Ok(Width::One),

@@ -51,6 +51,7 @@ fn leaf(letter: u8, about: &[u8], t: Text, buf: &mut [u8]) -> Text {
     }
 }
 
+// The text of a case: of a line with an indentation, an empty line, no lines, or a name or a number in a line of its own.
 fn answer(letter: u8, about: &[u8], t: Text, buf: &mut [u8]) -> Text {
     match letter {
         b'0'..=b'9' => t.line(buf, usize::from(letter - b'0'), about),
@@ -63,12 +64,14 @@ fn answer(letter: u8, about: &[u8], t: Text, buf: &mut [u8]) -> Text {
     }
 }
 
+// Prints the text of a case.
 fn print_answer(rt: &HostRuntime, letter: u8, about: &[u8], buf: &mut [u8]) -> io::Result<()> {
     let t = answer(letter, about, Text::at(0), buf);
     let n = programs::filled(t, buf);
     rt.write_all(&buf[..n])
 }
 
+// Prints a case, a letter and what it is about, with a byte between them; an empty line is none.
 fn print_case(rt: &HostRuntime, case: &[u8], buf: &mut [u8]) -> io::Result<()> {
     match case {
         [] => Ok(()),
@@ -77,6 +80,7 @@ fn print_case(rt: &HostRuntime, case: &[u8], buf: &mut [u8]) -> io::Result<()> {
     }
 }
 
+// Prints the cases, a line each.
 fn replay(rt: &HostRuntime, cases: &[u8], buf: &mut [u8]) -> io::Result<()> {
     for case in cases.split(|&b| b == b'\n') {
         print_case(rt, case, buf)?;

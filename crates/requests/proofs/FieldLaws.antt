@@ -33,7 +33,7 @@ use Rattle.codegen.specs.Zeroing as zero
 use Rattle.codegen.specs.Zeroing.{zero_fields_of_group, zeroing_request}
 use Rattle.zeroing.specs.Told.{Zeroes}
 use Rattle.zeroing.specs.declared.Zeroed.{Zeroed}
-use Rattle.requests.specs.Requests.{there, leaf_of, field_at, type_text, slot_named, slot_field, group_of, accessor_text}
+use Rattle.requests.specs.Requests.{there, field_at, type_text, slot_named, slot_field, group_of, accessor_text}
 use Rattle.requests.specs.declared.Accessor.{Accessor}
 use Rattle.requests.specs.declared.Accessor.TheVariants.{TypeText, Getter, Setter, Haser, Zeroing}
 use Rattle.requests.specs.Parts.{Locates}
@@ -126,29 +126,28 @@ module _ (s : Str) (f : tree.Field) {l : List ℕ} {t : Text} {l' : List ℕ} {q
       go (slot sl) h = absurd h
       go (group id) h = rw h.id-is k
 
-  pub slot-type : (sheet : Sheet) (r : code.Slot) (leaf : ℕ) (lf : Leaf) → FieldIs s (field.Slot r) f → leaf_of leaf ≡ ok lf
-      → On (read_type 16 (rows (drop r.typ s))) (λ ty. Writes (type_string ty sheet lf) l t l' q)
-      → Writes (type_text sheet f.arm leaf) l t l' q
+  pub slot-type : (sheet : Sheet) (r : code.Slot) (leaf : Leaf) → FieldIs s (field.Slot r) f
+      → On (read_type 16 (rows (drop r.typ s))) (λ ty. Writes (type_string ty sheet leaf) l t l' q)
+      → Writes (type_text sheet f.arm (Some leaf)) l t l' q
   unfolding type_text
-  slot-type sheet r leaf lf h e k = go f.arm h
+  slot-type sheet r leaf h k = go f.arm h
     where
-      go : (a : Arm) → SlotIn s r f.name f.discriminant a → Writes (type_text sheet a leaf) l t l' q
+      go : (a : Arm) → SlotIn s r f.name f.discriminant a → Writes (type_text sheet a (Some leaf)) l t l' q
       go (slot sl) h =
-          rw e (on-has (λ ty. Writes (type_string ty sheet lf) l t l' q) (read_type 16 (rows (drop r.typ s))) sl.ty k
-          h.typ)
+          on-has (λ ty. Writes (type_string ty sheet leaf) l t l' q) (read_type 16 (rows (drop r.typ s))) sl.ty k h.typ
       go (group id) h = absurd h
 
-  pub slot-no-leaf : (sheet : Sheet) (r : code.Slot) (leaf : ℕ) → FieldIs s (field.Slot r) f → leaf_of leaf ≡ refused 15
-      → Writes (refused 15) l t l' q → Writes (type_text sheet f.arm leaf) l t l' q
+  pub slot-no-leaf : (sheet : Sheet) (r : code.Slot) → FieldIs s (field.Slot r) f → Writes (refused 15) l t l' q
+      → Writes (type_text sheet f.arm None) l t l' q
   unfolding type_text
-  slot-no-leaf sheet r leaf h e k = go f.arm h
+  slot-no-leaf sheet r h k = go f.arm h
     where
-      go : (a : Arm) → SlotIn s r f.name f.discriminant a → Writes (type_text sheet a leaf) l t l' q
-      go (slot sl) h = rw e k
+      go : (a : Arm) → SlotIn s r f.name f.discriminant a → Writes (type_text sheet a None) l t l' q
+      go (slot sl) h = k
       go (group id) h = absurd h
 
-  pub group-no-type : (sheet : Sheet) (r : Group) (leaf : ℕ) → FieldIs s (field.Group r) f → Writes (refused 15) l t l' q
-      → Writes (type_text sheet f.arm leaf) l t l' q
+  pub group-no-type : (sheet : Sheet) (r : Group) (leaf : Option Leaf) → FieldIs s (field.Group r) f
+      → Writes (refused 15) l t l' q → Writes (type_text sheet f.arm leaf) l t l' q
   unfolding type_text
   group-no-type sheet r leaf h k = go f.arm h
     where

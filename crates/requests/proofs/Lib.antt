@@ -1,6 +1,5 @@
 pub mod LentLaws
 pub mod AnswerLaws
-pub mod LeafLaws
 pub mod FieldLaws
 pub mod PassLaws
 pub mod SheetLaws

@@ -1,31 +1,21 @@
 -- What the private parts of the code say, in the terms of the definitions. Assumes nothing.
-use Rattle.std.specs.Prelude.{◌≡◌, List, Bool, false, not, ℕ, ◌-◌, eqb, ltb, Option, None, Some, Result}
+use Rattle.std.specs.Prelude.{◌≡◌, List, Bool, false, not, ℕ, ◌-◌, eqb, Option, None, Some, Result}
 use Rattle.text.specs.Bytes.{cond}
 use Rattle.text.specs.declared.Text.{Text}
 use Rattle.terms.specs.declared.refusals.Refusal.{Refusal}
 use Rattle.tree.specs.Tree as tree
 use Rattle.tree.specs.Tree.{Node}
 use Rattle.codegen_types.specs.Out.{Out, ok, refused}
-use Rattle.codegen_types.specs.declared.Leaf.{Leaf}
 use Rattle.nodes.specs.Index.{Indexed, InSource}
 use Rattle.nodes.specs.declared.Source.{Source}
 use Rattle.field.specs.Field.{FieldIs}
 use Rattle.field.specs.declared.Field.{Field}
 use Rattle.field.specs.declared.Field.TheVariants as field
-use Rattle.requests.specs.Requests.{leaf_number, field_at, accessor_text, outcome, request_text}
+use Rattle.requests.specs.Requests.{field_at, accessor_text, outcome, request_text}
 use Rattle.requests.specs.Told.{Answered, OfField, all_unplaced}
 use Rattle.requests.specs.declared.Accessor.{Accessor}
 use Rattle.requests.specs.declared.Request.{Request}
 use Rattle.requests.specs.declared.Located.{Located}
-
--- the number of the leaf that was found, if one was
-abbrev pub leaf_said : Option Leaf → Option ℕ
-leaf_said (Some leaf) = Some (leaf_number leaf)
-leaf_said None = None
-
--- a number that is asked for, if a leaf has it: there are ten
-abbrev pub leaf_asked : ℕ → Option ℕ
-leaf_asked n = cond (ltb n 10) (Some n) None
 
 -- whether a field's type may have a brand with scopes: not where from the type to the words there is just room for one row of T,
 -- or for two, and a V row

@@ -1,5 +1,5 @@
 -- What can be requested and what it comes to: document 01, 'What can be requested' and the order of refusals. Assumes nothing.
-use Rattle.std.specs.Prelude.{Bool, List, [], ◌∷◌, ℕ, ltb, length}
+use Rattle.std.specs.Prelude.{Bool, List, ℕ, ltb, length}
 use Rattle.std.specs.Prelude.{Option}
 use Rattle.text.specs.Bytes.{Str, cond}
 use Rattle.text.specs.Answer as text
@@ -9,9 +9,6 @@ use Rattle.tree.specs.Read.{Admitted}
 use Rattle.codegen_types.specs.Out.{Out, ok, refused, or_refused, ◌then◌}
 use Rattle.codegen_types.specs.TypeString.{type_string}
 use Rattle.codegen_types.specs.declared.Leaf.{Leaf}
-use Rattle.codegen_types.specs.declared.Leaf.TheVariants.{Reader, Builder, Owned, Client, Server, ServerDispatch, Pipeline}
-use Rattle.codegen_types.specs.declared.Leaf.TheVariants.{GetType}
-use Rattle.codegen_types.specs.declared.Lifetime.TheVariants.{A, Anonymous}
 use Rattle.field.specs.Slot.{SlotField}
 use Rattle.codegen.specs.Getter.{getter_request}
 use Rattle.codegen.specs.Setter.{setter_request}
@@ -27,36 +24,13 @@ use Rattle.requests.specs.declared.Request.TheVariants as request
 abbrev pub there : {A : Type 0} → Option A → Out A
 there = or_refused 15
 
--- the number of each leaf
-abbrev pub leaf_number : Leaf → ℕ
-leaf_number (Reader A) = 0
-leaf_number (Reader Anonymous) = 2
-leaf_number (Builder A) = 1
-leaf_number (Builder Anonymous) = 3
-leaf_number Owned = 4
-leaf_number Client = 5
-leaf_number Server = 6
-leaf_number ServerDispatch = 7
-leaf_number Pipeline = 8
-leaf_number GetType = 9
-
--- the leaves by their numbers
-abbrev pub leaf_numbers : List Leaf
-leaf_numbers =
-    Reader A ∷ Builder A ∷ Reader Anonymous ∷ Builder Anonymous
-    ∷ Owned ∷ Client ∷ Server ∷ ServerDispatch ∷ Pipeline ∷ GetType ∷ []
-
--- no other number is a leaf's
-unfoldable pub leaf_of : ℕ → Out Leaf
-leaf_of k = there (nth k leaf_numbers)
-
 -- the node with an id and its field at a place, from 0, among its F and G lines
 unfoldable pub field_at : List Node → ℕ → ℕ → Out (Node × Field)
 field_at nodes id place = there (by_id id nodes) then λ n. there (nth place n.fields) then λ f. ok (n, f)
 
--- a type's text, of a slot alone: `type_string`
-unfoldable pub type_text : Sheet → Arm → ℕ → Out Str
-type_text sheet (slot s) leaf = leaf_of leaf then type_string s.ty sheet
+-- a type's text, of a slot alone: `type_string`; where no leaf is named, 15
+unfoldable pub type_text : Sheet → Arm → Option Leaf → Out Str
+type_text sheet (slot s) leaf = there leaf then type_string s.ty sheet
 type_text sheet (group id) leaf = refused 15
 
 -- a slot with its field's name and discriminant; accessors of a group are 15

@@ -10,16 +10,16 @@ ghost use Rattle.nodes.specs.Index.{index_size};
 ghost use Rattle.codegen_types.specs.Written.{Within};
 ghost use Rattle.field.specs.declared.Field.TheVariants as field_is;
 ghost use Rattle.requests.specs.Requests.{of_field, outcome_of};
-ghost use Rattle.requests.specs.Parts.{leaf_said, leaf_asked, may_have_scopes, LocatedIn, FieldAnswered, RequestAsked};
+ghost use Rattle.requests.specs.Parts.{may_have_scopes, LocatedIn, FieldAnswered, RequestAsked};
 ghost use Rattle.requests.specs.Told.{AccessorWritten, AccessorMeasured, RequestAnswered, Answered, AnswerWithin};
 ghost use Rattle.requests.specs.Told.{TextPassed, unplaced};
 ghost use Rattle.requests.specs.declared.Accessor.TheVariants.{TypeText};
 
-use codegen_types::{Leaf, Lifetime};
+use codegen_types::Leaf;
 use field::{Field, Group, Slot};
 use nodes::Source;
 use sheet::Refused;
-use terms::{Refusal, leaves, limits};
+use terms::{Refusal, limits};
 use text::Text;
 
 // The bytes from a type to its slot's words where the type is one row of T, and where it is two. A T row has 86, a V row 44.
@@ -32,11 +32,11 @@ const SHORT_SHEET: usize = 3072;
 
 const SHORT_INDEX: usize = 289;
 
-// A text of a field: of a slot its type's text for a leaf, by document 01's number, its getters, its setter and its hasers; of a
-// group its zeroing.
+// A text of a field: of a slot its type's text for a leaf, its getters, its setter and its hasers; of a group its zeroing. The
+// leaf is missing where it was asked for by a number that names none: this is 15, but only after 21 and the sheet's own refusal.
 #[derive(Clone, Copy)]
 pub enum Accessor {
-    TypeText { leaf: u64 },
+    TypeText { leaf: Option<Leaf> },
     Getter { is_reader: bool, is_fn: bool },
     Setter,
     Haser { is_reader: bool },
@@ -69,25 +69,6 @@ fn unplaced(refusal: Refusal) -> Refused
     }
 }
 
-// The leaf with a number: 0 to 3 are Reader and Builder, first with 'a, then with '_.
-fn leaf_of(number: u64) -> Option<Leaf>
-    ensures { leaf_said result ≡ leaf_asked number }
-{
-    match number {
-        leaves::READER_A => Some(Leaf::Reader(Lifetime::A)),
-        leaves::BUILDER_A => Some(Leaf::Builder(Lifetime::A)),
-        leaves::READER_ANONYMOUS => Some(Leaf::Reader(Lifetime::Anonymous)),
-        leaves::BUILDER_ANONYMOUS => Some(Leaf::Builder(Lifetime::Anonymous)),
-        leaves::OWNED => Some(Leaf::Owned),
-        leaves::CLIENT => Some(Leaf::Client),
-        leaves::SERVER => Some(Leaf::Server),
-        leaves::SERVER_DISPATCH => Some(Leaf::ServerDispatch),
-        leaves::PIPELINE => Some(Leaf::Pipeline),
-        leaves::GET_TYPE => Some(Leaf::GetType),
-        _ => None,
-    }
-}
-
 // The field at a place, from 0, of the node with an id.
 fn locate(source: &Source<'_>, id: u64, place: u64) -> Option<Located>
     ensures { LocatedIn source.now id place result }
@@ -100,11 +81,11 @@ fn locate(source: &Source<'_>, id: u64, place: u64) -> Option<Located>
     })
 }
 
-// The text of a slot's type for the leaf with a number.
+// The text of a slot's type for a leaf; where none is named, 15.
 fn type_text(
     source: &Source<'_>,
     slot: Slot,
-    leaf: u64,
+    leaf: Option<Leaf>,
     t: Text,
     buf: &mut [u8],
 ) -> Result<Text, Refusal>
@@ -112,7 +93,7 @@ fn type_text(
         (TypeText leaf) buf.old t buf.new result }
     ensures within { Within buf.old t buf.new result }
 {
-    let Some(leaf) = leaf_of(leaf) else {
+    let Some(leaf) = leaf else {
         return Err(Refusal::NotThere);
     };
     type_string::type_string(source, slot.typ, leaf, t, buf)

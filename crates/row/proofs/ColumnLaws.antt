@@ -4,9 +4,15 @@
 use mathlib.Core.Path.{◌≡◌, refl, sym, ap, ◌∙◌}
 use mathlib.Core.Bool.{Bool, true, false}
 use Rattle.std.specs.Prelude.{Option, None, Some}
-use Prim.Native.Nat.{ℕ, ◌+◌}
-use Rattle.text.specs.Bytes.{Str}
-use Rattle.row.specs.Line.{Content, Bad, fault, letter_of, given}
+use Prim.Native.Nat.{ℕ, ◌+◌, ◌<◌, ◌≤◌}
+use native.Mathlib.Decide.{dec_lt}
+use native.Mathlib.Omega.{arith}
+use lib.Dec.{ltb}
+use lib.ListN.{length, take, drop}
+use borrow.Author.Tests.{lt-ltb, le-ltb}
+use Rattle.text.specs.Bytes.{Str, cond}
+use Rattle.column.specs.Number.{number, within, column_of}
+use Rattle.row.specs.Line.{Content, Bad, fault, letter_of, given, with_number}
 
 -- a line that goes on with a number has what a line with a bad number has, and each line that it goes on with
 pub by_number :
@@ -75,3 +81,21 @@ no_text e h = sym e ∙ h
 
 pub is-text : {p b : Bool} → p ≡ b → p ≡ true → b ≡ true
 is-text e h = sym e ∙ h
+
+-- a number is no greater than its bound, so a line that goes on with it may go on with what is the same up to there
+pub number-bounded :
+    (t : Str) (a most : ℕ) (f g : ℕ → Content) → ((n : ℕ) → n ≤ most → f n ≡ g n)
+    → with_number t a 0 most f ≡ with_number t a 0 most g
+unfolding column_of
+number-bounded t a most f g same = go (ltb (length t) (a + 21)) (number (take 21 (drop a t)))
+  where
+    inside : (v : ℕ) → Dec (most < v)
+        → given t a (cond (ltb most v) None (Some v)) f ≡ given t a (cond (ltb most v) None (Some v)) g
+    inside v (yes h) = rw (lt-ltb most v h) refl
+    inside v (no h) = rw (le-ltb most v (omega arith)) (same v (omega arith))
+
+    go : (short : Bool) (o : Option ℕ)
+        → given t a (cond short None (within 0 most o)) f ≡ given t a (cond short None (within 0 most o)) g
+    go true o = refl
+    go false None = refl
+    go false (Some v) = rw (le-ltb v 0 (omega arith)) (inside v (dec_lt most v))

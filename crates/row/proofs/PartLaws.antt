@@ -2,6 +2,7 @@
 -- columns say what is asked of it. Assumes nothing.
 use mathlib.Core.Path.{◌≡◌, refl, sym, ap, ◌∙◌}
 use mathlib.Core.Bool.{Bool, true, false}
+use mathlib.Core.Logic.{◌⊎◌, inl, inr}
 use mathlib.Core.List.{List, [], ◌∷◌}
 use Rattle.std.specs.Prelude.{Some}
 use Prim.Native.Nat.{ℕ, suc, ◌+◌, ◌-◌, ◌*◌, ◌<◌, ◌≤◌}
@@ -10,7 +11,11 @@ use native.Mathlib.Nat.{add-zero, add-sub_cancel_left}
 use lib.Dec.{eqb}
 use lib.ListN.{length, get_or, take, drop, length-append, length-drop, take-append-drop}
 use lib.Seq.{drop-cons, drop-drop, get_or-drop, length-take-le}
-use borrow.Author.Tests.{eqb-false, eq-eqb, ne_eqb, lt-ltb, le-ltb}
+use borrow.Author.Tests.{eqb-false, ne_eqb, le-ltb}
+use Rattle.terms.specs.Kinds.{number_of, kind_numbered}
+use Rattle.terms.specs.declared.kinds.Kind.{Kind}
+use Rattle.terms.specs.declared.kinds.Kind.TheVariants as kind
+use Rattle.terms.proofs.KindLaws.{as-kind}
 use Rattle.text.specs.Bytes.{Str, cond, unit}
 use Rattle.column.specs.Number.{column_of, most}
 use Rattle.column.proofs.PaddedLaws.{column-printed}
@@ -45,22 +50,30 @@ scope-owed (r ∷ rs) i b n e = scope_counts i b n (printed-line r (Scope i b n)
 
 -- ---- a T line announces by its kind
 
-module _ (k a b c : ℕ) where
-  pub owed-plain : k < 14 → 0 ≡ owed (Typ k a b c)
+module _ (n a b c : ℕ) where
+  -- a number that is none's announces what the last kind's does
+  owed_kind : owed (Typ n a b c) ≡ owed (Typ (number_of (kind_numbered n)) a b c)
   unfolding owed
-  owed-plain h = rw (lt-ltb k 14 h)
+  owed_kind = as-kind (λ (k : ℕ). owed (Typ k a b c))
+      (λ k h. rw (le-ltb k 14 (omega arith), ne_eqb k 14 (λ z. omega arith), le-ltb k 18 h) refl) n
 
-  pub owed-list : k ≡ 14 → 1 ≡ owed (Typ k a b c)
+module _ (a b c : ℕ) where
+  pub owed-none :
+      (k : Kind) → (k ≡ kind.List → ⊥) → (k ≡ kind.Enum → ⊥) → (k ≡ kind.Struct → ⊥) → (k ≡ kind.Interface → ⊥)
+      → 0 ≡ owed (Typ (number_of k) a b c)
   unfolding owed
-  owed-list h = rw (le-ltb k 14 (omega arith), eq-eqb k 14 h)
+  owed-none kind.List l e s i = absurd (l refl)
+  owed-none kind.Enum l e s i = absurd (e refl)
+  owed-none kind.Struct l e s i = absurd (s refl)
+  owed-none kind.Interface l e s i = absurd (i refl)
+  owed-none k l e s i = refl
 
-  pub owed_brand : 14 ≤ k → (k ≡ 14 → ⊥) → k < 18 → b ≡ owed (Typ k a b c)
+  pub owed-branded :
+      (k : Kind) → (k ≡ kind.Enum) ⊎ ((k ≡ kind.Struct) ⊎ (k ≡ kind.Interface)) → b ≡ owed (Typ (number_of k) a b c)
   unfolding owed
-  owed_brand l n h = rw (le-ltb k 14 l, ne_eqb k 14 n, lt-ltb k 18 h)
-
-  pub owed-pointer : 18 ≤ k → 0 ≡ owed (Typ k a b c)
-  unfolding owed
-  owed-pointer h = rw (le-ltb k 14 (omega arith), ne_eqb k 14 (λ z. omega arith), le-ltb k 18 h)
+  owed-branded k (inl e) = rw e refl
+  owed-branded k (inr (inl e)) = rw e refl
+  owed-branded k (inr (inr e)) = rw e refl
 
 -- ---- a line printed from a position on
 
@@ -191,6 +204,12 @@ module _ (s : Str) (at : ℕ) (h : at < length s) where
   pub type-scopes : (k a b c : ℕ) → line_at (rows (drop at s)) ≡ Typ k a b c → column_of s (at + 43) 0 (most 64) ≡ Some b
   type-scopes k a b c is = column-at s at 84 _ 86 2 (type-here k a b c is) (omega arith)
 
+  -- what the kind with the number in its column announces, a T row does
+  pub type_owes :
+      (n : ℕ) → ((v : ℕ) → column_of s (at + 1) 0 (most 64) ≡ Some v → n ≡ v) → (m k a b c : ℕ)
+      → line_at (rows (drop at s)) ≡ Typ k a b c → m ≡ owed (Typ (number_of (kind_numbered n)) a b c) → m ≡ owed (Typ k a b c)
+  type_owes n known m k a b c is e = e ∙ rw (known k (type-kind k a b c is)) (sym (owed_kind k a b c))
+
   -- what is said of each letter's line is said of the row
   abbrev Told : ℕ → ℕ → Content → Type 0
   Told m next l = (m ≡ owed l) × (rows (drop next s) ≡ rest_of (rows (drop at s)))
@@ -252,6 +271,3 @@ module _ (s : Str) (at : ℕ) (h : at < length s) where
 
 -- what is promised of a part, by its letter and by how much is left
 pub ruleset parts = (part_none, part_type, type-out, part-scope, scope-out, part-unbound, unbound-out)
-
--- what is owed by a T row, by its kind
-pub ruleset owing = (type-kind, type-scopes, owed-plain, owed-list, owed_brand, owed-pointer)

@@ -11,6 +11,7 @@ use Rattle.column.specs.Texts.{ends_in, is_name, is_field_name, is_graphic_text}
 use Rattle.row.specs.declared.BadLine.{BadLine}
 use Rattle.row.specs.declared.Line.{Line}
 use Rattle.row.specs.declared.Line.TheVariants as line
+use Rattle.terms.specs.Kinds.{number_of}
 use Rattle.terms.specs.Refusals as refusal
 
 -- what is wrong with a line: document 01's number of the refusal, and the column, in bytes from 1
@@ -48,10 +49,10 @@ good_said (line.Node id parent scope is_struct generic tag_count tag_offset) =
 good_said line.Parameter = Parameter
 good_said (line.Field offset discriminant explicit option) = Field offset discriminant explicit option
 good_said (line.Group id discriminant) = Group id discriminant
-good_said (line.Typ kind a b c) = Typ kind a b c
+good_said (line.Typ kind a b c) = Typ (number_of kind) a b c
 good_said (line.Scope id bind count) = Scope id bind count
 good_said line.Unbound = Unbound
-good_said (line.Value kind bits) = Value kind bits
+good_said (line.Value kind bits) = Value (number_of kind) bits
 good_said (line.Word value) = Word value
 
 -- what an answer of the code gives

@@ -15,7 +15,7 @@ use ends::line_end;
 pub use ends::{find_newline, row_end};
 use lines::{NO_LINE, read};
 pub use parts::part;
-use terms::Refusal;
+use terms::{Kind, Refusal};
 
 // The bytes of two U rows as one number, the first lowest.
 const TWO_UNBOUND: u64 = 0x0a55_0a55;
@@ -51,7 +51,7 @@ pub enum Line {
     },
     // T
     Typ {
-        kind: u64,
+        kind: Kind,
         a: u64,
         b: u64,
         c: u64,
@@ -66,7 +66,7 @@ pub enum Line {
     Unbound,
     // V
     Value {
-        kind: u64,
+        kind: Kind,
         bits: u64,
     },
     // W

@@ -1,6 +1,7 @@
 // What a line says, by its letter: its numbers and its text from left to right, or the first of them that is bad.
 ghost use Rattle.std.specs.Prelude.{◌≡◌, ◌^◌, ◌<◌, ℕ};
 ghost use Rattle.text.specs.Bytes.{cond};
+ghost use Rattle.terms.specs.Kinds.{number_of};
 ghost use Rattle.row.specs.Line.{root_line, node_line, parameter_line, field_line, group_line};
 ghost use Rattle.row.specs.Line.{type_line, scope_line, unbound_line, value_line, word_line};
 ghost use Rattle.row.specs.Line.{Content, Bad, letter_of, bad_text, line_said, good_said, said_with};
@@ -8,14 +9,16 @@ ghost use Rattle.row.specs.Line.{with_number, with_nothing, reader};
 ghost use Rattle.row.specs.Line.{most_a, most_b, most_c, most_count, most_bits};
 
 use crate::{BadLine, Line};
-use terms::{Refusal, kinds, limits};
+use terms::{Kind, Refusal, limits};
 
 // The greatest numbers of 32 and 16 bits.
 const MOST_32: u64 = 0xffff_ffff;
 
 const MOST_16: u64 = 0xffff;
 
-// How many kinds there are.
+// The number of the last kind, and how many kinds there are.
+const LAST_KIND: u64 = Kind::AnyPointer as u64;
+
 const KINDS: usize = 19;
 
 // The greatest bits of a value of each kind: Void, Bool, Int8 to Int64, Uint8 to Uint64, Float32, Float64, Text, Data, List,
@@ -183,44 +186,48 @@ fn group_line(t: &[u8]) -> Result<Line, BadLine>
     Ok(Line::Group { id, discriminant })
 }
 
-// T's a by the kind: an id for kinds 15 to 17, 0 or 1 for kind 18, otherwise 0.
+// The kind of a T or a V line: its first number.
+#[inline(always)]
+#[tactic(auto, unfolding(crate::specs::Line::line_said))]
+fn kind(t: &[u8]) -> Result<Kind, BadLine>
+    ensures { (f : ℕ → Content) → said_with result (λ k. f (number_of k)) ≡ with_number t.now 1 0 18 f }
+{
+    let n = number(t, 1, 0, LAST_KIND)?;
+    Ok(Kind::from(n))
+}
+
+// T's a by the kind: an id for Enum, Struct and Interface, 0 or 1 for AnyPointer, otherwise 0.
 #[tactic(auto, unfolding(crate::specs::Line::most_a))]
-fn most_a(kind: u64) -> u64
-    ensures { result ≡ most_a kind }
+fn most_a(kind: Kind) -> u64
+    ensures { result ≡ most_a (number_of kind) }
 {
     match kind {
-        kinds::VOID..=kinds::LIST => 0,
-        kinds::ENUM..=kinds::INTERFACE => u64::MAX,
-        _ => 1,
+        Kind::Enum | Kind::Struct | Kind::Interface => u64::MAX,
+        Kind::AnyPointer => 1,
+        _ => 0,
     }
 }
 
-// T's b: a number of scopes for kinds 15 to 17, a scope id for a parameter, otherwise 0.
+// T's b: a number of scopes for Enum, Struct and Interface, a scope id for a parameter, otherwise 0.
 #[tactic(auto, unfolding(crate::specs::Line::most_b))]
-fn most_b(kind: u64, a: u64) -> u64
-    ensures { result ≡ most_b kind a }
+fn most_b(kind: Kind, a: u64) -> u64
+    ensures { result ≡ most_b (number_of kind) a }
 {
     match kind {
-        kinds::VOID..=kinds::LIST => 0,
-        kinds::ENUM..=kinds::INTERFACE => u64::MAX,
-        _ => match a {
-            0 => 0,
-            _ => u64::MAX,
-        },
+        Kind::Enum | Kind::Struct | Kind::Interface => u64::MAX,
+        Kind::AnyPointer if a != 0 => u64::MAX,
+        _ => 0,
     }
 }
 
 // T's c: a parameter's index, otherwise 0.
 #[tactic(auto, unfolding(crate::specs::Line::most_c))]
-fn most_c(kind: u64, a: u64) -> u64
-    ensures { result ≡ most_c kind a }
+fn most_c(kind: Kind, a: u64) -> u64
+    ensures { result ≡ most_c (number_of kind) a }
 {
     match kind {
-        kinds::VOID..=kinds::INTERFACE => 0,
-        _ => match a {
-            0 => 0,
-            _ => MOST_16,
-        },
+        Kind::AnyPointer if a != 0 => MOST_16,
+        _ => 0,
     }
 }
 
@@ -229,7 +236,7 @@ fn most_c(kind: u64, a: u64) -> u64
 fn type_line(t: &[u8]) -> Result<Line, BadLine>
     ensures { line_said result ≡ type_line t.now }
 {
-    let kind = number(t, 1, 0, kinds::ANY_POINTER)?;
+    let kind = kind(t)?;
     let a = number(t, 22, 0, most_a(kind))?;
     let b = number(t, 43, 0, most_b(kind, a))?;
     let c = number(t, 64, 0, most_c(kind, a))?;
@@ -268,10 +275,10 @@ fn unbound_line(t: &[u8]) -> Result<Line, BadLine>
 
 // V's bits: as many as the kind's values have.
 #[tactic(auto, unfolding(crate::specs::Line::most_bits))]
-fn most_bits(kind: u64) -> u64
-    ensures { result ≡ most_bits kind }
+fn most_bits(kind: Kind) -> u64
+    ensures { result ≡ most_bits (number_of kind) }
 {
-    MOST_BITS.get(kind as usize).copied().unwrap_or(0)
+    MOST_BITS[kind as usize]
 }
 
 // V: the kind, and bits that fit its width.
@@ -279,7 +286,7 @@ fn most_bits(kind: u64) -> u64
 fn value_line(t: &[u8]) -> Result<Line, BadLine>
     ensures { line_said result ≡ value_line t.now }
 {
-    let kind = number(t, 1, 0, kinds::ANY_POINTER)?;
+    let kind = kind(t)?;
     let bits = number(t, 22, 0, most_bits(kind))?;
     nothing(t, 43)?;
     Ok(Line::Value { kind, bits })

@@ -5,17 +5,16 @@ ghost use Rattle.row.specs.Line.{Typ, line_at};
 ghost use Rattle.row.specs.Part.{owed, PartAt};
 
 use crate::Owing;
-use terms::kinds;
+use terms::Kind;
 
 // How many types or scopes belong to a T row.
-#[tactic(auto, using(crate::proofs::PartLaws::owing))]
 fn type_owed(s: &[u8], at: usize) -> u64
     requires { at + 86 ≤ length s.now }
     ensures { (k a b c : ℕ) → line_at (rows (drop at s.now)) ≡ Typ k a b c → result ≡ owed (Typ k a b c) }
 {
-    match column::known(s, at + 1) {
-        kinds::LIST => 1,
-        kinds::ENUM..=kinds::INTERFACE => column::known(s, at + 43),
+    match Kind::from(column::known(s, at + 1)) {
+        Kind::List => 1,
+        Kind::Enum | Kind::Struct | Kind::Interface => column::known(s, at + 43),
         _ => 0,
     }
 }

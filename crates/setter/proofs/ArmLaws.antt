@@ -9,6 +9,7 @@ use native.Mathlib.Omega.{arith}
 use borrow.Author.Tests.{ne_eqb, eqb-true, eqb-false}
 use lib.Dec.{eqb, leb}
 use lib.ListN.{drop}
+use Rattle.terms.specs.Kinds.{number_of}
 use Rattle.text.specs.Bytes.{Str, ascii, either}
 use Rattle.text.specs.Decimal.{decimal}
 use Rattle.text.specs.Lines as lines
@@ -52,7 +53,7 @@ use Rattle.setter.proofs.TypeLaws.{at-list, at_enum, at-struct, at-interface, at
 use Rattle.setter.proofs.Laws.{made, both_parts, three_parts, only_end, only-writes, both-writes, three_writes}
 
 -- the default of a slot of the tree, by its numbers
-default-here : (s : tree.Slot) (r : Slot) → SlotIs r s → s.default ≡ value r.default r.bits
+default-here : (s : tree.Slot) (r : Slot) → SlotIs r s → s.default ≡ value (number_of r.default) r.bits
 default-here s r is = rw (← is.default, ← is.bits) refl
 
 -- what a setter takes, around the text of whatever type is read
@@ -93,7 +94,7 @@ module _ (bytes : Str) (r : Slot) (f : SlotField) (here : SlotHere bytes r f) wh
     both sized size a b =
         both_parts sheet.root tag name r.discriminant r.offset sized (init_pointer sheet.root r.offset size) a b
 
-    pub struct-is : r.kind ≡ 16
+    pub struct-is : number_of r.kind ≡ 16
         → text ≡ from (typ (Reader Anonymous) then λ a. typ (Builder A) then λ b. ok (both false (ascii "0") a b))
     unfolding generate_setter
     struct-is k =
@@ -101,7 +102,7 @@ module _ (bytes : Str) (r : Slot) (f : SlotField) (here : SlotHere bytes r f) wh
         ≡ from (typ (Reader Anonymous) then λ a. typ (Builder A) then λ b. ok (both false (ascii "0") a b)))
         f.slot.ty r.id is.id (is.kind ∙ k) (λ j ss. rw is.offset refl)
 
-    pub list-is : r.kind ≡ 14 → (el : Ty) × (f.slot.ty ≡ list el)
+    pub list-is : number_of r.kind ≡ 14 → (el : Ty) × (f.slot.ty ≡ list el)
         × (text ≡ from (list_reader_type sheet el f.slot.ty then λ a. typ (Builder A) then λ b.
         ok (both true (ascii "size") a b)))
     unfolding generate_setter
@@ -111,7 +112,7 @@ module _ (bytes : Str) (r : Slot) (f : SlotField) (here : SlotHere bytes r f) wh
         ≡ from (list_reader_type sheet el f.slot.ty then λ a. typ (Builder A) then λ b. ok (both true (ascii "size") a b))))
         f.slot.ty r.id is.id (is.kind ∙ k) (λ el z. (el, z, rw is.offset refl)) refl
 
-    pub interface-is : r.kind ≡ 17 → text ≡ from (typ Client then λ c.
+    pub interface-is : number_of r.kind ≡ 17 → text ≡ from (typ Client then λ c.
         ok (setter_only (ascii "value") (line_alone (reborrowed r.offset ++ ascii ".set_capability(value.client.hook);")) c))
     unfolding generate_setter
     interface-is k =
@@ -122,18 +123,20 @@ module _ (bytes : Str) (r : Slot) (f : SlotField) (here : SlotHere bytes r f) wh
     abbrev line : Option Str → Str
     line mask = set_data_field (ascii "u16") r.offset (ascii "value as u16") mask
 
-    pub enum-is : r.kind ≡ 15 → text ≡ from (get_qualified_module sheet r.id then λ m.
-        explicit_mask r.explicit (value r.default r.bits) then λ x. ok (setter_only (ascii "value") (line_alone (line x)) m))
+    pub enum-is : number_of r.kind ≡ 15 → text ≡ from (get_qualified_module sheet r.id then λ m.
+        explicit_mask r.explicit (value (number_of r.default) r.bits) then λ x.
+        ok (setter_only (ascii "value") (line_alone (line x)) m))
     unfolding generate_setter
     enum-is k =
         at_enum (λ ty. from (setter_parts sheet f.slot ty) ≡ from (get_qualified_module sheet r.id then λ m.
-        explicit_mask r.explicit (value r.default r.bits) then λ x. ok (setter_only (ascii "value") (line_alone (line x)) m)))
+        explicit_mask r.explicit (value (number_of r.default) r.bits) then λ x.
+        ok (setter_only (ascii "value") (line_alone (line x)) m)))
         f.slot.ty r.id is.id (is.kind ∙ k) (λ ss. rw (is.offset, is.explicit, default-here f.slot r is) refl)
 
     abbrev new : Str → Str
     new call = new_pointer sheet.root r.offset ++ call
 
-    pub parameter-is : r.kind ≡ 18 → (r.id ≡ 0 → ⊥) → text ≡ from (typ (Builder A) then λ b. typ Owned then λ w.
+    pub parameter-is : number_of r.kind ≡ 18 → (r.id ≡ 0 → ⊥) → text ≡ from (typ (Builder A) then λ b. typ Owned then λ w.
         ok (three_parts sheet.root tag name r.discriminant r.offset (new (ascii ".initn_as(length)"))
         (new (ascii ".init_as()")) b w))
     unfolding generate_setter
@@ -170,45 +173,46 @@ module _ (bytes : Str) (r : Slot) (f : SlotField) (here : SlotHere bytes r f) wh
     module _ {l l' : List ℕ} {t : Text} (l₁ : List ℕ) (t₁ : Text) (l₂ : List ℕ) where
       -- the first type is refused
       module _ (e : Refusal) where
-        pub struct-first : r.kind ≡ 16 → There (read (Reader Anonymous)) l₁ t₁ l₂ (Err e) → Writes text l t l' (Err e)
+        pub struct-first : number_of r.kind ≡ 16 → There (read (Reader Anonymous)) l₁ t₁ l₂ (Err e) → Writes text l t l' (Err e)
         struct-first k x =
             rw (struct-is k, refusal-is (typ (Reader Anonymous)) (there (read (Reader Anonymous)) l₁ t₁ l₂ (Err e) x))
             (refused-text refl)
 
-        pub list-first : r.kind ≡ 14 → ListReader l₁ t₁ l₂ (Err e) → Writes text l t l' (Err e)
+        pub list-first : number_of r.kind ≡ 14 → ListReader l₁ t₁ l₂ (Err e) → Writes text l t l' (Err e)
         list-first k x =
             let arm = list-is k in
             rw (arm.2, refusal-is (list_reader_type sheet arm.0 f.slot.ty) (list_reader l₁ t₁ l₂ (Err e) x arm.0 arm.1))
             (refused-text refl)
 
-        pub interface-first : r.kind ≡ 17 → There (read Client) l₁ t₁ l₂ (Err e) → Writes text l t l' (Err e)
+        pub interface-first : number_of r.kind ≡ 17 → There (read Client) l₁ t₁ l₂ (Err e) → Writes text l t l' (Err e)
         interface-first k x =
             rw (interface-is k, refusal-is (typ Client) (there (read Client) l₁ t₁ l₂ (Err e) x)) (refused-text refl)
 
-        pub enum-first : r.kind ≡ 15 → Writes (get_qualified_module sheet r.id) l₁ t₁ l₂ (Err e) → Writes text l t l' (Err e)
+        pub enum-first : number_of r.kind ≡ 15 → Writes (get_qualified_module sheet r.id) l₁ t₁ l₂ (Err e)
+            → Writes text l t l' (Err e)
         enum-first k x = rw (enum-is k, refusal-is (get_qualified_module sheet r.id) x) (refused-text refl)
 
-        pub parameter-first : r.kind ≡ 18 → (r.id ≡ 0 → ⊥) → There (read (Builder A)) l₁ t₁ l₂ (Err e)
+        pub parameter-first : number_of r.kind ≡ 18 → (r.id ≡ 0 → ⊥) → There (read (Builder A)) l₁ t₁ l₂ (Err e)
             → Writes text l t l' (Err e)
         parameter-first k n x =
             rw (parameter-is k n, refusal-is (typ (Builder A)) (there (read (Builder A)) l₁ t₁ l₂ (Err e) x)) (refused-text refl)
 
       -- it is not, and what comes after it is
       module _ (u : Text) (l₄ : List ℕ) (t₄ : Text) (l₅ : List ℕ) (e : Refusal) where
-        pub struct-later : r.kind ≡ 16 → There (read (Reader Anonymous)) l₁ t₁ l₂ (Ok u)
+        pub struct-later : number_of r.kind ≡ 16 → There (read (Reader Anonymous)) l₁ t₁ l₂ (Ok u)
             → There (read (Builder A)) l₄ t₄ l₅ (Err e) → Writes text l t l' (Err e)
         struct-later k x y =
             let p = text-of (typ (Reader Anonymous)) (there (read (Reader Anonymous)) l₁ t₁ l₂ (Ok u) x) in
             rw (struct-is k, p.is, refusal-is (typ (Builder A)) (there (read (Builder A)) l₄ t₄ l₅ (Err e) y)) (refused-text refl)
 
-        pub list-later : r.kind ≡ 14 → ListReader l₁ t₁ l₂ (Ok u) → There (read (Builder A)) l₄ t₄ l₅ (Err e)
+        pub list-later : number_of r.kind ≡ 14 → ListReader l₁ t₁ l₂ (Ok u) → There (read (Builder A)) l₄ t₄ l₅ (Err e)
             → Writes text l t l' (Err e)
         list-later k x y =
             let arm = list-is k in
             let p = text-of (list_reader_type sheet arm.0 f.slot.ty) (list_reader l₁ t₁ l₂ (Ok u) x arm.0 arm.1) in
             rw (arm.2, p.is, refusal-is (typ (Builder A)) (there (read (Builder A)) l₄ t₄ l₅ (Err e) y)) (refused-text refl)
 
-        pub parameter-later : r.kind ≡ 18 → (r.id ≡ 0 → ⊥) → There (read (Builder A)) l₁ t₁ l₂ (Ok u)
+        pub parameter-later : number_of r.kind ≡ 18 → (r.id ≡ 0 → ⊥) → There (read (Builder A)) l₁ t₁ l₂ (Ok u)
             → There (input_type sheet) l₄ t₄ l₅ (Err e) → Writes text l t l' (Err e)
         parameter-later k n x y =
             let p = text-of (typ (Builder A)) (there (read (Builder A)) l₁ t₁ l₂ (Ok u) x) in
@@ -220,14 +224,14 @@ module _ (bytes : Str) (r : Slot) (f : SlotField) (here : SlotHere bytes r f) wh
             go b (ok w) z = let q = z.refusal in never cc
             go b (refused k) z = refused-text (ok-some z.refusal)
 
-      pub enum-later : (u : Text) (e : Refusal) → r.kind ≡ 15 → Writes (get_qualified_module sheet r.id) l₁ t₁ l₂ (Ok u)
-          → refused (number e) ≡ explicit_mask r.explicit (value r.default r.bits) → Writes text l t l' (Err e)
+      pub enum-later : (u : Text) (e : Refusal) → number_of r.kind ≡ 15 → Writes (get_qualified_module sheet r.id) l₁ t₁ l₂ (Ok u)
+          → refused (number e) ≡ explicit_mask r.explicit (value (number_of r.default) r.bits) → Writes text l t l' (Err e)
       enum-later u e k x m =
           let p = text-of (get_qualified_module sheet r.id) x in rw (enum-is k, p.is, ← m) (refused-text refl)
 
     -- nothing is refused
     module _ {l l₁ l₂ l₃ l₄ l₅ l₆ : List ℕ} {t t₁ t₃ t₄ t₆ v w : Text} where
-      pub struct-here : r.kind ≡ 16 → Wrote l t (set_open name) l₁ t₁ → There (read (Reader Anonymous)) l₁ t₁ l₂ (Ok v)
+      pub struct-here : number_of r.kind ≡ 16 → Wrote l t (set_open name) l₁ t₁ → There (read (Reader Anonymous)) l₁ t₁ l₂ (Ok v)
           → Wrote l₂ v (set_end sheet.root tag r.discriminant r.offset) l₃ t₃
           → Wrote l₃ t₃ (init_open name false) l₄ t₄ → There (read (Builder A)) l₄ t₄ l₅ (Ok w)
           → Wrote l₅ w (init_end tag r.discriminant (init_pointer sheet.root r.offset (ascii "0"))) l₆ t₆
@@ -238,7 +242,7 @@ module _ (bytes : Str) (r : Slot) (f : SlotField) (here : SlotHere bytes r f) wh
           (typ (Reader Anonymous)) (typ (Builder A)) a (there (read (Reader Anonymous)) l₁ t₁ l₂ (Ok v) x) b
           c (there (read (Builder A)) l₄ t₄ l₅ (Ok w) y) e)
 
-      pub list-here : r.kind ≡ 14 → Wrote l t (set_open name) l₁ t₁ → ListReader l₁ t₁ l₂ (Ok v)
+      pub list-here : number_of r.kind ≡ 14 → Wrote l t (set_open name) l₁ t₁ → ListReader l₁ t₁ l₂ (Ok v)
           → Wrote l₂ v (set_end sheet.root tag r.discriminant r.offset) l₃ t₃
           → Wrote l₃ t₃ (init_open name true) l₄ t₄ → There (read (Builder A)) l₄ t₄ l₅ (Ok w)
           → Wrote l₅ w (init_end tag r.discriminant (init_pointer sheet.root r.offset (ascii "size"))) l₆ t₆
@@ -250,7 +254,7 @@ module _ (bytes : Str) (r : Slot) (f : SlotField) (here : SlotHere bytes r f) wh
           (list_reader_type sheet arm.0 f.slot.ty) (typ (Builder A)) a (list_reader l₁ t₁ l₂ (Ok v) x arm.0 arm.1) b
           c (there (read (Builder A)) l₄ t₄ l₅ (Ok w) y) e)
 
-    pub interface-here : {l l₁ l₂ l₃ : List ℕ} {t t₁ u t₃ : Text} → r.kind ≡ 17 → Wrote l t (set_open name) l₁ t₁
+    pub interface-here : {l l₁ l₂ l₃ : List ℕ} {t t₁ u t₃ : Text} → number_of r.kind ≡ 17 → Wrote l t (set_open name) l₁ t₁
         → There (read Client) l₁ t₁ l₂ (Ok u)
         → Wrote l₂ u (only_end tag r.discriminant (reborrowed r.offset ++ ascii ".set_capability(value.client.hook);")) l₃ t₃
         → Writes text l t l₃ (Ok t₃)
@@ -260,17 +264,17 @@ module _ (bytes : Str) (r : Slot) (f : SlotField) (here : SlotHere bytes r f) wh
         (λ (z : Unit {0}). reborrowed r.offset ++ ascii ".set_capability(value.client.hook);") (typ Client) refl a
         (there (read Client) l₁ t₁ l₂ (Ok u) x) b)
 
-    pub enum-here : {l l₁ l₂ l₃ : List ℕ} {t t₁ u t₃ : Text} (mask : Option Str) → r.kind ≡ 15
-        → ok mask ≡ explicit_mask r.explicit (value r.default r.bits) → Wrote l t (set_open name) l₁ t₁
+    pub enum-here : {l l₁ l₂ l₃ : List ℕ} {t t₁ u t₃ : Text} (mask : Option Str) → number_of r.kind ≡ 15
+        → ok mask ≡ explicit_mask r.explicit (value (number_of r.default) r.bits) → Wrote l t (set_open name) l₁ t₁
         → Writes (get_qualified_module sheet r.id) l₁ t₁ l₂ (Ok u)
         → Wrote l₂ u (only_end tag r.discriminant (line mask)) l₃ t₃ → Writes text l t l₃ (Ok t₃)
     enum-here mask k m a x b =
         rw (enum-is k)
-        (only-writes sheet.root tag name r.discriminant (explicit_mask r.explicit (value r.default r.bits)) mask line
+        (only-writes sheet.root tag name r.discriminant (explicit_mask r.explicit (value (number_of r.default) r.bits)) mask line
         (get_qualified_module sheet r.id) (sym m) a x b)
 
     pub parameter-here : {l l₁ l₂ l₃ l₄ l₅ l₆ l₇ l₈ l₉ : List ℕ} {t t₁ t₃ t₄ t₆ t₇ t₉ u v w : Text}
-        → r.kind ≡ 18 → (r.id ≡ 0 → ⊥)
+        → number_of r.kind ≡ 18 → (r.id ≡ 0 → ⊥)
         → Wrote l t (initn_open name) l₁ t₁ → There (read (Builder A)) l₁ t₁ l₂ (Ok u)
         → Wrote l₂ u (init_end tag r.discriminant (new (ascii ".initn_as(length)"))) l₃ t₃
         → Wrote l₃ t₃ (set_open name) l₄ t₄ → There (input_type sheet) l₄ t₄ l₅ (Ok v)
@@ -331,13 +335,13 @@ prim_text sheet k le =
     rw (ne_eqb k 12 (λ e. let z : ⊥ = omega arith in absurd z), ne_eqb k 13 (λ e. let z : ⊥ = omega arith in absurd z)) refl
 
 module _ (sheet : Sheet) (s : tree.Slot) (r : Slot) (is : SlotIs r s) (tag : ℕ) (name : Str) (d : ℕ) where
-  parts_at : (k : ℕ) → r.kind ≡ k → k ≤ 13 → setter_parts sheet s s.ty ≡ setter_parts sheet s (plain k)
+  parts_at : (k : ℕ) → number_of r.kind ≡ k → k ≤ 13 → setter_parts sheet s s.ty ≡ setter_parts sheet s (plain k)
   parts_at k e le = ap (setter_parts sheet s) (plain-is s.ty r.id k is.id (is.kind ∙ e) le)
 
-  typ-at : r.kind ≤ 11 → type_string s.ty sheet (Reader A) ≡ ok (primitive_text r.kind)
-  typ-at le = rw (plain-is s.ty r.id r.kind is.id is.kind (omega arith)) (prim_text sheet r.kind le)
+  typ-at : number_of r.kind ≤ 11 → type_string s.ty sheet (Reader A) ≡ ok (primitive_text (number_of r.kind))
+  typ-at le = rw (plain-is s.ty r.id (number_of r.kind) is.id is.kind (omega arith)) (prim_text sheet (number_of r.kind) le)
 
-  prim-at : (k : ℕ) → r.kind ≡ k → (k ≡ 0 → ⊥) → k ≤ 11 → setter_parts sheet s s.ty ≡ prim_parts sheet s
+  prim-at : (k : ℕ) → number_of r.kind ≡ k → (k ≡ 0 → ⊥) → k ≤ 11 → setter_parts sheet s s.ty ≡ prim_parts sheet s
   prim-at k e n0 le =
       parts_at k e (omega arith)
       ∙ rw (
@@ -351,8 +355,8 @@ module _ (sheet : Sheet) (s : tree.Slot) (r : Slot) (is : SlotIs r s) (tag : ℕ
 
   abbrev number_parts : Option Str → Parts
   number_parts mask =
-      setter_only (ascii "value") (line_alone (set_data_field (primitive_text r.kind) r.offset (ascii "value") mask))
-      (primitive_text r.kind)
+      setter_only (ascii "value") (line_alone (set_data_field (primitive_text (number_of r.kind)) r.offset (ascii "value") mask))
+      (primitive_text (number_of r.kind))
 
   abbrev out : Out Str
   out = setter_text_of sheet tag name d s
@@ -367,17 +371,18 @@ module _ (sheet : Sheet) (s : tree.Slot) (r : Slot) (is : SlotIs r s) (tag : ℕ
   whole_here p e w = rw e (whole w)
 
   module _ {l l' : List ℕ} {t t' : Text} where
-    pub void-here : r.kind ≡ 0 → Whole l t l' t' (setter_only (ascii "_value") lines.none (ascii "()"))
+    pub void-here : number_of r.kind ≡ 0 → Whole l t l' t' (setter_only (ascii "_value") lines.none (ascii "()"))
         → Writes out l t l' (Ok t')
     void-here e w = whole_here _ (parts_at 0 e (omega arith)) w
 
-    pub text-here : r.kind ≡ 12 → Whole l t l' t' (text_parts sheet.root r.offset) → Writes out l t l' (Ok t')
+    pub text-here : number_of r.kind ≡ 12 → Whole l t l' t' (text_parts sheet.root r.offset) → Writes out l t l' (Ok t')
     text-here e w = whole_here (text_parts sheet.root r.offset) (parts_at 12 e (omega arith) ∙ rw is.offset refl) w
 
-    pub data-here : r.kind ≡ 13 → Whole l t l' t' (data_parts sheet.root r.offset) → Writes out l t l' (Ok t')
+    pub data-here : number_of r.kind ≡ 13 → Whole l t l' t' (data_parts sheet.root r.offset) → Writes out l t l' (Ok t')
     data-here e w = whole_here (data_parts sheet.root r.offset) (parts_at 13 e (omega arith) ∙ rw is.offset refl) w
 
-    pub any_here : r.kind ≡ 18 → r.id ≡ 0 → Whole l t l' t' (pointer_parts sheet.root r.offset) → Writes out l t l' (Ok t')
+    pub any_here : number_of r.kind ≡ 18 → r.id ≡ 0 → Whole l t l' t' (pointer_parts sheet.root r.offset)
+        → Writes out l t l' (Ok t')
     any_here e i w =
         whole_here (pointer_parts sheet.root r.offset)
         (at-any (λ ty. setter_parts sheet s ty ≡ ok (pointer_parts sheet.root r.offset)) s.ty r.id is.id
@@ -386,33 +391,35 @@ module _ (sheet : Sheet) (s : tree.Slot) (r : Slot) (is : SlotIs r s) (tag : ℕ
 
   -- those of a Bool or a number have the mask of the default, which may be refused
   abbrev default : Out (Option Str)
-  default = prim_default (value r.default r.bits)
+  default = prim_default (value (number_of r.default) r.bits)
 
-  bool-is : r.kind ≡ 1 → setter_parts sheet s s.ty ≡ (default then λ mask. ok (bool_parts mask))
+  bool-is : number_of r.kind ≡ 1 → setter_parts sheet s s.ty ≡ (default then λ mask. ok (bool_parts mask))
   bool-is e =
       prim-at 1 e (λ z. let w : ⊥ = omega arith in absurd w) (omega arith)
       ∙ rw (is.kind ∙ e, is.offset, default-here s r is) refl
 
-  number-is : (r.kind ≡ 0 → ⊥) → (r.kind ≡ 1 → ⊥) → r.kind ≤ 11
+  number-is : (number_of r.kind ≡ 0 → ⊥) → (number_of r.kind ≡ 1 → ⊥) → number_of r.kind ≤ 11
       → setter_parts sheet s s.ty ≡ (default then λ mask. ok (number_parts mask))
   number-is n0 n1 le =
-      prim-at r.kind refl n0 le
-      ∙ rw (is.kind, ne_eqb r.kind 1 n1, typ-at le, is.offset, default-here s r is) refl
+      prim-at (number_of r.kind) refl n0 le
+      ∙ rw (is.kind, ne_eqb (number_of r.kind) 1 n1, typ-at le, is.offset, default-here s r is) refl
 
   module _ {l l' : List ℕ} {t : Text} where
-    pub prim-refused : {e : Refusal} → (r.kind ≡ 0 → ⊥) → r.kind ≤ 11 → refused (number e) ≡ default → Writes out l t l' (Err e)
+    pub prim-refused : {e : Refusal} → (number_of r.kind ≡ 0 → ⊥) → number_of r.kind ≤ 11 → refused (number e) ≡ default
+        → Writes out l t l' (Err e)
     unfolding generate_setter
-    prim-refused {e} n0 le h = go (eqb r.kind 1) refl
+    prim-refused {e} n0 le h = go (eqb (number_of r.kind) 1) refl
       where
-        go : (b : Bool) → eqb r.kind 1 ≡ b → Writes out l t l' (Err e)
-        go true k = rw (bool-is (eqb-true r.kind 1 k), ← h) (refused-text refl)
-        go false k = rw (number-is n0 (eqb-false r.kind 1 k) le, ← h) (refused-text refl)
+        go : (b : Bool) → eqb (number_of r.kind) 1 ≡ b → Writes out l t l' (Err e)
+        go true k = rw (bool-is (eqb-true (number_of r.kind) 1 k), ← h) (refused-text refl)
+        go false k = rw (number-is n0 (eqb-false (number_of r.kind) 1 k) le, ← h) (refused-text refl)
 
     module _ {t' : Text} (mask : Option Str) (h : ok mask ≡ default) where
-      pub bool-here : r.kind ≡ 1 → Whole l t l' t' (bool_parts (mask_or default)) → Writes out l t l' (Ok t')
+      pub bool-here : number_of r.kind ≡ 1 → Whole l t l' t' (bool_parts (mask_or default)) → Writes out l t l' (Ok t')
       bool-here e w = whole_here (bool_parts mask) (bool-is e ∙ rw (← h) refl) (rw (← h) at w)
 
-      pub number-here : (r.kind ≡ 0 → ⊥) → (r.kind ≡ 1 → ⊥) → r.kind ≤ 11 → Whole l t l' t' (number_parts (mask_or default))
+      pub number-here : (number_of r.kind ≡ 0 → ⊥) → (number_of r.kind ≡ 1 → ⊥) → number_of r.kind ≤ 11
+          → Whole l t l' t' (number_parts (mask_or default))
           → Writes out l t l' (Ok t')
       number-here n0 n1 le w = whole_here (number_parts mask) (number-is n0 n1 le ∙ rw (← h) refl) (rw (← h) at w)
 

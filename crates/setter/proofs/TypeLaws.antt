@@ -1,5 +1,5 @@
 -- Types by their kind, and the element of a list that is read in the sheet. Assumes nothing.
-use mathlib.Core.Path.{◌≡◌, sym, ap}
+use mathlib.Core.Path.{◌≡◌, ap}
 use mathlib.Core.Bool.{Bool, true, false}
 use Prim.Native.Nat.{ℕ, zero, suc, ◌≤◌}
 use native.Mathlib.Omega.{arith}
@@ -7,7 +7,6 @@ use lib.Dec.{eqb, ltb}
 use Rattle.text.specs.Bytes.{cond}
 use Rattle.row.specs.Rows.{rest_of}
 use Rattle.row.specs.Line.{fault}
-use Rattle.tree.specs.Tree as tree
 use Rattle.tree.specs.Tree.{Ty, plain, list, enum, struct, interface, any_pointer, parameter, kind, Scopes, end}
 use Rattle.tree.specs.Reader.{Rows, got, no, map_r, times, On}
 use Rattle.tree.specs.Read as read
@@ -15,8 +14,7 @@ use Rattle.tree.specs.Read.{read_type, type_from, branded}
 use Rattle.types.specs.Find.{kind_at}
 use Rattle.types.proofs.TypeLaws.{type-kind}
 use Rattle.types.proofs.Laws.{on-map, on-all, on-type}
-use Rattle.field.specs.Slot.{HasId, SlotIs}
-use Rattle.field.specs.declared.Slot.{Slot}
+use Rattle.field.specs.Slot.{HasId}
 
 -- ---- what holds of the types of a kind
 
@@ -83,20 +81,6 @@ plain-is (struct i ss) a k h e le = let z : ⊥ = omega arith in absurd z
 plain-is (interface i ss) a k h e le = let z : ⊥ = omega arith in absurd z
 plain-is any_pointer a k h e le = let z : ⊥ = omega arith in absurd z
 plain-is (parameter i j) a k h e le = let z : ⊥ = omega arith in absurd z
-
--- the kind that is left
-pub last-kind : (s : tree.Slot) (r : Slot) → SlotIs r s → 14 ≤ r.kind → (r.kind ≡ 14 → ⊥) → (r.kind ≡ 15 → ⊥)
-    → (r.kind ≡ 16 → ⊥) → (r.kind ≡ 17 → ⊥) → r.kind ≡ 18
-last-kind s r is lo n14 n15 n16 n17 = go s.ty is.id is.kind
-  where
-    go : (t : Ty) → HasId t r.id → kind t ≡ r.kind → r.kind ≡ 18
-    go (plain k) h e = let z : ⊥ = omega arith in absurd z
-    go (list t) h e = absurd (n14 (sym e))
-    go (enum i ss) h e = absurd (n15 (sym e))
-    go (struct i ss) h e = absurd (n16 (sym e))
-    go (interface i ss) h e = absurd (n17 (sym e))
-    go any_pointer h e = sym e
-    go (parameter i k) h e = sym e
 
 -- ---- the kind of a list's element: that of the row after the list's
 

@@ -3,6 +3,8 @@
 #![tactic(auto)]
 
 ghost use Rattle.std.specs.Prelude.{◌≡◌, ◌++◌, List, ◌<◌, eqb, leb, drop};
+ghost use Rattle.terms.specs.Kinds.{number_of};
+ghost use Rattle.terms.specs.declared.kinds.Kind.TheVariants as kind;
 ghost use Rattle.text.specs.Text.{Wrote};
 ghost use Rattle.text.specs.Bytes.{Str, either};
 ghost use Rattle.row.specs.Rows.{rest_of, rows};
@@ -23,33 +25,33 @@ use codegen_types::{Leaf, Lifetime};
 use field::Slot;
 use nodes::Source;
 use setter_code::Target;
-use terms::{Refusal, kinds};
+use terms::{Kind, Refusal};
 use text::Text;
 
 // The setter of a Bool or a number, whose default may be refused before any text is written.
 fn prim_setter(target: &Target, t: Text, buf: &mut [u8]) -> Result<Text, Refusal>
     ensures text { (root : Str) (ns : List tree.Node) (sl : tree.Slot) → SlotIs target.now.slot sl
-        → (target.now.slot.kind ≡ 0 → ⊥) → target.now.slot.kind < 12
+        → (number_of target.now.slot.kind ≡ 0 → ⊥) → number_of target.now.slot.kind < 12
         → Writes (setter_for (sheet_of root ns) target.now sl) buf.old t buf.new result }
     ensures within { Within buf.old t buf.new result }
 {
     codegen::prim_default(target.slot.default, target.slot.bits)?;
-    if target.slot.kind == kinds::BOOL {
-        return Ok(target.boolean(t, buf));
-    }
-    Ok(target.number(t, buf))
+    Ok(match target.slot.kind {
+        Kind::Bool => target.boolean(t, buf),
+        _ => target.number(t, buf),
+    })
 }
 
-// The setter of a slot whose type has one row: kinds 0 to 13.
+// The setter of a slot whose type has one row: Void to Data.
 fn plain_setter(root: &[u8], target: &Target, t: Text, buf: &mut [u8]) -> Result<Text, Refusal>
-    ensures text { (ns : List tree.Node) (sl : tree.Slot) → SlotIs target.now.slot sl → target.now.slot.kind < 14
+    ensures text { (ns : List tree.Node) (sl : tree.Slot) → SlotIs target.now.slot sl → number_of target.now.slot.kind < 14
         → Writes (setter_for (sheet_of root.now ns) target.now sl) buf.old t buf.new result }
     ensures within { Within buf.old t buf.new result }
 {
     match target.slot.kind {
-        kinds::VOID => Ok(target.void(t, buf)),
-        kinds::TEXT => Ok(target.text(root, t, buf)),
-        kinds::DATA => Ok(target.data(root, t, buf)),
+        Kind::Void => Ok(target.void(t, buf)),
+        Kind::Text => Ok(target.text(root, t, buf)),
+        Kind::Data => Ok(target.data(root, t, buf)),
         _ => prim_setter(target, t, buf),
     }
 }
@@ -111,18 +113,18 @@ fn new_end(root: &[u8], target: &Target, call: &[u8], t: Text, buf: &mut [u8]) -
 }
 
 // The kind of the element of the list type at a position.
-fn element_kind(s: &[u8], at: usize) -> u64
-    ensures { result ≡ kind_at (rest_of (rows (drop at s.now))) }
+fn element_kind(s: &[u8], at: usize) -> Kind
+    ensures { number_of result ≡ kind_at (rest_of (rows (drop at s.now))) }
 {
     let row = row::next(s, at);
     types::kind(s, row.next)
 }
 
 // Whether an element of this kind has several SetterInput impls.
-fn several_inputs(kind: u64) -> bool
-    ensures { result ≡ either (leb kind 12) (eqb kind 15) }
+fn several_inputs(kind: Kind) -> bool
+    ensures { result ≡ either (leb (number_of kind) 12) (eqb (number_of kind) 15) }
 {
-    matches!(kind, kinds::VOID..=kinds::TEXT | kinds::ENUM)
+    kind.is_primitive() || matches!(kind, Kind::Text | Kind::Enum)
 }
 
 // What the setter of a list takes, for the list type at a position.
@@ -147,7 +149,7 @@ fn list_setter(
     buf: &mut [u8],
 ) -> Result<Text, Refusal>
     ensures text { InSource source.now (λ sheet.
-        (f : SlotField) → SlotHere source.now.bytes.now target.now.slot f → target.now.slot.kind ≡ 14
+        (f : SlotField) → SlotHere source.now.bytes.now target.now.slot f → target.now.slot.kind ≡ kind.List
         → Writes (setter_for sheet target.now f.slot) buf.old t buf.new result) }
     ensures within { Within buf.old t buf.new result }
 {
@@ -162,15 +164,15 @@ fn list_setter(
 
 // The mask of an enum's setter: its default, where that is explicit, which must then be an Enum.
 fn enum_mask(slot: Slot) -> Result<Option<Mask>, Refusal>
-    ensures { masked result ≡ explicit_mask slot.explicit (value slot.default slot.bits) }
+    ensures { masked result ≡ explicit_mask slot.explicit (value (number_of slot.default) slot.bits) }
 {
     if slot.explicit == 0 {
         return Ok(None);
     }
-    if slot.default == kinds::ENUM {
-        return Ok(Some(Mask::Plain(slot.bits)));
+    match slot.default {
+        Kind::Enum => Ok(Some(Mask::Plain(slot.bits))),
+        _ => Err(Refusal::EnumDefault),
     }
-    Err(Refusal::EnumDefault)
 }
 
 // An enum's setter.
@@ -181,7 +183,7 @@ fn enum_setter(
     buf: &mut [u8],
 ) -> Result<Text, Refusal>
     ensures text { InSource source.now (λ sheet.
-        (f : SlotField) → SlotHere source.now.bytes.now target.now.slot f → target.now.slot.kind ≡ 15
+        (f : SlotField) → SlotHere source.now.bytes.now target.now.slot f → target.now.slot.kind ≡ kind.Enum
         → Writes (setter_for sheet target.now f.slot) buf.old t buf.new result) }
     ensures within { Within buf.old t buf.new result }
 {
@@ -203,7 +205,7 @@ fn struct_setter(
     buf: &mut [u8],
 ) -> Result<Text, Refusal>
     ensures text { InSource source.now (λ sheet.
-        (f : SlotField) → SlotHere source.now.bytes.now target.now.slot f → target.now.slot.kind ≡ 16
+        (f : SlotField) → SlotHere source.now.bytes.now target.now.slot f → target.now.slot.kind ≡ kind.Struct
         → Writes (setter_for sheet target.now f.slot) buf.old t buf.new result) }
     ensures within { Within buf.old t buf.new result }
 {
@@ -224,7 +226,7 @@ fn interface_setter(
     buf: &mut [u8],
 ) -> Result<Text, Refusal>
     ensures text { InSource source.now (λ sheet.
-        (f : SlotField) → SlotHere source.now.bytes.now target.now.slot f → target.now.slot.kind ≡ 17
+        (f : SlotField) → SlotHere source.now.bytes.now target.now.slot f → target.now.slot.kind ≡ kind.Interface
         → Writes (setter_for sheet target.now f.slot) buf.old t buf.new result) }
     ensures within { Within buf.old t buf.new result }
 {
@@ -245,7 +247,7 @@ fn parameter_setter(
     buf: &mut [u8],
 ) -> Result<Text, Refusal>
     ensures text { InSource source.now (λ sheet.
-        (f : SlotField) → SlotHere source.now.bytes.now target.now.slot f → target.now.slot.kind ≡ 18
+        (f : SlotField) → SlotHere source.now.bytes.now target.now.slot f → target.now.slot.kind ≡ kind.AnyPointer
         → (target.now.slot.id ≡ 0 → ⊥)
         → Writes (setter_for sheet target.now f.slot) buf.old t buf.new result) }
     ensures within { Within buf.old t buf.new result }
@@ -272,17 +274,17 @@ fn setter_of(source: &Source<'_>, target: &Target, t: Text, buf: &mut [u8]) -> R
     ensures within { Within buf.old t buf.new result }
 {
     match target.slot.kind {
-        kinds::VOID..=kinds::DATA => plain_setter(source.root, target, t, buf),
-        kinds::LIST => list_setter(source, target, t, buf),
-        kinds::ENUM => enum_setter(source, target, t, buf),
-        kinds::STRUCT => struct_setter(source, target, t, buf),
-        kinds::INTERFACE => interface_setter(source, target, t, buf),
-        _ => {
+        Kind::List => list_setter(source, target, t, buf),
+        Kind::Enum => enum_setter(source, target, t, buf),
+        Kind::Struct => struct_setter(source, target, t, buf),
+        Kind::Interface => interface_setter(source, target, t, buf),
+        Kind::AnyPointer => {
             if target.slot.id == 0 {
                 return Ok(target.any_pointer(source.root, t, buf));
             }
             parameter_setter(source, target, t, buf)
         },
+        _ => plain_setter(source.root, target, t, buf),
     }
 }
 

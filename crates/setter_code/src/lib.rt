@@ -3,6 +3,7 @@
 #![tactic(auto)]
 
 ghost use Rattle.std.specs.Prelude.{◌++◌, true, false};
+ghost use Rattle.terms.specs.Kinds.{number_of};
 ghost use Rattle.text.specs.Bytes.{Str, ascii};
 ghost use Rattle.text.specs.Lines.{stringify};
 ghost use Rattle.text.specs.Text.{Wrote};
@@ -141,7 +142,8 @@ impl Target {
         ensures { (root : Str) → Wrote buf.old t
             (stringify (setter_functions root self.now.tag (name_of self.now.name) self.now.slot.discriminant
             (setter_only (ascii "value") (line_alone (set_bool_field self.now.slot.offset (ascii "value")
-            (mask_or (prim_default (value self.now.slot.default self.now.slot.bits))))) (ascii "bool")))) buf.new result }
+            (mask_or (prim_default (value (number_of self.now.slot.default) self.now.slot.bits)))))
+            (ascii "bool")))) buf.new result }
     {
         let t = self.set_open(t, buf);
         let t = t.bytes(buf, b"bool)  {\n");
@@ -156,9 +158,9 @@ impl Target {
         ensures { (root : Str) → Wrote buf.old t
             (stringify (setter_functions root self.now.tag (name_of self.now.name) self.now.slot.discriminant
             (setter_only (ascii "value")
-            (line_alone (set_data_field (primitive_text self.now.slot.kind) self.now.slot.offset (ascii "value")
-            (mask_or (prim_default (value self.now.slot.default self.now.slot.bits)))))
-            (primitive_text self.now.slot.kind)))) buf.new result }
+            (line_alone (set_data_field (primitive_text (number_of self.now.slot.kind)) self.now.slot.offset (ascii "value")
+            (mask_or (prim_default (value (number_of self.now.slot.default) self.now.slot.bits)))))
+            (primitive_text (number_of self.now.slot.kind))))) buf.new result }
     {
         let t = self.set_open(t, buf);
         let t = codegen_types::type_name(self.slot.kind, t, buf);

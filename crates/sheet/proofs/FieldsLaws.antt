@@ -3,7 +3,7 @@
 use mathlib.Core.Path.{◌≡◌, refl, sym, ap, ◌∙◌}
 use mathlib.Core.Bool.{Bool, true, false}
 use mathlib.Core.List.{List, [], ◌∷◌, ◌++◌, append-nil, append_assoc}
-use Rattle.std.specs.Prelude.{Option, None, Some, Result, Ok, Err}
+use Rattle.std.specs.Prelude.{Option, None, Some, Result, Ok, Err, is_some}
 use Prim.Native.Nat.{ℕ, ◌+◌, ◌-◌, ◌≤◌, ◌<◌}
 use native.Mathlib.Omega.{arith}
 use native.Mathlib.Numerals.{add-one}
@@ -20,7 +20,7 @@ use Rattle.row.specs.declared.Line.{Line}
 use Rattle.row.proofs.ReadLaws.{Good}
 use Rattle.tree.specs.Tree.{Slot, Field, slot, group}
 use Rattle.tree.specs.Reader.{Rows, Reading, got, no, Reader, ◌then◌, told, on_group}
-use Rattle.tree.specs.Read.{among, overlap, read_slot, field, read_field, is_some, is_field, group_id, group_ids, read_fields}
+use Rattle.tree.specs.Read.{among, overlap, read_slot, field, read_field, is_field, group_id, group_ids, read_fields}
 use Rattle.tree.specs.Read.{read_params}
 use Rattle.terms.specs.Refusals.{number}
 use Rattle.tree.specs.Walked.{passed, refused_row, end_at}

@@ -196,7 +196,7 @@ fn fields(
 {
     let mut at = from;
     let mut held = count;
-    // So it is with fields.
+    // A field says itself where the next one begins, so no range counts them.
     while let Some(read) = field(s, at, groups, flags, held)? {
         at = read.next;
         held = read.groups;

@@ -1,38 +1,78 @@
-// The kinds of a type, and of a default, by their numbers in T and V lines.
-pub const VOID: u64 = 0;
+// The kinds of a type, and of a default, with their numbers in T and V lines.
+ghost use Rattle.std.specs.Prelude.{◌≡◌};
+ghost use Rattle.terms.specs.Kinds.{number_of, kind_numbered, is_primitive};
 
-pub const BOOL: u64 = 1;
+// What a type, or a default, is.
+#[derive(Clone, Copy, PartialEq, Eq)]
+pub enum Kind {
+    Void,
+    Bool,
+    Int8,
+    Int16,
+    Int32,
+    Int64,
+    Uint8,
+    Uint16,
+    Uint32,
+    Uint64,
+    Float32,
+    Float64,
+    Text,
+    Data,
+    List,
+    Enum,
+    Struct,
+    Interface,
+    AnyPointer,
+}
 
-pub const INT8: u64 = 2;
+// The kinds before the last by their numbers.
+const NUMBERED: [Kind; 18] = [
+    Kind::Void,
+    Kind::Bool,
+    Kind::Int8,
+    Kind::Int16,
+    Kind::Int32,
+    Kind::Int64,
+    Kind::Uint8,
+    Kind::Uint16,
+    Kind::Uint32,
+    Kind::Uint64,
+    Kind::Float32,
+    Kind::Float64,
+    Kind::Text,
+    Kind::Data,
+    Kind::List,
+    Kind::Enum,
+    Kind::Struct,
+    Kind::Interface,
+];
 
-pub const INT16: u64 = 3;
+impl Kind {
+    // The kind's number.
+    pub fn number(self) -> u64
+        ensures { result ≡ number_of self }
+    {
+        self as u64
+    }
 
-pub const INT32: u64 = 4;
+    // Whether it is Void, a Bool or a number.
+    pub fn is_primitive(self) -> bool
+        ensures { result ≡ is_primitive (number_of self) }
+    {
+        self.number() <= Kind::Float64.number()
+    }
+}
 
-pub const INT64: u64 = 5;
+impl From<u64> for Kind {
+    ghost from_gives = { λ number kind. kind ≡ kind_numbered number };
 
-pub const UINT8: u64 = 6;
-
-pub const UINT16: u64 = 7;
-
-pub const UINT32: u64 = 8;
-
-pub const UINT64: u64 = 9;
-
-pub const FLOAT32: u64 = 10;
-
-pub const FLOAT64: u64 = 11;
-
-pub const TEXT: u64 = 12;
-
-pub const DATA: u64 = 13;
-
-pub const LIST: u64 = 14;
-
-pub const ENUM: u64 = 15;
-
-pub const STRUCT: u64 = 16;
-
-pub const INTERFACE: u64 = 17;
-
-pub const ANY_POINTER: u64 = 18;
+    // The kind with a number. One past the last counts as an AnyPointer, so that each number has a kind.
+    #[tactic(auto, unfolding(crate::specs::Kinds::kind_numbered))]
+    fn from(number: u64) -> Kind {
+        NUMBERED
+            .get(number as usize)
+            .copied()
+            .unwrap_or(Kind::AnyPointer)
+    }
+}

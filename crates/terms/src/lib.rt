@@ -1,9 +1,9 @@
-// Document 01's numbers by name: the kinds of types and defaults, the leaves, the greatest sizes; and the refusals.
+// What document 01 numbers, by name: the kinds of types and defaults, the greatest sizes; and the refusals.
 #![tactic(auto)]
 
-pub mod kinds;
-pub mod leaves;
+mod kinds;
 pub mod limits;
 mod refusals;
 
+pub use kinds::Kind;
 pub use refusals::Refusal;

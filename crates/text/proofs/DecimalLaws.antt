@@ -44,16 +44,31 @@ decimal-high n h =
     fuel n (suc n) n (omega arith) (omega arith) ∙ digits-high n n h
     ∙ ap (λ (x : List ℕ). x ++ unit (48 + n % 10)) (fuel n (n / 10) (n / 10) (omega arith) (omega arith))
 
+-- what holds of a digit, and with one digit more of what it holds of, holds of every number's text
+module _ (P : ℕ → List ℕ → Type 0) (digit : (n : ℕ) → n < 10 → P n (unit (48 + n)))
+    (more : (n : ℕ) → 10 ≤ n → P (n / 10) (decimal (n / 10)) → P n (decimal (n / 10) ++ unit (48 + n % 10))) where
+  pub by_last_digit : (n : ℕ) → P n (decimal n)
+  by_last_digit n = go n n (omega arith)
+    where
+      go : (k n : ℕ) → n ≤ k → P n (decimal n)
+      go zero n h = rw (decimal-low n (omega arith)) (digit n (omega arith))
+      go (suc k) n h = pick (ltb n 10) refl (go k (n / 10))
+        where
+          pick : (b : Bool) → ltb n 10 ≡ b → (n / 10 ≤ k → P (n / 10) (decimal (n / 10))) → P n (decimal n)
+          pick true e f = let l = ltb-true n 10 e in rw (decimal-low n l) (digit n l)
+          pick false e f = let l = ltb-false n 10 e in rw (decimal-high n l) (more n l (f (omega arith)))
+
 -- how many digits it has at most
 pub decimal-length : (d n : ℕ) → n < 10 ^ suc d → length (decimal n) ≤ suc d
-decimal-length zero n h = rw (decimal-low n h) (omega arith)
-decimal-length (suc d) n h = go (decimal-length d (n / 10)) (ltb n 10) refl
+decimal-length d n h =
+    by_last_digit (λ n s. (d : ℕ) → n < 10 ^ suc d → length s ≤ suc d) (λ n l d h. omega arith) (λ n l f d h. one-more d n l f h)
+    n d h
   where
-    go : (n / 10 < 10 ^ suc d → length (decimal (n / 10)) ≤ suc d) → (b : Bool) → ltb n 10 ≡ b → length (decimal n) ≤ suc (suc d)
-    go f true e = rw (decimal-low n (ltb-true n 10 e)) (omega arith)
-    go f false e =
-        let g = f ((div-lt_iff_lt-mul (lit< tt)).1 (rw (pow-suc 10 (suc d)) at h)) in
-        rw (decimal-high n (ltb-false n 10 e), length-append (decimal (n / 10)) (unit (48 + n % 10))) (omega arith)
+    one-more : (d n : ℕ) → 10 ≤ n → ((d : ℕ) → n / 10 < 10 ^ suc d → length (decimal (n / 10)) ≤ suc d) → n < 10 ^ suc d
+        → length (decimal (n / 10) ++ unit (48 + n % 10)) ≤ suc d
+    one-more zero n l f h = absurd (omega arith)
+    one-more (suc d) n l f h =
+        rw length-append (omega (arith, f d ((div-lt_iff_lt-mul (lit< tt)).1 (rw (pow-suc 10 (suc d)) at h))))
 
 pub signed_low : (half n : ℕ) → n < half → signed half n ≡ decimal n
 unfolding signed
@@ -73,7 +88,7 @@ pub record Found (n : ℕ) (ds : List ℕ) (i left : ℕ) : Type 0 where
 
 -- a number of two digits or more has one digit fewer without its last
 fewer : (i left : ℕ) → 10 ≤ left → left < 10 ^ (i + 1) → (1 ≤ i) × (left / 10 < 10 ^ (i - 1 + 1))
-fewer zero left h g = let z : ⊥ = omega arith in absurd z
+fewer zero left h g = absurd (omega arith)
 fewer (suc i) left h g =
     let e : suc i - 1 + 1 ≡ suc i = omega arith in
     let f : 10 ^ (suc i + 1) ≡ 10 ^ suc i * 10 = rw add-one (pow-suc 10 (suc i)) in

@@ -7,10 +7,12 @@ use native.Mathlib.Omega.{arith}
 use types.Run.{OneOf, hit, miss}
 use denote.Enum.Declared.{tag_of}
 use Rattle.row.specs.contracts.Line.{the_type}
+use Rattle.terms.specs.declared.kinds.Kind.{Kind}
 use Rattle.text.specs.Bytes.{either}
 use Rattle.row.specs.Line.{good_said, as_root, as_node, as_parameter, as_field, as_type, as_scope, as_unbound, as_value, as_word}
 use Rattle.row.specs.Line.{fault_of}
-use Rattle.tree.specs.Read.{is_some, is_field}
+use Rattle.std.specs.Prelude.{is_some}
+use Rattle.tree.specs.Read.{is_field}
 use Rattle.row.specs.declared.Line.{Line}
 use Rattle.row.specs.declared.Line.TheVariants.{Root, Node, Parameter, Field, Group, Typ, Scope, Unbound, Value, Word}
 
@@ -210,7 +212,7 @@ not_a_field-tag (Word a) u v = hit but_Field_and_Group 9 tt
 abbrev but_Typ : List ℕ
 but_Typ = 0 ∷ 1 ∷ 2 ∷ 3 ∷ 4 ∷ 6 ∷ 7 ∷ 8 ∷ 9 ∷ []
 
-pub not_type-tag : (l : Line) → ((a b c d : ℕ) → l ≡ Typ a b c d → ⊥) → OneOf but_Typ (tag_of the_type l)
+pub not_type-tag : (l : Line) → ((k : Kind) (a b c : ℕ) → l ≡ Typ k a b c → ⊥) → OneOf but_Typ (tag_of the_type l)
 not_type-tag Root h = hit but_Typ 0 tt
 not_type-tag (Node a b c d e f g) h = hit but_Typ 1 tt
 not_type-tag Parameter h = hit but_Typ 2 tt
@@ -255,7 +257,7 @@ not_unbound-tag (Word a) h = hit but_Unbound 9 tt
 abbrev but_Value : List ℕ
 but_Value = 0 ∷ 1 ∷ 2 ∷ 3 ∷ 4 ∷ 5 ∷ 6 ∷ 7 ∷ 9 ∷ []
 
-pub not_value-tag : (l : Line) → ((a b : ℕ) → l ≡ Value a b → ⊥) → OneOf but_Value (tag_of the_type l)
+pub not_value-tag : (l : Line) → ((k : Kind) (b : ℕ) → l ≡ Value k b → ⊥) → OneOf but_Value (tag_of the_type l)
 not_value-tag Root h = hit but_Value 0 tt
 not_value-tag (Node a b c d e f g) h = hit but_Value 1 tt
 not_value-tag Parameter h = hit but_Value 2 tt

@@ -8,6 +8,8 @@ use native.Mathlib.Omega.{arith}
 use native.Mathlib.Numerals.{sub-one}
 use lib.ListN.{length}
 use Rattle.text.specs.Bytes.{Str}
+use Rattle.terms.specs.Kinds.{number_of}
+use Rattle.terms.specs.declared.kinds.Kind.{Kind}
 use Rattle.row.specs.Rows.{rest_of}
 use Rattle.row.specs.Line.{Fault, misplaced, line_said, line_at, fault_of}
 use Rattle.row.specs.declared.BadLine.{BadLine}
@@ -123,7 +125,7 @@ module _ (rs rest : Rows) (l : Result Line BadLine) (here : line_said l ≡ line
         go None = refl
 
     pub slot-words :
-        (w : Reading (Unit {0})) (k b : ℕ) (has : Bool) → l ≡ Ok (line.Value k b) → has ≡ has_words e k
+        (w : Reading (Unit {0})) (k : Kind) (b : ℕ) (has : Bool) → l ≡ Ok (line.Value k b) → has ≡ has_words e (number_of k)
         → w ≡ passed (read_words has rest) → w ≡ passed (read_slot o e p from)
     unfolding line_said after_type value_of
     slot-words w k b has i m h = h ∙ sym (slot-passed o e p from ∙ rw (← ended, ← here, i, ← after, ← m))

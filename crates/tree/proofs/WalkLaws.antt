@@ -2,14 +2,18 @@
 -- it. Assumes nothing.
 use mathlib.Core.Path.{◌≡◌, refl, sym, ap, ◌∙◌}
 use mathlib.Core.Bool.{Bool, true, false}
+use mathlib.Core.Logic.{◌⊎◌, inl, inr}
 use Rattle.std.specs.Prelude.{Option, None, Some, Result, Ok, Err}
-use Prim.Native.Nat.{ℕ, zero, suc, ◌+◌, ◌-◌, ◌<◌, ◌≤◌}
+use Prim.Native.Nat.{ℕ, zero, suc, ◌+◌, ◌-◌, ◌≤◌}
 use native.Mathlib.Omega.{arith}
 use native.Mathlib.Numerals.{add-one, sub-one}
-use borrow.Author.Tests.{eq-eqb, ne_eqb, lt-ltb, le-ltb}
+use borrow.Author.Tests.{eq-eqb, ne_eqb}
 use lib.Dec.{eqb}
 use lib.ListN.{drop}
 use Rattle.text.specs.Bytes.{Str, cond}
+use Rattle.terms.specs.Kinds.{number_of}
+use Rattle.terms.specs.declared.kinds.Kind.{Kind}
+use Rattle.terms.specs.declared.kinds.Kind.TheVariants as kind
 use Rattle.terms.specs.Refusals.{number}
 use Rattle.row.specs.Rows.{rows, rest_of}
 use Rattle.row.specs.Line.{Fault, fault, misplaced, line_said, line_at, fault_of}
@@ -32,6 +36,26 @@ pub passed_then :
     → ((a : A) (rs : Rows) → passed (k a rs) ≡ h rs) → passed (g then k) ≡ (passed g then λ u. h)
 passed_then (got a rs) k h e = e a rs
 passed_then (no n rs) k h e = refl
+
+-- ---- what belongs to a T row, by its kind
+
+alone :
+    (ty : Reader Ty) (k : Kind) (a b c : ℕ) (rest : Rows) → (k ≡ kind.List → ⊥) → (k ≡ kind.Enum → ⊥) → (k ≡ kind.Struct → ⊥)
+    → (k ≡ kind.Interface → ⊥) → passed (type_from ty (number_of k) a b c rest) ≡ got tt rest
+unfolding type_from
+alone ty kind.List a b c rest l e s i = absurd (l refl)
+alone ty kind.Enum a b c rest l e s i = absurd (e refl)
+alone ty kind.Struct a b c rest l e s i = absurd (s refl)
+alone ty kind.Interface a b c rest l e s i = absurd (i refl)
+alone ty k a b c rest l e s i = refl
+
+with_scopes :
+    (ty : Reader Ty) (k : Kind) (a b c : ℕ) (rest : Rows) → (k ≡ kind.Enum) ⊎ ((k ≡ kind.Struct) ⊎ (k ≡ kind.Interface))
+    → passed (type_from ty (number_of k) a b c rest) ≡ passed (times (read_scope ty) end b rest)
+unfolding type_from
+with_scopes ty k a b c rest (inl e) = rw e (passed-map _ (times (read_scope ty) end b rest))
+with_scopes ty k a b c rest (inr (inl e)) = rw e (passed-map _ (times (read_scope ty) end b rest))
+with_scopes ty k a b c rest (inr (inr e)) = rw e (passed-map _ (times (read_scope ty) end b rest))
 
 -- ---- lines that may not stand where they stand
 
@@ -182,37 +206,28 @@ module _ (rs rest : Rows) (l : Result Line BadLine) (here : line_said l ≡ line
         go (suc m) =
             rw (← here, else-type {A = Reader _} l _ _ o, ← here) (ap passed (sym (told_wrong (fault_of 84 (line_said l)) rs)))
 
-    module _ (k a b c : ℕ) (is : l ≡ Ok (Typ k a b c)) where
+    module _ (k : Kind) (a b c : ℕ) (is : l ≡ Ok (Typ k a b c)) where
       pub type-deep : left ≡ 0 → no (fault 4 1) rs ≡ passed (read_type left rs)
       unfolding line_said read_type
       type-deep h = rw (h, ← here, is)
 
-      type-here : (left ≡ 0 → ⊥) → read_type left rs ≡ type_from (read_type (left - 1)) k a b c rest
+      type-here : (left ≡ 0 → ⊥) → read_type left rs ≡ type_from (read_type (left - 1)) (number_of k) a b c rest
       unfolding line_said
       type-here h = type_of-more h ∙ rw (← here, is, ← after)
 
-      pub type-plain : (left ≡ 0 → ⊥) → k < 14 → got tt rest ≡ passed (read_type left rs)
-      unfolding type_from
-      type-plain h lo = rw (type-here h, lt-ltb k 14 lo)
+      pub type-alone :
+          (left ≡ 0 → ⊥) → (k ≡ kind.List → ⊥) → (k ≡ kind.Enum → ⊥) → (k ≡ kind.Struct → ⊥) → (k ≡ kind.Interface → ⊥)
+          → got tt rest ≡ passed (read_type left rs)
+      type-alone h l e s i = rw (type-here h) (sym (alone (read_type (left - 1)) k a b c rest l e s i))
 
       pub type-list :
-          (w : Reading (Unit {0})) → (left ≡ 0 → ⊥) → k ≡ 14
+          (w : Reading (Unit {0})) → (left ≡ 0 → ⊥) → k ≡ kind.List
           → w ≡ passed (read_type (left - 1) rest) → w ≡ passed (read_type left rs)
       unfolding type_from
-      type-list w h e p =
-          p
-          ∙ sym (rw (type-here h, type_from, le-ltb k 14 (omega arith), eq-eqb k 14 e)
-          (passed-map _ (read_type (left - 1) rest)))
+      type-list w h e p = p ∙ sym (rw (type-here h, e) (passed-map _ (read_type (left - 1) rest)))
 
       pub type-branded :
-          (w : Reading (Unit {0})) → (left ≡ 0 → ⊥) → 14 ≤ k → (k ≡ 14 → ⊥) → k < 18
+          (w : Reading (Unit {0})) → (left ≡ 0 → ⊥) → (k ≡ kind.Enum) ⊎ ((k ≡ kind.Struct) ⊎ (k ≡ kind.Interface))
           → w ≡ passed (times (read_scope (read_type (left - 1))) end b rest) → w ≡ passed (read_type left rs)
-      unfolding type_from
-      type-branded w h lo e hi p =
-          p
-          ∙ sym (rw (type-here h, type_from, le-ltb k 14 lo, ne_eqb k 14 e, lt-ltb k 18 hi)
-          (passed-map _ (times (read_scope (read_type (left - 1))) end b rest)))
-
-      pub type-pointer : (left ≡ 0 → ⊥) → 18 ≤ k → got tt rest ≡ passed (read_type left rs)
-      unfolding type_from
-      type-pointer h hi = rw (type-here h, type_from, le-ltb k 14 (omega arith), ne_eqb k 14 (λ z. omega arith), le-ltb k 18 hi)
+      type-branded w h e p =
+          p ∙ sym (rw (type-here h) (with_scopes (read_type (left - 1)) k a b c rest e))

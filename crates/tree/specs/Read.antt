@@ -3,7 +3,7 @@
 -- 17, which is told where a line with its letter may stand. The order of lines and their counts (2), doubled ids (3, at the id's
 -- column) and levels (4) stand here. Assumes nothing.
 use Rattle.std.specs.Prelude.{Bool, true, false, List, [], ◌∷◌, ◌++◌, ℕ, zero, suc, eqb, ltb, length}
-use Rattle.std.specs.Prelude.{Option, None, Some}
+use Rattle.std.specs.Prelude.{is_some}
 use Rattle.text.specs.Bytes.{Str, unit, cond, both, either}
 use Rattle.row.specs.Rows.{rows, line_no}
 use Rattle.row.specs.Line.{fault, misplaced, Content, byte, line_at, as_field, as_group, fault_of}
@@ -77,11 +77,6 @@ among i (x ∷ xs) = either (eqb x i) (among i xs)
 
 abbrev pub field : Str → ℕ → Arm → Field
 field name d arm = record { name = name; discriminant = d; arm = arm }
-
--- whether something is there
-abbrev pub is_some : {A : Type 0} → Option A → Bool
-is_some (Some a) = true
-is_some None = false
 
 -- whether a line is an F or a G, or a bad line with such a letter
 abbrev pub is_field : Content → Bool

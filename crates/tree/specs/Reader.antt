@@ -1,6 +1,5 @@
 -- Readers: functions from the rows of a sheet to what they say. Assumes nothing.
 use Rattle.std.specs.Prelude.{List, [], ◌∷◌, ℕ, zero, suc}
-use Rattle.std.specs.Prelude.{Option}
 use Rattle.std.specs.Prelude.{Option, None, Some}
 use Rattle.text.specs.Bytes.{Str}
 use Rattle.row.specs.Rows.{rest_of}

@@ -3,6 +3,7 @@
 #![tactic(auto)]
 
 ghost use Rattle.std.specs.Prelude.{◌≡◌, ℕ, drop, length};
+ghost use Rattle.terms.specs.Kinds.{number_of};
 ghost use Rattle.row.specs.Rows.{rows};
 ghost use Rattle.tree.specs.Tree.{end, stop};
 ghost use Rattle.tree.specs.Reader.{map_r, times};
@@ -10,7 +11,7 @@ ghost use Rattle.tree.specs.Read.{read_type, read_scope, read_binding, read_word
 ghost use Rattle.tree.specs.Walked.{passed, walked, counted, end_at, wrong_at};
 
 use row::{BadLine, Line};
-use terms::{Refusal, kinds};
+use terms::{Kind, Refusal};
 
 // A row that is refused: why, the column, and where it stands.
 #[derive(Clone, Copy)]
@@ -82,8 +83,8 @@ fn typ(s: &[u8], at: usize, left: usize) -> Result<usize, RefusedRow>
         });
     }
     match kind {
-        kinds::LIST => typ(s, row.next, left - 1),
-        kinds::ENUM..=kinds::INTERFACE => scopes(s, row.next, b, left - 1),
+        Kind::List => typ(s, row.next, left - 1),
+        Kind::Enum | Kind::Struct | Kind::Interface => scopes(s, row.next, b, left - 1),
         _ => Ok(row.next),
     }
 }
@@ -172,16 +173,13 @@ pub fn words_up_to(s: &[u8], from: usize, most: u64) -> Result<Counted, RefusedR
 }
 
 // Whether W rows belong to a slot, by its explicit flag and the kind of its V row.
-pub fn has_words(explicit: u64, kind: u64) -> bool
-    ensures { result ≡ has_words explicit kind }
+pub fn has_words(explicit: u64, kind: Kind) -> bool
+    ensures { result ≡ has_words explicit (number_of kind) }
 {
     if explicit != 1 {
         return false;
     }
-    match kind {
-        kinds::TEXT | kinds::DATA | kinds::LIST | kinds::STRUCT => true,
-        _ => false,
-    }
+    matches!(kind, Kind::Text | Kind::Data | Kind::List | Kind::Struct)
 }
 
 // The W rows of a slot: 1 to 255 where they belong, else none.

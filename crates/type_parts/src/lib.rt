@@ -2,6 +2,7 @@
 #![tactic(auto)]
 
 ghost use Rattle.std.specs.Prelude.{◌≡◌, ◌++◌, ◌+◌, ◌-◌, ◌*◌, ◌^◌, min, drop, replicate};
+ghost use Rattle.terms.specs.Kinds.{number_of};
 ghost use Rattle.text.specs.Bytes.{Str, ascii};
 ghost use Rattle.text.specs.Text.{Wrote, state_at};
 ghost use Rattle.row.specs.Rows.{rows};
@@ -15,7 +16,7 @@ ghost use Rattle.type_parts.specs.Parts.{Listed, Opened, closer, texts_of};
 
 use codegen_types::{Leaf, Lifetime};
 use nodes::Source;
-use terms::{Refusal, kinds};
+use terms::{Kind, Refusal};
 use text::Text;
 
 // The arguments of a brand while they are written: the text so far, and the byte before the next one, `<` or a comma.
@@ -37,33 +38,33 @@ pub fn displayed(root: &[u8], path: &[u8], leaf: Leaf, t: Text, buf: &mut [u8]) 
     leaf.display(t, buf)
 }
 
-// A type of one row that is no pointer to a node: kinds 0 to 13; any other kind has no text here.
-pub fn plain(root: &[u8], kind: u64, leaf: Leaf, t: Text, buf: &mut [u8]) -> Text
-    ensures { Wrote buf.old t (plain_string root.now leaf kind) buf.new result }
+// A type of one row that is no pointer to a node: Void to Data; any other kind has no text here.
+pub fn plain(root: &[u8], kind: Kind, leaf: Leaf, t: Text, buf: &mut [u8]) -> Text
+    ensures { Wrote buf.old t (plain_string root.now leaf (number_of kind)) buf.new result }
 {
     match kind {
-        kinds::TEXT => displayed(root, b"::text::", leaf, t, buf),
-        kinds::DATA => displayed(root, b"::data::", leaf, t, buf),
+        Kind::Text => displayed(root, b"::text::", leaf, t, buf),
+        Kind::Data => displayed(root, b"::data::", leaf, t, buf),
         _ => codegen_types::type_name(kind, t, buf),
     }
 }
 
 // The list module for an element of this kind, with its colons.
-fn list_module(kind: u64, t: Text, buf: &mut [u8]) -> Text
-    ensures { Wrote buf.old t (ascii "::" ++ list_module kind ++ ascii "::") buf.new result }
+fn list_module(kind: Kind, t: Text, buf: &mut [u8]) -> Text
+    ensures { Wrote buf.old t (ascii "::" ++ list_module (number_of kind) ++ ascii "::") buf.new result }
 {
     match kind {
-        kinds::LIST => t.bytes(buf, b"::list_list::"),
-        kinds::ENUM => t.bytes(buf, b"::enum_list::"),
-        kinds::STRUCT => t.bytes(buf, b"::struct_list::"),
-        kinds::INTERFACE => t.bytes(buf, b"::capability_list::"),
+        Kind::List => t.bytes(buf, b"::list_list::"),
+        Kind::Enum => t.bytes(buf, b"::enum_list::"),
+        Kind::Struct => t.bytes(buf, b"::struct_list::"),
+        Kind::Interface => t.bytes(buf, b"::capability_list::"),
         _ => t.bytes(buf, b"::primitive_list::"),
     }
 }
 
 // A list's text up to its element's.
-pub fn list_head(root: &[u8], kind: u64, leaf: Leaf, t: Text, buf: &mut [u8]) -> Text
-    ensures { Wrote buf.old t (root.now ++ ascii "::" ++ list_module kind ++ ascii "::" ++ bare_name
+pub fn list_head(root: &[u8], kind: Kind, leaf: Leaf, t: Text, buf: &mut [u8]) -> Text
+    ensures { Wrote buf.old t (root.now ++ ascii "::" ++ list_module (number_of kind) ++ ascii "::" ++ bare_name
         leaf ++ ascii "<" ++ lifetime_comma leaf) buf.new result }
 {
     let t = t.bytes(buf, root);

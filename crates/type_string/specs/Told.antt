@@ -11,6 +11,7 @@ use Rattle.tree.specs.Read as read
 use Rattle.tree.specs.Read.{read_type, type_from, read_binding}
 use Rattle.nodes.specs.Index.{names_of, InSource}
 use Rattle.nodes.specs.declared.Source.{Source}
+use Rattle.terms.specs.Kinds.{number_of}
 use Rattle.terms.specs.declared.refusals.Refusal.{Refusal}
 use Rattle.codegen_types.specs.Out.{Out, ok, refused, ◌then◌}
 use Rattle.codegen_types.specs.TypeString.{type_string, Scope, scopes_of, bindings_of, all_of, arguments_of, accumulate}
@@ -38,7 +39,8 @@ module _ (x : Source) where
   -- of a type whose row was read
   abbrev pub TypeTold : TypeRow → ℕ → Leaf → List ℕ → Text → List ℕ → Result Text Refusal → Type 0
   TypeTold row left leaf l t l' r =
-      InSource x (λ sheet. On (type_from (read_type left) row.kind row.a row.b row.c (rows (drop row.next x.bytes.now)))
+      InSource x (λ sheet.
+      On (type_from (read_type left) (number_of row.kind) row.a row.b row.c (rows (drop row.next x.bytes.now)))
       (λ ty. Writes (type_string ty sheet leaf) l t l' r))
 
   abbrev pub ListTold : ℕ → ℕ → Leaf → List ℕ → Text → List ℕ → Result Text Refusal → Type 0

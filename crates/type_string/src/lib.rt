@@ -17,7 +17,7 @@ ghost use Rattle.type_string.specs.Told.{TypeTold, ListTold, BrandTold, ChainTol
 use codegen_types::Leaf;
 use nodes::Source;
 use row::Line;
-use terms::{Refusal, kinds};
+use terms::{Kind, Refusal};
 use text::Text;
 use type_parts::Arguments;
 use types::TypeRow;
@@ -70,10 +70,9 @@ fn write_type(
     ensures within { Within buf.old t buf.new result }
 {
     match row.kind {
-        kinds::VOID..=kinds::DATA => Ok(type_parts::plain(source.root, row.kind, leaf, t, buf)),
-        kinds::LIST => write_list(source, row.next, left, leaf, t, buf),
-        kinds::ENUM => type_parts::qualified_module(source, row.a, t, buf),
-        kinds::STRUCT..=kinds::INTERFACE => {
+        Kind::List => write_list(source, row.next, left, leaf, t, buf),
+        Kind::Enum => type_parts::qualified_module(source, row.a, t, buf),
+        Kind::Struct | Kind::Interface => {
             let brand = Brand {
                 id: row.a,
                 scopes: row.next,
@@ -81,13 +80,14 @@ fn write_type(
             };
             do_branding(source, brand, left, leaf, t, buf)
         }
-        _ => {
+        Kind::AnyPointer => {
             if row.a == 0 {
                 let path = b"::any_pointer::";
                 return Ok(type_parts::displayed(source.root, path, leaf, t, buf));
             }
             type_parts::parameter(source, row.b, row.c, leaf, t, buf)
         }
+        _ => Ok(type_parts::plain(source.root, row.kind, leaf, t, buf)),
     }
 }
 
@@ -109,15 +109,15 @@ fn write_list(
     }
     let row = types::type_row(source.bytes, at);
     match row.kind {
-        kinds::TEXT => Ok(type_parts::displayed(source.root, b"::text_list::", leaf, t, buf)),
-        kinds::DATA => Ok(type_parts::displayed(source.root, b"::data_list::", leaf, t, buf)),
-        kinds::VOID..=kinds::INTERFACE => {
+        Kind::Text => Ok(type_parts::displayed(source.root, b"::text_list::", leaf, t, buf)),
+        Kind::Data => Ok(type_parts::displayed(source.root, b"::data_list::", leaf, t, buf)),
+        Kind::AnyPointer => Err(Refusal::ListOfAnyPointer),
+        _ => {
             let t = type_parts::list_head(source.root, row.kind, leaf, t, buf);
             let element = codegen_types::element_leaf(row.kind);
             let t = write_type(source, row, left - 1, element, t, buf)?;
             Ok(t.byte(buf, b'>'))
         }
-        _ => Err(Refusal::ListOfAnyPointer),
     }
 }
 

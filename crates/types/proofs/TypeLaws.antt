@@ -4,7 +4,7 @@ use mathlib.Core.Path.{◌≡◌, refl, sym, ap, ◌∙◌, subst}
 use mathlib.Core.Bool.{Bool, true, false}
 use mathlib.Core.List.{[], ◌∷◌}
 use Rattle.std.specs.Prelude.{Option, Some, Ok, Err}
-use Prim.Native.Nat.{ℕ, zero, suc, ◌-◌, ◌<◌, ◌≤◌, min}
+use Prim.Native.Nat.{ℕ, zero, suc, ◌-◌, ◌<◌, ◌≤◌}
 use native.Mathlib.Decide.{dec_lt}
 use native.Mathlib.Omega.{arith}
 use native.Mathlib.Numerals.{sub-one}
@@ -27,6 +27,10 @@ use Rattle.tree.specs.Read as read
 use Rattle.tree.specs.Read.{read_type, type_from, read_binding, pointer, branded}
 use Rattle.tree.proofs.OtherLines.{not-type, not_type-tag, not-scope, not-unbound}
 use Rattle.tree.proofs.WalkLaws.{by_told}
+use Rattle.terms.specs.Kinds.{number_of, kind_numbered}
+use Rattle.terms.specs.declared.kinds.Kind.{Kind}
+use Rattle.terms.specs.declared.kinds.Kind.TheVariants as kinds
+use Rattle.terms.proofs.KindLaws.{number-most, as-kind}
 use Rattle.codegen_types.specs.Out.{Out, ok, refused}
 use Rattle.codegen_types.specs.TypeString as type_string
 use Rattle.codegen_types.specs.TypeString.{type_string, scopes_of, bindings_of, any_owned, get_qualified_module, list_string}
@@ -43,9 +47,15 @@ pub type-zero : (left : ℕ) (rs : Rows) (P : Ty → Type 0) → left ≡ 0 → 
 unfolding read_type
 type-zero left rs P z = rw z (on-type P rs (λ k a b c rest. no (fault 4 1) rs) (λ k a b c e. tt))
 
+-- what belongs to a T row is said of its kind
+type_kind : (ty : Reader Ty) (k a b c : ℕ) → type_from ty k a b c ≡ type_from ty (number_of (kind_numbered k)) a b c
+unfolding type_from
+type_kind ty k a b c = as-kind (λ (n : ℕ). type_from ty n a b c)
+    (λ n h. rw (le-ltb n 14 (omega arith), ne_eqb n 14 (λ z. omega arith), le-ltb n 18 h) refl) k
+
 -- a type whose row was read, with what belongs to it
 pub type_row_lem : (s : Str) (at : ℕ) (r : TypeRow) (left : ℕ) (P : Ty → Type 0) → TypeRowAt s at r → (left ≡ 0 → ⊥)
-    → On (type_from (read_type (left - 1)) r.kind r.a r.b r.c (rows (drop r.next s))) P
+    → On (type_from (read_type (left - 1)) (number_of r.kind) r.a r.b r.c (rows (drop r.next s))) P
     → On (read_type left (rows (drop at s))) P
 unfolding read_type
 type_row_lem s at r zero P w z h = absurd (z refl)
@@ -62,12 +72,13 @@ type_row_lem s at r (suc l) P w z h =
           ap (λ (q : TypeRow). q.b) e,
           ap (λ (q : TypeRow). q.c) e,
           w.next,
+          ← type_kind (read_type l) k a b c,
         ) at h
 
 -- another line as a T row, or a bad one
 pub row_other : (l : Line) (next : ℕ) → (tag_of the_type l ≡ 5 → ⊥)
-    → type_row (line_said (Ok l)) next ≡ record { kind = 0; a = 0; b = 0; c = 0; next = next }
-unfolding line_said
+    → type_row (line_said (Ok l)) next ≡ record { kind = kinds.Void; a = 0; b = 0; c = 0; next = next }
+unfolding line_said kind_numbered
 row_other l next h =
     let t = not_type-tag l (λ k a b c z. h (ap (tag_of the_type) z)) in
     rw (
@@ -78,8 +89,8 @@ row_other l next h =
     )
 
 pub row-bad : (b : BadLine) (next : ℕ)
-    → type_row (line_said (Err b)) next ≡ record { kind = 0; a = 0; b = 0; c = 0; next = next }
-unfolding line_said
+    → type_row (line_said (Err b)) next ≡ record { kind = kinds.Void; a = 0; b = 0; c = 0; next = next }
+unfolding line_said kind_numbered
 row-bad b next = refl
 
 -- the kind that a row gives
@@ -92,16 +103,16 @@ module _ (rs : Rows) where
   unfolding line_said
   kind-bad b e = rw (← e) refl
 
-  pub kind-here : (k a b c : ℕ) → line_said (Ok (line.Typ k a b c)) ≡ line_at rs → min k 18 ≡ kind_at rs
+  pub kind-here : (k : Kind) (a b c : ℕ) → line_said (Ok (line.Typ k a b c)) ≡ line_at rs → number_of k ≡ kind_at rs
   unfolding line_said
-  kind-here k a b c e = rw (← e) (go (dec_lt k 18))
+  kind-here k a b c e = rw (← e) (go (number_of k) (number-most k))
     where
-      go : Dec (k < 18) → min k 18 ≡ cond (ltb k 18) k 18
-      go (Prim.yes h) = let z : min k 18 ≡ k = omega arith in rw (z, lt-ltb k 18 h) refl
-      go (Prim.no h) =
-          let z : min k 18 ≡ 18 = omega arith in
-          let w : 18 ≤ k = omega arith in
-          rw (z, le-ltb k 18 w) refl
+      go : (n : ℕ) → n ≤ 18 → n ≡ cond (ltb n 18) n 18
+      go n m = by-order (dec_lt n 18)
+        where
+          by-order : Dec (n < 18) → n ≡ cond (ltb n 18) n 18
+          by-order (Prim.yes h) = rw (lt-ltb n 18 h) refl
+          by-order (Prim.no h) = let z : n ≡ 18 = omega arith in rw z refl
 
 -- a line that was read at a position, as a T row
 pub row_at : (s : Str) (at next : ℕ) (l : Content) (r : TypeRow) → l ≡ line_at (rows (drop at s))

@@ -12,6 +12,7 @@ use Rattle.tree.specs.Read as read
 pub use Rattle.nodes.specs.Index.{Indexed, lookup}
 pub use Rattle.nodes.specs.Index.{sheet_of}
 unfoldable pub use Rattle.nodes.specs.Index.{names_of}
+use Rattle.terms.specs.Kinds.{kind_numbered}
 use Rattle.terms.specs.Refusals.{number}
 use Rattle.terms.specs.declared.refusals.Refusal.{Refusal}
 use Rattle.terms.specs.declared.refusals.Refusal.TheVariants.{TooDeep, NoNode}
@@ -34,10 +35,10 @@ After (no k rs) P = Unit {0}
 abbrev pub kind_at : Rows → ℕ
 kind_at rs = as_type (line_at rs) (λ k a b c. cond (ltb k 18) k 18) 0
 
--- the numbers of a T line, 0 for another line, and the position of the row after it
+-- the kind and the numbers of a T line, a Void's and 0 for another line, and the position of the row after it
 abbrev pub type_row : Content → ℕ → TypeRow
 type_row l next = record {
-  kind = as_type l (λ k a b c. k) 0;
+  kind = kind_numbered (as_type l (λ k a b c. k) 0);
   a = as_type l (λ k a b c. a) 0;
   b = as_type l (λ k a b c. b) 0;
   c = as_type l (λ k a b c. c) 0;

@@ -4,31 +4,32 @@
 
 ghost use Rattle.std.specs.Prelude.{◌≡◌, ◌≤◌, drop};
 ghost use Rattle.text.specs.Bytes.{Str};
+ghost use Rattle.terms.specs.Kinds.{number_of};
 ghost use Rattle.row.specs.Rows.{rows};
 ghost use Rattle.row.specs.Line.{line_said};
 ghost use Rattle.types.specs.Find.{type_row, TypeRowAt, kind_at, Past, step_of, ChainOf, LastScopes, Noted};
 
 use nodes::{Entry, Source};
 use row::{BadLine, Line};
-use terms::{Refusal, kinds};
+use terms::{Kind, Refusal};
 
 // What a T row says of a type: its numbers, and where what belongs to it begins.
 #[derive(Clone, Copy)]
 pub struct TypeRow {
-    pub kind: u64,
+    pub kind: Kind,
     pub a: u64,
     pub b: u64,
     pub c: u64,
     pub next: usize,
 }
 
-// What a line says as a T row, with where the next row begins. Of another line the numbers are 0.
+// What a line says as a T row, with where the next row begins. Another line is a Void's, and its numbers are 0.
 pub fn as_type(line: Result<Line, BadLine>, next: usize) -> TypeRow
     ensures { result ≡ type_row (line_said line) next }
 {
     let Ok(Line::Typ { kind, a, b, c }) = line else {
         return TypeRow {
-            kind: kinds::VOID,
+            kind: Kind::Void,
             a: 0,
             b: 0,
             c: 0,
@@ -52,15 +53,15 @@ pub fn type_row(s: &[u8], at: usize) -> TypeRow
     as_type(got.line, got.next)
 }
 
-// The kind of the type at a position; no T row has one above 18.
-pub fn kind(s: &[u8], at: usize) -> u64
-    ensures { result ≡ kind_at (rows (drop at s.now)) }
+// The kind of the type at a position; another row counts as a Void.
+pub fn kind(s: &[u8], at: usize) -> Kind
+    ensures { number_of result ≡ kind_at (rows (drop at s.now)) }
 {
     let got = row::next(s, at);
     let Ok(Line::Typ { kind, .. }) = got.line else {
-        return 0;
+        return Kind::Void;
     };
-    kind.min(kinds::ANY_POINTER)
+    kind
 }
 
 // The position after so many types, scopes or bindings, whose rows are known to be good: they are passed over by their length,
@@ -112,7 +113,7 @@ fn climb(source: &Source<'_>, ids: &[u64], id: u64) -> Result<Entry, Refusal>
     source.find(id).ok_or(Refusal::NoNode)
 }
 
-// The chain of parents from a node on.
+// The chain of parents from a node on. It takes the source, since `find` is a method of it.
 pub fn chain(source: &Source<'_>, id: u64) -> Links
     ensures { (s : Str) → ChainOf s source.now.index.now id result }
 {

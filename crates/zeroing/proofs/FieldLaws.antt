@@ -6,6 +6,7 @@ use Prim.Native.Nat.{ℕ, zero, suc, ◌+◌, ◌^◌, ◌≤◌, ◌<◌}
 use native.Mathlib.Omega.{arith}
 use lib.ListN.{length, take, drop, length-drop}
 use Rattle.std.specs.Prelude.{None, Some}
+use Rattle.terms.specs.Kinds.{number_of}
 use Rattle.text.specs.Bytes.{Str}
 use Rattle.row.specs.Rows.{rows}
 use Rattle.row.proofs.Laws.{rows-length}
@@ -47,15 +48,15 @@ module _ (s : Str) where
   ended_here (f ∷ fs) h = absurd h
 
 -- a field that was read leaves fewer rows
-module _ (s : Str) (at : ℕ) (r : code.Field) (fewer : Fewer s at (Some r)) where
-  pub slot-fewer : (sl : Slot) → r ≡ read.Slot sl → length (rows (drop sl.next s)) < length (rows (drop at s))
-  slot-fewer sl e = rw e at fewer
+module _ (s : Str) (at : ℕ) {r : code.Field} (fewer : Fewer s at (Some r)) where
+  pub slot-fewer : {sl : Slot} → r ≡ read.Slot sl → length (rows (drop sl.next s)) < length (rows (drop at s))
+  slot-fewer e = rw e at fewer
 
-  pub group-fewer : (g : Group) → r ≡ read.Group g → length (rows (drop g.next s)) < length (rows (drop at s))
-  group-fewer g e = rw e at fewer
+  pub group-fewer : {g : Group} → r ≡ read.Group g → length (rows (drop g.next s)) < length (rows (drop at s))
+  group-fewer e = rw e at fewer
 
 -- the fields passed are never more than the rows, so that their number fits
-module _ (s : Str) (first k n m : ℕ) (room : k + n ≤ length (rows (drop first s))) (fewer : m < n) where
+module _ (s : Str) (first k : ℕ) {n m : ℕ} (room : k + n ≤ length (rows (drop first s))) (fewer : m < n) where
   pub count_fits : length s < 2 ^ 64 → k + 1 < 2 ^ 64
   count_fits h = omega (arith, rows-length (drop first s), length-drop first s)
 
@@ -72,10 +73,10 @@ pub record IsSlot (a : Arm) (offset k : ℕ) : Type 0 where
   pub kind_is : tree.kind sl.ty ≡ k
 
 module _ (s : Str) (r : code.Field) (f : Field) where
-  pub says_slot : (sl : Slot) → r ≡ read.Slot sl → FieldIs s r f → IsSlot f.arm sl.offset sl.kind
+  pub says_slot : (sl : Slot) → r ≡ read.Slot sl → FieldIs s r f → IsSlot f.arm sl.offset (number_of sl.kind)
   says_slot sl e h = go f.arm (rw e at h)
     where
-      go : (a : Arm) → SlotIn s sl f.name f.discriminant a → IsSlot a sl.offset sl.kind
+      go : (a : Arm) → SlotIn s sl f.name f.discriminant a → IsSlot a sl.offset (number_of sl.kind)
       go (slot x) h = record { sl = x; is = refl; offset_is = h.slot.offset; kind_is = h.slot.kind }
       go (group i) h = absurd h
 

@@ -6,9 +6,11 @@ use mathlib.Core.List.{List, [], ◌∷◌, ◌++◌}
 use Rattle.std.specs.Prelude.{Option, None, Some, Result, Ok, Err}
 use Prim.Native.Nat.{ℕ, zero, suc, ◌-◌}
 use native.Mathlib.Numerals.{sub-one}
-use borrow.Author.Tests.{eqb-true, eq-eqb, ne_eqb}
+use native.Mathlib.Omega.{arith}
+use borrow.Author.Tests.{eq-eqb, ne_eqb}
 use lib.Dec.{eqb}
 use lib.ListN.{drop}
+use Rattle.std.proofs.lemmas.Bool.Decides.{nat_tests}
 use Rattle.text.specs.Bytes.{Str, unit, cond, either}
 use Rattle.text.specs.Lines.{Branch, Line, to_lines, flat_map, stringify, ended}
 use Rattle.text.specs.Lines as lines
@@ -17,9 +19,8 @@ use Rattle.text.specs.declared.Text.{Text}
 use Rattle.text.proofs.Laws.{◌⨾◌}
 use Rattle.text.proofs.LinesLaws.{ended_append, stringify-lines, stringify-none}
 use Rattle.row.specs.Rows.{rows}
-use Rattle.tree.specs.Tree.{kind, Slot, slot, group, Field, Node, Sheet}
+use Rattle.tree.specs.Tree.{Slot, slot, group, Field, Node, Sheet}
 use Rattle.tree.specs.Fields.{FieldsHere}
-use Rattle.tree.proofs.OtherLines.{never}
 use Rattle.nodes.specs.Index.{by_id, lookup, Indexed, EntryIs, Finds}
 use Rattle.nodes.specs.declared.Entry.{Entry}
 use Rattle.nodes.proofs.Laws.{found-is}
@@ -30,7 +31,7 @@ use Rattle.terms.specs.declared.refusals.Refusal.{Refusal}
 use Rattle.calls.specs.Calls.{zero_tag}
 use Rattle.codegen.specs.Zeroing.{Zeroing, zero_line, contains, push, no_push, zero_slot, zero_fields, zero_node}
 use Rattle.codegen.specs.Zeroing.{zero_fields_of_group}
-use Rattle.zeroing.specs.Lines.{line_type, zero_text, slot_lines, tag_lines}
+use Rattle.zeroing.specs.Lines.{zero_text, slot_lines, tag_lines}
 use Rattle.zeroing.specs.Added.{is_any, Added, Adds}
 use Rattle.zeroing.specs.Told.{Zeroes}
 use Rattle.zeroing.specs.declared.Lines.{Lines}
@@ -99,21 +100,21 @@ added_repeat clear l p c e =
     record { text = wrote_none l p.text; clears = e; any = sym (either-false p.any) }
 
 -- the line of a type at an offset: none, one that is there again, or a new one
-module _ (c o : ℕ) (again : Bool) (l : List ℕ) (p : Lines) where
+module _ {c : ℕ} (o : ℕ) (again : Bool) {l : List ℕ} {p : Lines} where
   pub line-void : c ≡ 0 → Added (slot_lines c o again) (eqb c 12) l p l p
   line-void z = rw z (added_none l p)
 
-  module _ (line : c ≡ 0 → ⊥) (clear : Bool) (clears : clear ≡ either p.clear (eqb c 12)) where
+  module _ (line : c ≡ 0 → ⊥) {clear : Bool} (clears : clear ≡ either p.clear (eqb c 12)) where
     pub line-again : again ≡ true
         → Added (slot_lines c o again) (eqb c 12) l p l
         (record { text = p.text; clear = clear; any = p.any })
     line-again y = rw (ne_eqb c 0 line, y) (added_repeat (eqb c 12) l p clear clears)
 
-    pub line-new : (l₁ : List ℕ) (t₁ : Text) (l₂ : List ℕ) (t₂ : Text) → again ≡ false → Wrote l p.text (zero_text c o) l₁ t₁
+    pub line-new : {l₁ : List ℕ} {t₁ : Text} {l₂ : List ℕ} {t₂ : Text} → again ≡ false → Wrote l p.text (zero_text c o) l₁ t₁
         → Wrote l₁ t₁ (unit 10) l₂ t₂
         → Added (slot_lines c o again) (eqb c 12) l p l₂
         (record { text = t₂; clear = clear; any = true })
-    line-new l₁ t₁ l₂ t₂ y v w =
+    line-new {l₁} {t₁} {l₂} {t₂} y v w =
         rw (ne_eqb c 0 line, y) (added_line (zero_text c o) (eqb c 12) l p l₁ t₁ l₂ t₂ clear clears v w)
 
 -- ---- the fields of a group, one after the other
@@ -121,12 +122,8 @@ module _ (c o : ℕ) (again : Bool) (l : List ℕ) (p : Lines) where
 -- where there is no line there is no pointer
 void-is : (s : Slot) → zero_line s ≡ None → is_pointer s.ty ≡ false
 void-is s e =
-    rw (pointer_is s)
-    (go (line_type (kind s.ty)) (eqb (line_type (kind s.ty)) 0) refl (sym (line-is s) ∙ e))
-  where
-    go : (d : ℕ) (t : Bool) → eqb d 0 ≡ t → cond t None (Some (zero_text d s.offset)) ≡ None → eqb d 12 ≡ false
-    go d true z e = rw (eqb-true d 0 z) refl
-    go d false z e = never cc
+    let none = sym (line-is s) ∙ e in
+    rw (pointer_is s) (grind (arith, nat_tests))
 
 -- what was added was given
 pub adds-ok : (o : Out Zeroing) (l : List ℕ) (p : Lines) (l₁ : List ℕ) (p₁ : Lines) → Adds o l p l₁ (Ok p₁)
@@ -202,14 +199,14 @@ module _ (inner : ℕ → Out Zeroing) (seen : List Str) where
 -- ---- a group's node
 
 -- the tag's line
-module _ (tags offset : ℕ) (l : List ℕ) (p : Lines) where
+module _ {tags : ℕ} (offset : ℕ) {l : List ℕ} {p : Lines} where
   pub tag_none : tags ≡ 0 → Added (tag_lines tags offset) false l p l p
   tag_none z = rw (eq-eqb tags 0 z) (added_none l p)
 
-  pub tag_some : (l₁ : List ℕ) (t₁ : Text) (l₂ : List ℕ) (t₂ : Text) → (tags ≡ 0 → ⊥)
+  pub tag_some : {l₁ : List ℕ} {t₁ : Text} {l₂ : List ℕ} {t₂ : Text} → (tags ≡ 0 → ⊥)
       → Wrote l p.text (zero_tag offset) l₁ t₁ → Wrote l₁ t₁ (unit 10) l₂ t₂
       → Added (tag_lines tags offset) false l p l₂ (record { text = t₂; clear = p.clear; any = true })
-  tag_some l₁ t₁ l₂ t₂ z v w =
+  tag_some {l₁} {t₁} {l₂} {t₂} z v w =
       rw (ne_eqb tags 0 z)
       (added_line (zero_tag offset) false l p l₁ t₁ l₂ t₂ p.clear (sym (either-false p.clear)) v w)
 
@@ -245,53 +242,63 @@ unfolding zero_fields_of_group
 some_left sheet zero id z = absurd (z refl)
 some_left sheet (suc left) id z = rw (sub-one (suc left)) refl
 
--- the node that the index has for an id
-module _ (s : Str) (sheet : Sheet) (index : List ℕ) (left id : ℕ) (more : left ≡ 0 → ⊥) (f : Option Entry)
-    (e : f ≡ lookup index id) (x : Indexed s sheet.nodes index) where
-  abbrev struct_of : Node → Out Zeroing
-  struct_of n = cond (eqb n.is_struct 1) (zero_node (zero_fields_of_group sheet (left - 1)) n) (refused 14)
+-- the zeroing of a node, where it is a struct
+abbrev struct_of : Sheet → ℕ → Node → Out Zeroing
+struct_of sheet left n = cond (eqb n.is_struct 1) (zero_node (zero_fields_of_group sheet (left - 1)) n) (refused 14)
 
-  finds : (g : Option Entry) → f ≡ g → Finds s index g (by_id id sheet.nodes)
-  finds g h = rw (← e, h) at (found-is s sheet.nodes index id x)
+-- what the index has for a group, with a level left for it
+pub record Sought (s : Str) (sheet : Sheet) (index : List ℕ) (left id : ℕ) (found : Option Entry) : Type 0 where
+  pub more : left ≡ 0 → ⊥
+  pub is : found ≡ lookup index id
+  pub indexed : Indexed s sheet.nodes index
 
-  pub group_missing : f ≡ None → zero_fields_of_group sheet left id ≡ refused 5
-  group_missing h =
-      rw (some_left sheet left id more, node_by_id sheet.nodes id) (go (by_id id sheet.nodes) (finds None h))
+pub sought : {s : Str} (sheet : Sheet) {index : List ℕ} {left id : ℕ} {f g : Option Entry} → (left ≡ 0 → ⊥)
+    → f ≡ lookup index id → Indexed s sheet.nodes index → f ≡ g → Sought s sheet index left id g
+sought sheet more e x h = record { more = more; is = sym h ∙ e; indexed = x }
+
+finds : {s : Str} {sheet : Sheet} {index : List ℕ} {left id : ℕ} {found : Option Entry}
+    → Sought s sheet index left id found → Finds s index found (by_id id sheet.nodes)
+finds {s} {sheet} {index} {left} {id} h = rw (← h.is) at (found-is s sheet.nodes index id h.indexed)
+
+pub group_missing : {s : Str} {sheet : Sheet} {index : List ℕ} {left id : ℕ} → Sought s sheet index left id None
+    → zero_fields_of_group sheet left id ≡ refused 5
+group_missing {s} {sheet} {index} {left} {id} h =
+    rw (some_left sheet left id h.more, node_by_id sheet.nodes id) (go (by_id id sheet.nodes) (finds h))
+  where
+    go : (o : Option Node) → Finds s index None o → (or_refused 5 o then struct_of sheet left) ≡ refused 5
+    go None w = refl
+    go (Some n) w = absurd w
+
+module _ {s : Str} {sheet : Sheet} {index : List ℕ} {left id : ℕ} {node : Entry}
+    (here : Sought s sheet index left id (Some node)) where
+  group-there : (Q : Out Zeroing → Type 0) → ((n : Node) → EntryIs s index node n → Q (struct_of sheet left n))
+      → Q (zero_fields_of_group sheet left id)
+  group-there Q law =
+      rw (some_left sheet left id here.more, node_by_id sheet.nodes id) (go (by_id id sheet.nodes) (finds here))
     where
-      go : (o : Option Node) → Finds s index None o → (or_refused 5 o then struct_of) ≡ refused 5
-      go None w = refl
-      go (Some n) w = absurd w
+      go : (o : Option Node) → Finds s index (Some node) o → Q (or_refused 5 o then struct_of sheet left)
+      go None w = absurd w
+      go (Some n) w = law n w
 
-  module _ (node : Entry) (there : f ≡ Some node) where
-    group-there : (Q : Out Zeroing → Type 0) → ((n : Node) → EntryIs s index node n → Q (struct_of n))
-        → Q (zero_fields_of_group sheet left id)
-    group-there Q law =
-        rw (some_left sheet left id more, node_by_id sheet.nodes id) (go (by_id id sheet.nodes) (finds (Some node) there))
-      where
-        go : (o : Option Node) → Finds s index (Some node) o → Q (or_refused 5 o then struct_of)
-        go None w = absurd w
-        go (Some n) w = law n w
+  pub no-struct : (node.is_struct ≡ 1 → ⊥) → zero_fields_of_group sheet left id ≡ refused 14
+  no-struct h = group-there (λ o. o ≡ refused 14) (λ n w. rw (ne_eqb n.is_struct 1 (λ z. h (w.is-struct ∙ z))) refl)
 
-    pub no-struct : (node.is_struct ≡ 1 → ⊥) → zero_fields_of_group sheet left id ≡ refused 14
-    no-struct h = group-there (λ o. o ≡ refused 14) (λ n w. rw (ne_eqb n.is_struct 1 (λ z. h (w.is-struct ∙ z))) refl)
-
-    pub group-refused : node.is_struct ≡ 1
-        → ((fs : List Field) → FieldsHere (rows (drop node.fields s)) fs → (seen : List Str)
+  module _ (struct : node.is_struct ≡ 1) where
+    pub group-refused : ((fs : List Field) → FieldsHere (rows (drop node.fields s)) fs → (seen : List Str)
         → zero_fields (zero_fields_of_group sheet (left - 1)) seen fs ≡ refused 4)
         → zero_fields_of_group sheet left id ≡ refused 4
-    group-refused h fields = group-there (λ o. o ≡ refused 4) (λ n w.
-        rw (eq-eqb n.is_struct 1 (sym w.is-struct ∙ h))
+    group-refused fields = group-there (λ o. o ≡ refused 4) (λ n w.
+        rw (eq-eqb n.is_struct 1 (sym w.is-struct ∙ struct))
         (back-node (zero_fields_of_group sheet (left - 1)) n (fields n.fields w.fields)))
 
-    pub group-adds : node.is_struct ≡ 1
-        → (l : List ℕ) (p : Lines) (l₁ : List ℕ) (p₁ : Lines) (l₂ : List ℕ) (r : Result Lines Refusal)
+    pub group-adds : {l : List ℕ} {p : Lines} {l₁ : List ℕ} {p₁ : Lines} (l₂ : List ℕ) (r : Result Lines Refusal)
         → Added (tag_lines node.tag_count node.tag_offset) false l p l₁ p₁
         → ((fs : List Field) → FieldsHere (rows (drop node.fields s)) fs
         → Adds (zero_fields (zero_fields_of_group sheet (left - 1)) (tag_lines node.tag_count node.tag_offset) fs)
         l₁ p₁ l₂ r)
         → Adds (zero_fields_of_group sheet left id) l p l₂ r
-    group-adds h l p l₁ p₁ l₂ r tag fields = group-there (λ o. Adds o l p l₂ r) (λ n w.
-        rw (eq-eqb n.is_struct 1 (sym w.is-struct ∙ h))
+    group-adds {l} {p} {l₁} {p₁} l₂ r tag fields = group-there (λ o. Adds o l p l₂ r) (λ n w.
+        rw (eq-eqb n.is_struct 1 (sym w.is-struct ∙ struct))
         (node-adds (zero_fields_of_group sheet (left - 1)) n l p l₁ p₁ l₂ r
         (rw (w.tag-count, w.tag-offset) at tag) (rw (w.tag-count, w.tag-offset) at (fields n.fields w.fields))))
 
@@ -302,12 +309,12 @@ abbrev start : Text → Lines
 start t = record { text = t; clear = false; any = false }
 
 any-lines : (ls : List Str) → is_any ls ≡ true → ls ≡ [] → ⊥
-any-lines [] e h = never cc
-any-lines (l ∷ ls) e h = never cc
+any-lines [] e h = cc
+any-lines (l ∷ ls) e h = cc
 
 no_lines : (ls : List Str) → is_any ls ≡ false → ls ≡ []
 no_lines [] e = refl
-no_lines (l ∷ ls) e = never cc
+no_lines (l ∷ ls) e = cc
 
 module _ (o : Out Zeroing) (l : List ℕ) (t : Text) (l₁ : List ℕ) (p : Lines) (a : Adds o l (start t) l₁ (Ok p)) where
   pub text-some : p.any ≡ true → Zeroes o l t l₁ (Ok (record { text = p.text; clear = p.clear }))
@@ -321,10 +328,10 @@ module _ (o : Out Zeroing) (l : List ℕ) (t : Text) (l₁ : List ℕ) (p : Line
       }
       go (refused k) a = a
 
-  pub text-none : (l₂ : List ℕ) (t₂ : Text) → p.any ≡ false → Wrote l₁ p.text (stringify (Branch lines.none)) l₂ t₂
+  pub text-none : {l₂ : List ℕ} {t₂ : Text} → p.any ≡ false → Wrote l₁ p.text (stringify (Branch lines.none)) l₂ t₂
       → Zeroes o l t l₂ (Ok (record { text = t₂; clear = p.clear }))
   unfolding to_lines flat_map ended
-  text-none l₂ t₂ y w = go o a
+  text-none {l₂} {t₂} y w = go o a
     where
       go : (o : Out Zeroing) → Adds o l (start t) l₁ (Ok p) → Zeroes o l t l₂ (Ok (record { text = t₂; clear = p.clear }))
       go (ok z) a =

@@ -6,9 +6,10 @@ use mathlib.Core.List.{[], ◌∷◌, ◌++◌, append_assoc}
 use Prim.Native.Nat.{ℕ, zero, suc, ◌+◌, ◌-◌, ◌*◌, ◌/◌, ◌%◌, ◌≤◌, ◌<◌}
 use native.Mathlib.Nat.{mod-lt, zero-lt-suc, div-add-mod'}
 use native.Mathlib.Omega.{arith}
-use borrow.Author.Tests.{le-leb, eq-eqb, ltb-true, ltb-false, eqb-true, eqb-false}
+use borrow.Author.Tests.{eq-eqb, ltb-true, ltb-false, eqb-true, eqb-false}
 use lib.Dec.{eqb, leb, ltb}
 use lib.ListN.{get_or, drop}
+use Rattle.std.proofs.lemmas.Bool.Decides.{nat_tests}
 use Rattle.text.specs.Bytes.{Str, ascii, cond, both, same}
 use Rattle.text.specs.Decimal.{decimal}
 use Rattle.text.proofs.BytesLaws.{both_true}
@@ -16,7 +17,6 @@ use Rattle.text.proofs.DecimalLaws.{decimal-low, decimal-high}
 use Rattle.calls.specs.Calls.{zero_bool, zero_data, zero_tag, clear_pointer}
 use Rattle.calls.proofs.Laws.{zero-bool, zero_tag_lem, zero-data}
 use Rattle.codegen_types.specs.Primitive.{primitive_text}
-use Rattle.tree.proofs.OtherLines.{never}
 use Rattle.zeroing.specs.Lines.{zero_text}
 
 -- ---- equal byte strings
@@ -29,8 +29,8 @@ same_refl (x ∷ a) = rw (eq-eqb x x refl) (same_refl a)
 pub same_true : (a b : Str) → same a b ≡ true → a ≡ b
 unfolding same
 same_true [] [] e = refl
-same_true [] (y ∷ b) e = never cc
-same_true (x ∷ a) [] e = never cc
+same_true [] (y ∷ b) e = cc
+same_true (x ∷ a) [] e = cc
 same_true (x ∷ a) (y ∷ b) e =
     let h = both_true (eqb x y) (same a b) e in
     let p = eqb-true x y h.0 in
@@ -39,11 +39,7 @@ same_true (x ∷ a) (y ∷ b) e =
 
 -- strings that are read differently differ
 differ : {A : Type 0} (f : Str → A) (a b : Str) → (f a ≡ f b → ⊥) → same a b ≡ false
-differ f a b h = go (same a b) refl
-  where
-    go : (t : Bool) → same a b ≡ t → t ≡ false
-    go true e = absurd (h (ap f (same_true a b e)))
-    go false e = refl
+differ f a b h = grind (arith, nat_tests, λ (e : same a b ≡ true). h (ap f (same_true a b e)))
 
 -- ---- a number, read again
 
@@ -56,9 +52,7 @@ number v [] = (v, [])
 number v (b ∷ s) = cond (is_digit b) (number (v * 10 + (b - 48)) s) (v, b ∷ s)
 
 number-one : (v x : ℕ) (s : Str) → x < 10 → number v ((48 + x) ∷ s) ≡ number (v * 10 + x) s
-number-one v x s h =
-    let e : 48 + x - 48 ≡ x = omega arith in
-    rw (le-leb 48 (48 + x) (omega arith), le-leb (48 + x) 57 (omega arith), e)
+number-one v x s h = grind (arith, nat_tests)
 
 number-first : (x : ℕ) (s : Str) → x < 10 → number 0 ((48 + x) ∷ s) ≡ number x s
 number-first x s h = let e : 0 * 10 + x ≡ x = omega arith in number-one 0 x s h ∙ ap (λ (y : ℕ). number y s) e

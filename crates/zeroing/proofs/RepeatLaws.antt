@@ -1,7 +1,7 @@
 -- The search in the sheet for a field with the line of a type at an offset: one law for each turn of the loop over so many
 -- fields. Assumes nothing.
 use mathlib.Core.Path.{◌≡◌, refl, sym, ap, ◌∙◌}
-use mathlib.Core.Bool.{Bool, true, false}
+use mathlib.Core.Bool.{Bool, true, false, ◌&&◌}
 use mathlib.Core.List.{List, [], ◌∷◌, ◌++◌}
 use Prim.Native.Nat.{ℕ, suc, ◌≤◌}
 use native.Mathlib.Omega.{arith}
@@ -9,7 +9,8 @@ use lib.Dec.{eqb}
 use lib.ListN.{take, drop}
 use lib.Seq.{take-nil}
 use Rattle.std.specs.Prelude.{None, Some}
-use Rattle.text.specs.Bytes.{Str, both, either}
+use Rattle.terms.specs.Kinds.{number_of}
+use Rattle.text.specs.Bytes.{Str, either}
 use Rattle.row.specs.Rows.{rows}
 use Rattle.tree.specs.Tree.{Field}
 use Rattle.tree.specs.Reader.{Rows}
@@ -20,7 +21,7 @@ use Rattle.field.specs.declared.Group.{Group}
 use Rattle.field.specs.declared.Field as code
 use Rattle.field.specs.declared.Field.TheVariants as read
 use Rattle.zeroing.specs.Lines.{line_type, has_line, repeats}
-use Rattle.zeroing.proofs.SlotLaws.{either-false, either_assoc}
+use Rattle.zeroing.proofs.SlotLaws.{either-false, either_assoc, and-both}
 use Rattle.zeroing.proofs.FieldLaws.{turn, ended_here, says_slot, says-group}
 
 -- one more field
@@ -33,50 +34,74 @@ repeats_append c o (g ∷ fs) f =
     ∙ sym (either_assoc (has_line c o g.arm) (repeats c o fs) (has_line c o f.arm))
 
 -- whether one of the first n fields that are read at some rows has the line
-abbrev pub Tells : ℕ → ℕ → Rows → ℕ → Bool → Type 0
-Tells c o rs n r = (fs : List Field) → FieldsHere rs fs → r ≡ repeats c o (take n fs)
+pub record Tells (c o : ℕ) (rs : Rows) (n : ℕ) (r : Bool) : Type 0 where
+  pub tells : (fs : List Field) → FieldsHere rs fs → r ≡ repeats c o (take n fs)
 
-module _ (c o : ℕ) (rs : Rows) (n : ℕ) where
+-- one of them, and m more
+head : (c o n m : ℕ) → n ≡ suc m → (f : Field) (fs : List Field)
+    → repeats c o (take n (f ∷ fs)) ≡ either (has_line c o f.arm) (repeats c o (take m fs))
+unfolding repeats
+head c o n m more f fs = rw more refl
+
+module _ {c o : ℕ} {rs : Rows} {n : ℕ} where
   pub tells_none : n ≤ 0 → Tells c o rs n false
   unfolding repeats
-  tells_none z fs h = let e : n ≡ 0 = omega arith in rw e refl
+  tells_none z = record { tells = λ fs h. let e : n ≡ 0 = omega arith in rw e refl }
 
   -- no field is read, or one, after which so many are left
   module _ (s : Str) where
     pub tells-end : ((fs : List Field) → FieldsHere rs fs → ReadsFirst s None fs) → Tells c o rs n false
     unfolding repeats
-    tells-end first fs h = rw (ended_here s fs (first fs h), take-nil {A = Field} n) refl
+    tells-end first = record { tells = λ fs h. rw (ended_here s fs (first fs h), take-nil {A = Field} n) refl }
 
-    module _ (r : code.Field) (first : (fs : List Field) → FieldsHere rs fs → ReadsFirst s (Some r) fs) (m : ℕ)
+    module _ {r : code.Field} (first : (fs : List Field) → FieldsHere rs fs → ReadsFirst s (Some r) fs) (m : ℕ)
         (more : n ≡ suc m) where
-      head : (f : Field) (fs : List Field)
-          → repeats c o (take n (f ∷ fs)) ≡ either (has_line c o f.arm) (repeats c o (take m fs))
-      unfolding repeats
-      head f fs = rw more refl
-
-      module _ (sl : Slot) (is : r ≡ read.Slot sl) (b : Bool)
-          (has : b ≡ both (eqb sl.offset o) (eqb (line_type sl.kind) c)) where
+      module _ {sl : Slot} (is : r ≡ read.Slot sl) {b : Bool}
+          (has : b ≡ (eqb sl.offset o && eqb (line_type (number_of sl.kind)) c)) where
         pub tells-here : b ≡ true → Tells c o rs n true
         unfolding has_line
-        tells-here y fs h =
-            let t = turn s r 0 fs (first fs h) in
-            let w = says_slot s r t.field sl is t.said in
-            rw (t.first, head t.field (drop 1 fs), w.is, w.offset_is, w.kind_is, ← has, y) refl
+        tells-here y = record {
+          tells = λ fs h.
+              let t = turn s r 0 fs (first fs h) in
+              let w = says_slot s r t.field sl is t.said in
+              rw (
+                t.first,
+                head c o n m more t.field (drop 1 fs),
+                w.is,
+                w.offset_is,
+                w.kind_is,
+                ← and-both (eqb sl.offset o) (eqb (line_type (number_of sl.kind)) c),
+                ← has,
+                y,
+              ) refl;
+        }
 
-        pub tells_more : (x : Bool) → b ≡ false → Tells c o (rows (drop sl.next s)) m x → Tells c o rs n x
+        pub tells_more : b ≡ false → {x : Bool} → Tells c o (rows (drop sl.next s)) m x → Tells c o rs n x
         unfolding has_line
-        tells_more x y later fs h =
-            let after : Tells c o (rows (drop (next_of r) s)) m x = rw is later in
-            let t = turn s r 0 fs (first fs h) in
-            let w = says_slot s r t.field sl is t.said in
-            rw (t.first, head t.field (drop 1 fs), w.is, w.offset_is, w.kind_is, ← has, y)
-            (after (drop 1 fs) t.next)
+        tells_more y {x} later = record {
+          tells = λ fs h.
+              let after : Tells c o (rows (drop (next_of r) s)) m x = rw is later in
+              let t = turn s r 0 fs (first fs h) in
+              let w = says_slot s r t.field sl is t.said in
+              rw (
+                t.first,
+                head c o n m more t.field (drop 1 fs),
+                w.is,
+                w.offset_is,
+                w.kind_is,
+                ← and-both (eqb sl.offset o) (eqb (line_type (number_of sl.kind)) c),
+                ← has,
+                y,
+              ) (after.tells (drop 1 fs) t.next);
+        }
 
-      pub tells-group : (g : Group) → r ≡ read.Group g → (x : Bool) → Tells c o (rows (drop g.next s)) m x
+      pub tells-group : {g : Group} → r ≡ read.Group g → {x : Bool} → Tells c o (rows (drop g.next s)) m x
           → Tells c o rs n x
       unfolding has_line
-      tells-group g is x later fs h =
-          let after : Tells c o (rows (drop (next_of r) s)) m x = rw is later in
-          let t = turn s r 0 fs (first fs h) in
-          let w = says-group s r t.field g is t.said in
-          rw (t.first, head t.field (drop 1 fs), w) (after (drop 1 fs) t.next)
+      tells-group {g} is {x} later = record {
+        tells = λ fs h.
+            let after : Tells c o (rows (drop (next_of r) s)) m x = rw is later in
+            let t = turn s r 0 fs (first fs h) in
+            let w = says-group s r t.field g is t.said in
+            rw (t.first, head c o n m more t.field (drop 1 fs), w) (after.tells (drop 1 fs) t.next);
+      }

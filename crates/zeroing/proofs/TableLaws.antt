@@ -3,18 +3,17 @@
 -- nothing.
 use mathlib.Core.Path.{◌≡◌, refl, sym, ap, ◌∙◌}
 use mathlib.Core.Bool.{Bool, true, false}
-use mathlib.Core.Logic.{◌⊎◌, inl, inr, ⊎_elim}
 use mathlib.Core.List.{List, [], ◌∷◌}
 use Prim.Native.Nat.{ℕ, zero, suc, ◌+◌, ◌-◌, ◌^◌, ◌≤◌, ◌<◌}
 use native.Mathlib.Numerals.{add-one}
 use native.Mathlib.Omega.{arith}
 use native.Mathlib.Decide.{ℕ_discrete}
-use borrow.Author.Tests.{eqb-true, eq-eqb, lt-ltb}
+use borrow.Author.Tests.{lt-ltb}
 use lib.Dec.{eqb, ltb}
 use lib.ListN.{length, get_or, set, replicate}
 use lib.Seq.{get_or-set_same, get_or-set_other}
-use Rattle.text.specs.Bytes.{cond, both, either}
-use Rattle.text.proofs.BytesLaws.{both_true}
+use Rattle.text.specs.Bytes.{cond, both}
+use Rattle.std.proofs.lemmas.Bool.Decides.{nat_tests}
 use Rattle.tree.specs.Tree.{Field}
 use Rattle.zeroing.specs.Lines.{repeats}
 use Rattle.zeroing.specs.Table.{table_size, stops, place_below, own_place, table_place, KeptLines, with_line, Knows}
@@ -52,16 +51,7 @@ module _ (xs ys : List ℕ) (c o : ℕ) where
       ≡ cond (ltb (place_below xs ys c o table_size i) table_size) (place_below xs ys c o table_size i) r
   unfolding place_below
   place-or r zero h = refl
-  place-or r (suc i) h = go (stops xs ys c o i) (place-or r i (omega arith))
-    where
-      go : (t : Bool)
-          → place_below xs ys c o r i
-          ≡ cond (ltb (place_below xs ys c o table_size i) table_size) (place_below xs ys c o table_size i) r
-          → cond t i (place_below xs ys c o r i)
-          ≡ cond (ltb (cond t i (place_below xs ys c o table_size i)) table_size)
-          (cond t i (place_below xs ys c o table_size i)) r
-      go true e = rw (lt-ltb i table_size (omega arith)) refl
-      go false e = e
+  place-or r (suc i) h = grind (arith, nat_tests, place-or r i)
 
   abbrev from_last : ℕ
   from_last = place_below xs ys c o table_size table_size
@@ -100,12 +90,7 @@ module _ (xs ys : List ℕ) (c o : ℕ) where
       → stops xs ys c o (place_below xs ys c o r i) ≡ true
   unfolding place_below
   place-stops r zero g h = g h
-  place-stops r (suc i) g h = go (stops xs ys c o i) refl (place_below xs ys c o r i) (place-stops r i g) h
-    where
-      go : (t : Bool) → stops xs ys c o i ≡ t → (rest : ℕ) → (rest < table_size → stops xs ys c o rest ≡ true)
-          → cond t i rest < table_size → stops xs ys c o (cond t i rest) ≡ true
-      go true e rest f h = e
-      go false e rest f h = f h
+  place-stops r (suc i) g h = let below = place-stops r i g in grind (arith, nat_tests)
 
   table-stops : table_place xs ys c o < table_size → stops xs ys c o (table_place xs ys c o) ≡ true
   table-stops =
@@ -113,25 +98,16 @@ module _ (xs ys : List ℕ) (c o : ℕ) where
       (place-stops table_size table_size (λ h. let z : ⊥ = omega arith in absurd z))
 
   -- what a place that is found has: the line where it is not free, and offset 0 where it is
-  stops-either : (i : ℕ) → stops xs ys c o i ≡ true
-      → ((get_or xs i 0 ≡ o) × (get_or ys i 0 ≡ c)) ⊎ ((get_or xs i 0 ≡ 0) × (get_or ys i 0 ≡ 0))
-  stops-either i e = go (both (eqb (get_or xs i 0) o) (eqb (get_or ys i 0) c)) refl e
-    where
-      go : (t : Bool) → both (eqb (get_or xs i 0) o) (eqb (get_or ys i 0) c) ≡ t
-          → either t (both (eqb (get_or xs i 0) 0) (eqb (get_or ys i 0) 0)) ≡ true
-          → ((get_or xs i 0 ≡ o) × (get_or ys i 0 ≡ c)) ⊎ ((get_or xs i 0 ≡ 0) × (get_or ys i 0 ≡ 0))
-      go true h e =
-          let b = both_true (eqb (get_or xs i 0) o) (eqb (get_or ys i 0) c) h in
-          inl (eqb-true (get_or xs i 0) o b.0, eqb-true (get_or ys i 0) c b.1)
-      go false h e =
-          let b = both_true (eqb (get_or xs i 0) 0) (eqb (get_or ys i 0) 0) e in
-          inr (eqb-true (get_or xs i 0) 0 b.0, eqb-true (get_or ys i 0) 0 b.1)
-
   stops-held : (i : ℕ) → stops xs ys c o i ≡ true → (get_or ys i 0 ≡ 0 → ⊥) → (get_or ys i 0 ≡ c) × (get_or xs i 0 ≡ o)
-  stops-held i e n = ⊎_elim (λ w. (w.1, w.0)) (λ w. absurd (n w.1)) (stops-either i e)
+  stops-held i e n = grind (arith, nat_tests)
 
   stops-free : (i : ℕ) → stops xs ys c o i ≡ true → (c ≡ 0 → ⊥) → get_or ys i 0 ≡ 0 → get_or xs i 0 ≡ 0
-  stops-free i e n z = ⊎_elim (λ w. absurd (n (sym w.1 ∙ z))) (λ w. w.0) (stops-either i e)
+  stops-free i e n z = grind (arith, nat_tests)
+
+-- the steps of the search for a place, and of the search for a line's place, for their tactics
+pub ruleset place_steps = (place_none, place_here, place-next)
+
+pub ruleset own_steps = (own-here, own-passed, part-none)
 
 -- ---- one more line at a free place
 
@@ -177,15 +153,11 @@ module _ (xs ys : List ℕ) (c o p : ℕ) (more : p < table_size) (px : p < leng
   kept-below s' s (suc i) g e =
       go (ℕ_discrete i p) (place_below (set xs p o) (set ys p c) c o s' i) (place_below xs ys c o s i) (kept-below s' s i g) e
     where
-      by-stop : (i ≡ p → ⊥) → (r' r : ℕ) → (r ≡ p → r' ≡ p) → (t : Bool) → cond t i r ≡ p → cond t i r' ≡ p
-      by-stop n r' r ih true e = e
-      by-stop n r' r ih false e = ih e
-
       go : Dec (i ≡ p) → (r' r : ℕ) → (r ≡ p → r' ≡ p) → cond (stops xs ys c o i) i r ≡ p
           → cond (stops (set xs p o) (set ys p c) c o i) i r' ≡ p
       go (yes x) r' r ih e =
-          rw (x, get_or-set_same xs p o 0 px, get_or-set_same ys p c 0 py, eq-eqb c c refl, eq-eqb o o refl) refl
-      go (no n) r' r ih e = rw (stops-other c o i n) (by-stop n r' r ih (stops xs ys c o i) e)
+          rw (x, get_or-set_same xs p o 0 px, get_or-set_same ys p c 0 py) (grind (arith, nat_tests))
+      go (no n) r' r ih e = rw (stops-other c o i n) (grind (arith, nat_tests))
 
   place_kept : table_place xs ys c o ≡ p → table_place (set xs p o) (set ys p c) c o ≡ p
   place_kept =
@@ -196,12 +168,7 @@ module _ (xs ys : List ℕ) (c o p : ℕ) (more : p < table_size) (px : p < leng
 
 -- two lines that are not the same
 apart : (a b x y : ℕ) → (a ≡ b → x ≡ y → ⊥) → both (eqb a b) (eqb x y) ≡ false
-apart a b x y h = go (eqb a b) (eqb x y) refl refl
-  where
-    go : (t u : Bool) → eqb a b ≡ t → eqb x y ≡ u → both t u ≡ false
-    go true true e f = absurd (h (eqb-true a b e) (eqb-true x y f))
-    go true false e f = refl
-    go false u e f = refl
+apart a b x y h = grind (arith, nat_tests)
 
 -- no line needs no place
 pub kept-first : (n : ℕ) → KeptLines (replicate n 0) (replicate n 0) (λ c o. repeats c o [])
@@ -213,7 +180,7 @@ kept-first n = record { held = λ i h. absurd (h (none n i)); free = λ c o x y 
     none (suc n) zero = refl
     none (suc n) (suc i) = none n i
 
-module _ (xs ys : List ℕ) (fs : List Field) (k : KeptLines xs ys (λ c o. repeats c o fs)) where
+module _ {xs ys : List ℕ} (fs : List Field) (k : KeptLines xs ys (λ c o. repeats c o fs)) where
   module _ (c o : ℕ) where
     -- one more line, and the table stays
     kept_on : ((d q : ℕ) → (d ≡ 0 → ⊥) → q < 2 ^ 32 → Free ys (table_place xs ys d q) → o ≡ q → c ≡ d → ⊥)
@@ -227,7 +194,7 @@ module _ (xs ys : List ℕ) (fs : List Field) (k : KeptLines xs ys (λ c o. repe
     pub kept-void : c ≡ 0 → KeptLines xs ys (with_line c o fs)
     kept-void z = kept_on (λ d q n w p x y. n (sym y ∙ z))
 
-    module _ (p : ℕ) (at : p ≡ table_place xs ys c o) (more : p < table_size) where
+    module _ {p : ℕ} (at : p ≡ table_place xs ys c o) (more : p < table_size) where
       stopped : stops xs ys c o p ≡ true
       stopped = rw (← at) at (table-stops xs ys c o (rw at at more))
 
@@ -245,7 +212,7 @@ module _ (xs ys : List ℕ) (fs : List Field) (k : KeptLines xs ys (λ c o. repe
         again = sym (k.free c o line w (rw at at more) (rw at at e));
         kept = record {
           held = λ i n. held i n (ℕ_discrete i p);
-          free = λ d q z y r f. free d q z y r f (ℕ_discrete o q) (ℕ_discrete c d);
+          free = λ d q z y r f. other d q z y (r, f);
         };
       }
         where
@@ -255,18 +222,10 @@ module _ (xs ys : List ℕ) (fs : List Field) (k : KeptLines xs ys (λ c o. repe
           held : (i : ℕ) → (get_or (set ys p c) i 0 ≡ 0 → ⊥) → Dec (i ≡ p)
               → with_line c o fs (get_or (set ys p c) i 0) (get_or (set xs p o) i 0) ≡ true
           held i n (yes x) =
-              rw (x, get_or-set_same xs p o 0 px, get_or-set_same ys p c 0 py, eq-eqb c c refl, eq-eqb o o refl)
-              (either_true (repeats c o fs))
+              rw (x, get_or-set_same xs p o 0 px, get_or-set_same ys p c 0 py) (grind (arith, nat_tests))
           held i n (no m) =
               let g = get_or-set_other ys p i c 0 m in
               rw (get_or-set_other xs p i o 0 m, g, k.held i (λ z. n (g ∙ z))) refl
-
-          other : (d q : ℕ) → (d ≡ 0 → ⊥) → q < 2 ^ 32
-              → Free (set ys p c) (table_place (set xs p o) (set ys p c) d q) → (o ≡ q → c ≡ d → ⊥)
-              → with_line c o fs d q ≡ false
-          other d q z y f n =
-              let b = free-before xs ys c o p more px py line e bare d q f in
-              rw (k.free d q z y b.0 b.1) (apart o q c d n)
 
           own : (d q : ℕ) → Free (set ys p c) (table_place (set xs p o) (set ys p c) d q) → o ≡ q → c ≡ d → ⊥
           own d q f x y =
@@ -274,9 +233,8 @@ module _ (xs ys : List ℕ) (fs : List Field) (k : KeptLines xs ys (λ c o. repe
               let g : get_or (set ys p c) p 0 ≡ 0 = rw (← x, ← y, b) at f.1 in
               line (sym (get_or-set_same ys p c 0 py) ∙ g)
 
-          free : (d q : ℕ) → (d ≡ 0 → ⊥) → q < 2 ^ 32 → table_place (set xs p o) (set ys p c) d q < table_size
-              → get_or (set ys p c) (table_place (set xs p o) (set ys p c) d q) 0 ≡ 0 → Dec (o ≡ q) → Dec (c ≡ d)
-              → with_line c o fs d q ≡ false
-          free d q z y r f (yes a) (yes b) = absurd (own d q (r, f) a b)
-          free d q z y r f (yes a) (no n) = other d q z y (r, f) (λ v w. n w)
-          free d q z y r f (no n) u = other d q z y (r, f) (λ v w. n v)
+          other : (d q : ℕ) → (d ≡ 0 → ⊥) → q < 2 ^ 32
+              → Free (set ys p c) (table_place (set xs p o) (set ys p c) d q) → with_line c o fs d q ≡ false
+          other d q z y f =
+              let b = free-before xs ys c o p more px py line e bare d q f in
+              rw (k.free d q z y b.0 b.1) (apart o q c d (own d q f))

@@ -8,6 +8,7 @@ use Prim.Native.Nat.{ℕ, suc, ◌+◌}
 use native.Mathlib.Numerals.{add-one}
 use lib.ListN.{take, drop, replicate}
 use Rattle.std.specs.Prelude.{None, Some, Result, Ok, Err}
+use Rattle.terms.specs.Kinds.{number_of}
 use Rattle.text.specs.Bytes.{Str}
 use Rattle.row.specs.Rows.{rows}
 use Rattle.tree.specs.Tree.{Field}
@@ -55,19 +56,18 @@ pub record Going (inner : ℕ → Out Zeroing) (tags offset : ℕ) (rs₀ : Rows
   pub back : (fs : List Field) → FieldsHere rs₀ fs → (other : ℕ → Out Zeroing) → Fewer inner other
       → Refuses other (drop k fs) → Refuses other fs
 
-pub going_first : (inner : ℕ → Out Zeroing) (tags offset : ℕ) (rs : Rows) (n : ℕ) (l : List ℕ) (p : Lines)
+pub going_first : {inner : ℕ → Out Zeroing} {tags offset : ℕ} {rs : Rows} {l : List ℕ} {p : Lines} (n : ℕ)
     → Going inner tags offset rs l p rs 0 (replicate n 0) (replicate n 0) l p
 unfolding seen_after
-going_first inner tags offset rs n l p = record {
+going_first n = record {
   here = λ fs h. h;
   kept = λ fs h. kept-first n;
   rest = λ fs l' r h a. a;
   back = λ fs h other fewer z. z;
 }
 
-module _ (inner : ℕ → Out Zeroing) (tags offset : ℕ) (rs₀ : Rows) (l₀ : List ℕ) (p₀ : Lines) (rs : Rows) (k : ℕ)
-    (xs ys l : List ℕ) (p : Lines) (g : Going inner tags offset rs₀ l₀ p₀ rs k xs ys l p)
-    (s : Str) where
+module _ {inner : ℕ → Out Zeroing} {tags offset : ℕ} {rs₀ : Rows} {l₀ : List ℕ} {p₀ : Lines} {rs : Rows} {k : ℕ}
+    {xs ys l : List ℕ} {p : Lines} (g : Going inner tags offset rs₀ l₀ p₀ rs k xs ys l p) (s : Str) where
   -- no more fields
   pub going_end : ((fs : List Field) → FieldsHere rs fs → ReadsFirst s None fs) → (fs : List Field) → FieldsHere rs₀ fs
       → Adds (zero_fields inner (tag_lines tags offset) fs) l₀ p₀ l (Ok p)
@@ -104,18 +104,18 @@ module _ (inner : ℕ → Out Zeroing) (tags offset : ℕ) (rs₀ : Rows) (l₀ 
           g.back fs h other fewer (λ seen. rw t.first (over fs h t.field t.said other fewer z seen));
     })
 
-    module _ (sl : Slot) (is : r ≡ read.Slot sl) where
+    module _ {sl : Slot} (is : r ≡ read.Slot sl) where
       -- the line of a slot
-      pub going-slot : (xs₁ ys₁ l₁ : List ℕ) (p₁ : Lines)
+      pub going-slot : {xs₁ ys₁ l₁ : List ℕ} {p₁ : Lines}
           → ((fs : List Field) → FieldsHere rs₀ fs → KeptLines xs ys (λ c o. repeats c o (take k fs))
-          → AddedSlot (line_type sl.kind) sl.offset (take k fs) l p l₁ p₁
-          × KeptLines xs₁ ys₁ (with_line (line_type sl.kind) sl.offset (take k fs)))
+          → AddedSlot (line_type (number_of sl.kind)) sl.offset (take k fs) l p l₁ p₁
+          × KeptLines xs₁ ys₁ (with_line (line_type (number_of sl.kind)) sl.offset (take k fs)))
           → Going inner tags offset rs₀ l₀ p₀ (rows (drop sl.next s)) (k + 1) xs₁ ys₁ l₁ p₁
       unfolding has_line
-      going-slot xs₁ ys₁ l₁ p₁ a = rw is at (going xs₁ ys₁ l₁ p₁
+      going-slot {xs₁} {ys₁} {l₁} {p₁} a = rw is at (going xs₁ ys₁ l₁ p₁
           (λ fs h f x.
           let w = says_slot s r f sl is x in
-          kept_same xs₁ ys₁ (with_line (line_type sl.kind) sl.offset (take k fs)) _
+          kept_same xs₁ ys₁ (with_line (line_type (number_of sl.kind)) sl.offset (take k fs)) _
           (λ c o. repeats_append c o (take k fs) f ∙ rw (w.is, w.offset_is, w.kind_is) refl) (a fs h (g.kept fs h)).1)
           (λ fs h f x l' r' v.
           let w = says_slot s r f sl is x in
@@ -126,7 +126,7 @@ module _ (inner : ℕ → Out Zeroing) (tags offset : ℕ) (rs₀ : Rows) (l₀ 
           let w = says_slot s r f sl is x in
           back-slot other f (drop (suc k) fs) z seen w.sl w.is))
 
-    module _ (gr : Group) (is : r ≡ read.Group gr) where
+    module _ {gr : Group} (is : r ≡ read.Group gr) where
       -- a group inside that is refused with 4, with fewer levels
       pub going_back : (other : ℕ → Out Zeroing) → Fewer inner other → other gr.id ≡ refused 4
           → (fs : List Field) → FieldsHere rs₀ fs → Refuses other fs
@@ -136,10 +136,10 @@ module _ (inner : ℕ → Out Zeroing) (tags offset : ℕ) (rs₀ : Rows) (l₀ 
           g.back fs h other fewer (λ seen. rw t.first (back-here other t.field (drop (suc k) fs) seen gr.id w z))
 
       -- the lines of a group inside
-      pub going-group : (l₁ : List ℕ) (p₁ : Lines) → Adds (inner gr.id) l p l₁ (Ok p₁)
+      pub going-group : {l₁ : List ℕ} {p₁ : Lines} → Adds (inner gr.id) l p l₁ (Ok p₁)
           → Going inner tags offset rs₀ l₀ p₀ (rows (drop gr.next s)) (k + 1) xs ys l₁ p₁
       unfolding has_line
-      going-group l₁ p₁ a = rw is at (going xs ys l₁ p₁
+      going-group {l₁} {p₁} a = rw is at (going xs ys l₁ p₁
           (λ fs h f x.
           let w = says-group s r f gr is x in
           kept_same xs ys (λ c o. repeats c o (take k fs)) _

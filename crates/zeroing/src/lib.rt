@@ -2,11 +2,11 @@
 #![tactic(auto)]
 
 ghost use Rattle.std.specs.Prelude.{◌≡◌, false, List, ◌*◌, ◌<◌, ◌≤◌, eqb, length, drop, take};
+ghost use Rattle.terms.specs.Kinds.{number_of};
 ghost use Rattle.text.specs.Bytes.{Str, both, either};
 ghost use Rattle.text.specs.Text.{Wrote, WroteSome};
 ghost use Rattle.row.specs.Rows.{rows};
 ghost use Rattle.tree.specs.Tree as tree;
-ghost use Rattle.tree.specs.Read.{among};
 ghost use Rattle.tree.specs.Fields.{FieldsHere};
 ghost use Rattle.nodes.specs.Index.{ForAll};
 ghost use Rattle.codegen.specs.Zeroing.{zero_fields_of_group};
@@ -19,7 +19,7 @@ ghost use Rattle.zeroing.specs.Told.{Zeroes, ZeroedWithin};
 
 use field::{Field, Slot};
 use nodes::Source;
-use terms::{Refusal, kinds};
+use terms::{Kind, Refusal};
 use text::Text;
 
 // How many lines of one group the table has room for. A sheet of 65,536 bytes has 300 slots at most.
@@ -55,66 +55,119 @@ pub struct Zeroed {
     pub clear: bool,
 }
 
+// A line of a zeroing: the offset that it writes at, and its type.
+#[derive(Clone, Copy, PartialEq, Eq)]
+struct ZeroLine {
+    offset: u64,
+    typ: u8,
+}
+
+// A line as the table keeps it: its offset has 32 bits.
+#[derive(Clone, Copy)]
+struct KeptLine {
+    offset: u32,
+    typ: u8,
+}
+
+// The fields of a group that are passed: so many, the first of them at a position of the sheet.
+#[derive(Clone, Copy)]
+struct Fields<'a> {
+    s: &'a [u8],
+    first: usize,
+    count: usize,
+}
+
+// A group that a zeroing comes to: its id, how many levels are left for it, and the group that the zeroing began with. That there
+// is a way from that one to it (`Leads`) is a fact of a sheet: it stands in the one clause over sheets, since a ghost field would
+// have to hold the source too.
+#[derive(Clone, Copy)]
+struct Visit {
+    id: u64,
+    left: usize,
+    start: u64,
+}
+
 // The type of a slot's line by its kind.
-fn line_type(kind: u64) -> u8
-    ensures { result ≡ line_type kind }
+fn line_type(kind: Kind) -> u8
+    ensures { result ≡ line_type (number_of kind) }
 {
     match kind {
-        kinds::VOID..=kinds::FLOAT64 => kind as u8,
-        kinds::ENUM => UINT16_LINE,
+        Kind::Enum => UINT16_LINE,
+        kind if kind.is_primitive() => kind as u8,
         _ => POINTER_LINE,
     }
 }
 
-// Whether a slot has the line of a type at an offset.
-fn has_line(slot: Slot, typ: u8, offset: u64) -> bool
-    ensures { result ≡ both (eqb slot.offset offset) (eqb (line_type slot.kind) typ) }
-{
-    slot.offset == offset && line_type(slot.kind) == typ
-}
-
-// Whether one of so many fields from a position on has the line of a type at an offset: they are read again.
-fn is_repeat(s: &[u8], first: usize, count: usize, typ: u8, offset: u64) -> bool
-    ensures { (fs : List tree.Field) → FieldsHere (rows (drop first s.now)) fs
-        → result ≡ repeats typ offset (take count fs) }
-{
-    let mut at = first;
-    for _ in 0..count {
-        // Each arm goes on by itself: what it has read is not known where the arms meet.
-        match field::read(s, at) {
-            Some(Field::Slot(slot)) => {
-                if has_line(slot, typ, offset) {
-                    return true;
-                }
-                at = slot.next;
-                continue;
-            }
-            Some(Field::Group(group)) => {
-                at = group.next;
-                continue;
-            }
-            None => return false,
+impl ZeroLine {
+    // A slot's line: of no type for Void.
+    fn of(slot: Slot) -> ZeroLine
+        ensures { result ≡ record { offset = slot.offset; typ = line_type (number_of slot.kind) } }
+    {
+        ZeroLine {
+            offset: slot.offset,
+            typ: line_type(slot.kind),
         }
     }
-    false
+
+    // Whether a line clears a pointer, once there is this one too.
+    fn clears(self, before: bool) -> bool
+        ensures { result ≡ either before (eqb self.typ 12) }
+    {
+        before || self.typ == POINTER_LINE
+    }
+
+    // Its text.
+    #[tactic(auto, unfolding(crate::specs::Lines::zero_text))]
+    fn write(self, t: Text, buf: &mut [u8]) -> Text
+        ensures { Wrote buf.old t (zero_text self.typ self.offset) buf.new result }
+    {
+        let ZeroLine { offset, typ } = self;
+        match typ {
+            BOOL_LINE => calls::zero_bool(offset, t, buf),
+            0..=LAST_NUMBER_LINE => codegen::zero_number(
+                Kind::from(u64::from(typ)),
+                offset,
+                t,
+                buf,
+            ),
+            _ => calls::clear_pointer(offset, t, buf),
+        }
+    }
 }
 
-// Whether a number is one of these. All are compared, without a branch, so that the compiler compares several at once.
-fn among(numbers: &[u32], number: u32) -> bool
-    ensures { result ≡ among number numbers.now }
-{
-    let mut found = false;
-    for &other in numbers {
-        found |= other == number;
+impl Fields<'_> {
+    // Whether one of them has a line: they are read again.
+    fn is_repeat(&self, line: ZeroLine) -> bool
+        ensures { (fs : List tree.Field) → FieldsHere (rows (drop self.now.first self.now.s.now)) fs
+            → result ≡ repeats line.typ line.offset (take self.now.count fs) }
+    {
+        let mut at = self.first;
+        for _ in 0..self.count {
+            // Each arm goes on by itself: what it has read is not known where the arms meet.
+            match field::read(self.s, at) {
+                Some(Field::Slot(slot)) => {
+                    if ZeroLine::of(slot) == line {
+                        return true;
+                    }
+                    at = slot.next;
+                    continue;
+                }
+                Some(Field::Group(group)) => {
+                    at = group.next;
+                    continue;
+                }
+                None => return false,
+            }
+        }
+        false
     }
-    found
 }
 
 // Whether a line at an offset can stand among some places, or one of them be free, by their offsets alone.
 fn may_stop(offsets: &[u32], offset: u32) -> bool
     ensures { result ≡ may_stop offsets.now offset }
 {
-    among(offsets, offset) | among(offsets, 0)
+    nodes::among(offsets, offset) | nodes::among(offsets, 0)
 }
 
 // The lines of a group so far by type and offset, each at a place of its own. A place with type 0 and offset 0 is free.
@@ -125,23 +178,30 @@ struct Table {
 }
 
 impl Table {
-    // Whether a place has a type and an offset. Most places are passed over by their offset alone.
-    fn has_both(&self, i: usize, typ: u8, offset: u32) -> bool
+    // What stands at a free place.
+    const FREE: KeptLine = KeptLine {
+        offset: 0,
+        typ: NO_LINE,
+    };
+
+    // Whether a place has a line's offset and type. Most places are passed over by their offset alone.
+    fn has_both(&self, i: usize, line: KeptLine) -> bool
         requires { i < table_size }
-        ensures { result ≡ has_both self.now.offsets self.now.types typ offset i }
+        ensures { result ≡ has_both self.now.offsets self.now.types line.typ line.offset i }
     {
-        self.offsets[i] == offset && self.types[i] == typ
+        self.offsets[i] == line.offset && self.types[i] == line.typ
     }
 
-    // Whether a place has the line of a type at an offset, or is free.
-    fn is_stop(&self, i: usize, typ: u8, offset: u32) -> bool
+    // Whether a place has a line, or is free.
+    fn is_stop(&self, i: usize, line: KeptLine) -> bool
         requires { i < table_size }
-        ensures { result ≡ stops self.now.offsets self.now.types typ offset i }
+        ensures { result ≡ stops self.now.offsets self.now.types line.typ line.offset i }
     {
-        self.has_both(i, typ, offset) || self.has_both(i, 0, 0)
+        self.has_both(i, line) || self.has_both(i, Table::FREE)
     }
 
     // How many of the first `count` blocks are left to a search down them, up to the last that may stop it.
+    #[tactic(auto, using(crate::proofs::BlockLaws::block_steps))]
     fn blocks_left(&self, count: usize, offset: u32) -> usize
         requires { count * block_size ≤ table_size }
         ensures { result ≡ blocks_left self.now.offsets offset count }
@@ -155,11 +215,12 @@ impl Table {
         0
     }
 
-    // The last place below one that is free or has the line of a type at an offset, if there is one. Below the block that it
-    // begins in, the search passes over the blocks that cannot stop it, so that the end is looked for once a block.
-    fn place_below(&self, end: usize, typ: u8, offset: u32) -> Option<usize>
+    // The last place below one that is free or has a line, if there is one. Below the block that it begins in, the search passes
+    // over the blocks that cannot stop it, so that the end is looked for once a block.
+    #[tactic(auto, using(crate::proofs::TableLaws::place_steps, crate::proofs::BlockLaws::below_steps))]
+    fn place_below(&self, end: usize, line: KeptLine) -> Option<usize>
         requires { end ≤ table_size }
-        ensures { IsPlace result (place_below self.now.offsets self.now.types typ offset table_size end) }
+        ensures { IsPlace result (place_below self.now.offsets self.now.types line.typ line.offset table_size end) }
     {
         if end == 0 {
             return None;
@@ -167,91 +228,76 @@ impl Table {
         let mut i = end;
         loop {
             i -= 1;
-            if self.is_stop(i, typ, offset) {
+            if self.is_stop(i, line) {
                 return Some(i);
             }
             if i % BLOCK != 0 {
                 continue;
             }
-            i = self.blocks_left(i / BLOCK, offset) * BLOCK;
+            i = self.blocks_left(i / BLOCK, line.offset) * BLOCK;
             if i == 0 {
                 return None;
             }
         }
     }
 
-    // The place of the line of a type at an offset: its own, or the first one from there down that has the line or is free;
-    // where there is none, the last of all, if there is any. The search is called at one place of the code, so that it is
-    // compiled in place and a line at its own place pays for no call.
-    fn place(&self, typ: u8, offset: u32) -> Option<usize>
-        ensures { IsPlace result (table_place self.now.offsets self.now.types typ offset) }
+    // The place of a line: its own, or the first one from there down that has the line or is free; where there is none, the last
+    // of all, if there is any. The search is called at one place of the code, so that it is compiled in place and a line at its
+    // own place pays for no call.
+    #[tactic(auto, using(crate::proofs::TableLaws::own_steps))]
+    fn place(&self, line: KeptLine) -> Option<usize>
+        ensures { IsPlace result (table_place self.now.offsets self.now.types line.typ line.offset) }
     {
-        let own = ((offset % 65536) as usize * 13 + typ as usize) % SIZE;
-        if self.is_stop(own, typ, offset) {
+        let own = ((line.offset % 65536) as usize * 13 + line.typ as usize) % SIZE;
+        if self.is_stop(own, line) {
             return Some(own);
         }
         for end in [own, SIZE] {
-            if let Some(i) = self.place_below(end, typ, offset) {
+            if let Some(i) = self.place_below(end, line) {
                 return Some(i);
             }
         }
         None
     }
 
-    // Whether a group has the line of a type at an offset already, after `count` fields, the first of them at `first`. If not,
-    // the table keeps it. A line that has no place there, or whose offset has more than 32 bits, is sought by reading the fields
-    // again.
-    fn is_known(&mut self, s: &[u8], first: usize, count: usize, typ: u8, offset: u64) -> bool
-        requires { typ ≡ 0 → ⊥ }
-        ensures { (fs : List tree.Field) → FieldsHere (rows (drop first s.now)) fs
-            → KeptLines self.old.offsets self.old.types (λ c o. repeats c o (take count fs))
-            → Knows typ offset (take count fs) result self.new.offsets self.new.types }
+    // Whether one of the fields passed has a line already. If not, the table keeps it. A line that has no place there, or whose
+    // offset has more than 32 bits, is sought by reading the fields again.
+    fn is_known(&mut self, fields: &Fields<'_>, line: ZeroLine) -> bool
+        requires { line.typ ≡ 0 → ⊥ }
+        ensures { (fs : List tree.Field) → FieldsHere (rows (drop fields.now.first fields.now.s.now)) fs
+            → KeptLines self.old.offsets self.old.types (λ c o. repeats c o (take fields.now.count fs))
+            → Knows line.typ line.offset (take fields.now.count fs) result self.new.offsets self.new.types }
     {
         // A test and a cast: `u32::try_from` costs four instructions more for each line.
-        if 0xffff_ffff < offset {
-            return is_repeat(s, first, count, typ, offset);
+        if 0xffff_ffff < line.offset {
+            return fields.is_repeat(line);
         }
-        let narrow = offset as u32;
-        let Some(i) = self.place(typ, narrow) else {
-            return is_repeat(s, first, count, typ, offset);
+        let kept = KeptLine {
+            offset: line.offset as u32,
+            typ: line.typ,
+        };
+        let Some(i) = self.place(kept) else {
+            return fields.is_repeat(line);
         };
         if self.types[i] != NO_LINE {
             return true;
         }
-        self.types[i] = typ;
-        self.offsets[i] = narrow;
+        self.types[i] = kept.typ;
+        self.offsets[i] = kept.offset;
         false
     }
 }
 
-// The line of a type at an offset.
-fn zero_line(typ: u8, offset: u64, t: Text, buf: &mut [u8]) -> Text
-    ensures { Wrote buf.old t (zero_text typ offset) buf.new result }
+// A line after the lines so far: none where it is one of them.
+fn next_line(line: ZeroLine, again: bool, before: Lines, buf: &mut [u8]) -> Lines
+    requires { line.typ ≡ 0 → ⊥ }
+    ensures { Added (slot_lines line.typ line.offset again) (eqb line.typ 12) buf.old before buf.new result }
 {
-    match typ {
-        BOOL_LINE => calls::zero_bool(offset, t, buf),
-        0..=LAST_NUMBER_LINE => codegen::zero_number(u64::from(typ), offset, t, buf),
-        _ => calls::clear_pointer(offset, t, buf),
-    }
-}
-
-// Whether a line clears a pointer, once there is one of this type too.
-fn clears(before: bool, typ: u8) -> bool
-    ensures { result ≡ either before (eqb typ 12) }
-{
-    before || typ == POINTER_LINE
-}
-
-// The line of a type at an offset after the lines so far: none where it is one of them.
-fn next_line(typ: u8, offset: u64, again: bool, before: Lines, buf: &mut [u8]) -> Lines
-    requires { typ ≡ 0 → ⊥ }
-    ensures { Added (slot_lines typ offset again) (eqb typ 12) buf.old before buf.new result }
-{
-    let clear = clears(before.clear, typ);
+    let clear = line.clears(before.clear);
     if again {
         return Lines { clear, ..before };
     }
-    let t = zero_line(typ, offset, before.text, buf);
+    let t = line.write(before.text, buf);
     let text = t.byte(buf, b'\n');
     Lines {
         text,
@@ -260,28 +306,27 @@ fn next_line(typ: u8, offset: u64, again: bool, before: Lines, buf: &mut [u8]) -
     }
 }
 
-// The line of a slot, after `count` fields of its group, the first of them at `first`: none for Void.
+// The line of a slot, after the fields passed: none for Void.
 fn zero_slot(
-    s: &[u8],
-    first: usize,
-    count: usize,
+    fields: &Fields<'_>,
     table: &mut Table,
     slot: Slot,
     before: Lines,
     buf: &mut [u8],
 ) -> Lines
-    ensures lines { (fs : List tree.Field) → FieldsHere (rows (drop first s.now)) fs
-        → KeptLines table.old.offsets table.old.types (λ c o. repeats c o (take count fs))
-        → AddedSlot (line_type slot.kind) slot.offset (take count fs) buf.old before buf.new result
-        × KeptLines table.new.offsets table.new.types (with_line (line_type slot.kind) slot.offset (take count fs)) }
+    ensures lines { (fs : List tree.Field) → FieldsHere (rows (drop fields.now.first fields.now.s.now)) fs
+        → KeptLines table.old.offsets table.old.types (λ c o. repeats c o (take fields.now.count fs))
+        → AddedSlot (line_type (number_of slot.kind)) slot.offset (take fields.now.count fs) buf.old before buf.new result
+        × KeptLines table.new.offsets table.new.types
+        (with_line (line_type (number_of slot.kind)) slot.offset (take fields.now.count fs)) }
     ensures some { WroteSome buf.old before.text buf.new result.text }
 {
-    let typ = line_type(slot.kind);
-    if typ == NO_LINE {
+    let line = ZeroLine::of(slot);
+    if line.typ == NO_LINE {
         return before;
     }
-    let again = table.is_known(s, first, count, typ, slot.offset);
-    next_line(typ, slot.offset, again, before, buf)
+    let again = table.is_known(fields, line);
+    next_line(line, again, before, buf)
 }
 
 // The line of a node's tag, where it has one.
@@ -300,37 +345,35 @@ fn tag_line(tag_count: u64, tag_offset: u64, before: Lines, buf: &mut [u8]) -> L
     }
 }
 
-// The levels left for an inner group: none for the one that the zeroing began with. That one leads to itself on every level, so
-// that it would be refused on the last.
-fn inner_levels(left: usize, id: u64, start: u64) -> usize
-    requires { left ≡ 0 → ⊥ }
-    ensures { result ≡ inner_levels left id start }
-{
-    if id == start {
-        return 0;
+impl Visit {
+    // A group inside this one. No level is left for the one that the zeroing began with: it leads to itself on every level, so
+    // that it would be refused on the last.
+    fn inner(self, id: u64) -> Visit
+        requires { self.left ≡ 0 → ⊥ }
+        ensures { result ≡ record { id = id; left = inner_levels self.left id self.start; start = self.start } }
+    {
+        let left = if id == self.start { 0 } else { self.left - 1 };
+        Visit { id, left, ..self }
     }
-    left - 1
 }
 
-// The lines of the group with this id, with so many levels left, or the refusal that is met first. `start` is the group that the
-// zeroing began with. An inner group has a table of its own: repeats are dropped inside one group only.
+// The lines of a group, or the refusal that is met first. An inner group has a table of its own: repeats are dropped inside one
+// group only.
 fn zero_fields_of_group(
     source: &Source<'_>,
-    left: usize,
-    id: u64,
-    start: u64,
+    group: Visit,
     before: Lines,
     buf: &mut [u8],
 ) -> Result<Lines, Refusal>
     ensures lines { (root : Str) → ForAll root source.now.bytes.now source.now.index.now (λ sheet.
-        Leads sheet start left id
-        → Adds (zero_fields_of_group sheet left id) buf.old before buf.new result) }
+        Leads sheet group.start group.left group.id
+        → Adds (zero_fields_of_group sheet group.left group.id) buf.old before buf.new result) }
     ensures within { AddsWithin buf.old before buf.new result }
 {
-    if left == 0 {
+    if group.left == 0 {
         return Err(Refusal::TooDeep);
     }
-    let Some(node) = source.find(id) else {
+    let Some(node) = source.find(group.id) else {
         return Err(Refusal::NoNode);
     };
     if node.is_struct != 1 {
@@ -350,14 +393,14 @@ fn zero_fields_of_group(
         // As in `is_repeat`, each arm goes on by itself.
         match field {
             Field::Slot(slot) => {
-                lines = zero_slot(s, first, count, &mut table, slot, lines, buf);
+                let fields = Fields { s, first, count };
+                lines = zero_slot(&fields, &mut table, slot, lines, buf);
                 at = slot.next;
                 count += 1;
                 continue;
             }
             Field::Group(inner) => {
-                let levels = inner_levels(left, inner.id, start);
-                lines = zero_fields_of_group(source, levels, inner.id, start, lines, buf)?;
+                lines = zero_fields_of_group(source, group.inner(inner.id), lines, buf)?;
                 at = inner.next;
                 count += 1;
                 continue;
@@ -378,7 +421,12 @@ pub fn zeroing(source: &Source<'_>, id: u64, t: Text, buf: &mut [u8]) -> Result<
         clear: false,
         any: false,
     };
-    let lines = zero_fields_of_group(source, 16, id, id, none, buf)?;
+    let first = Visit {
+        id,
+        left: 16,
+        start: id,
+    };
+    let lines = zero_fields_of_group(source, first, none, buf)?;
     if lines.any {
         return Ok(Zeroed {
             text: lines.text,

@@ -13,22 +13,22 @@ pub returns-then-bits-eq0 : goal.returns-then-bits-eq0
 unfolding getter_mask
 returns-then-bits-eq0 c = simp (eq-eqb _ _ c.if-bits-eq0.true)
 
-pub returns-in-1 : goal.returns-in-1
+pub returns-in-Bool : goal.returns-in-Bool
 unfolding getter_mask
-returns-in-1 c = simp (ne_eqb _ _ c.if-bits-eq0.false, c.in-1.is)
+returns-in-Bool c = simp (ne_eqb _ _ c.if-bits-eq0.false, c.in-Bool.is)
 
-pub returns-in-2 : goal.returns-in-2
+pub returns-in-Int8 : goal.returns-in-Int8
 unfolding getter_mask
-returns-in-2 c = simp (ne_eqb _ _ c.if-bits-eq0.false, c.in-2.is)
+returns-in-Int8 c = simp (ne_eqb _ _ c.if-bits-eq0.false, c.in-Int8.is)
 
-pub returns-in-3 : goal.returns-in-3
+pub returns-in-Int16 : goal.returns-in-Int16
 unfolding getter_mask
-returns-in-3 c = simp (ne_eqb _ _ c.if-bits-eq0.false, c.in-3.is)
+returns-in-Int16 c = simp (ne_eqb _ _ c.if-bits-eq0.false, c.in-Int16.is)
 
-pub returns-in-4 : goal.returns-in-4
+pub returns-in-Int32 : goal.returns-in-Int32
 unfolding getter_mask
-returns-in-4 c = simp (ne_eqb _ _ c.if-bits-eq0.false, c.in-4.is)
+returns-in-Int32 c = simp (ne_eqb _ _ c.if-bits-eq0.false, c.in-Int32.is)
 
-pub returns-in-5 : goal.returns-in-5
+pub returns-in-Int64 : goal.returns-in-Int64
 unfolding getter_mask
-returns-in-5 c = simp (ne_eqb _ _ c.if-bits-eq0.false, c.in-5.is)
+returns-in-Int64 c = simp (ne_eqb _ _ c.if-bits-eq0.false, c.in-Int64.is)

@@ -2,32 +2,46 @@
 -- any other refused. Assumes nothing.
 use mathlib.Core.Path.{refl, sym, ap, ◌∙◌}
 use native.Mathlib.Omega.{arith}
+use borrow.Author.Tests.{leb-true, leb-false}
+use Rattle.terms.specs.Kinds.{number_of}
+use Rattle.terms.specs.declared.kinds.Kind.TheVariants as kind
+use Rattle.terms.proofs.KindLaws.{number-own}
 use Rattle.codegen_types.specs.Out.{ok}
 use Rattle.codegen.specs.Default.{prim_default}
-use Rattle.codegen.proofs.Laws.{same_mask, refused-below, refused-above}
+use Rattle.codegen.proofs.Laws.{same_mask, refused-above}
 use Rattle.codegen.proofs.prim_default.Goals as goal
+
+pub returns-in-Void : goal.returns-in-Void
+unfolding prim_default
+returns-in-Void c = rw c.in-Void.is refl
 
 pub returns-then-zero : goal.returns-then-zero
 unfolding prim_default
-returns-then-zero c = rw (c.in-10.is, ← c.is_float_zero-zero.ensures, c.if-zero.true) refl
+returns-then-zero c = rw (c.in-Float32.is, ← c.is_float_zero-zero.ensures, c.if-zero.true) refl
 
 pub returns-else-zero : goal.returns-else-zero
 unfolding prim_default
-returns-else-zero c = rw (c.in-10.is, ← c.is_float_zero-zero.ensures, c.if-zero.false) refl
+returns-else-zero c = rw (c.in-Float32.is, ← c.is_float_zero-zero.ensures, c.if-zero.false) refl
 
 pub returns-then-zero-2 : goal.returns-then-zero-2
 unfolding prim_default
-returns-then-zero-2 c = rw (c.in-11.is, ← c.is_float_zero-zero-in-11.ensures, c.if-zero-2.true) refl
+returns-then-zero-2 c = rw (c.in-Float64.is, ← c.is_float_zero-zero-in-Float64.ensures, c.if-zero-2.true) refl
 
 pub returns-else-zero-2 : goal.returns-else-zero-2
 unfolding prim_default
-returns-else-zero-2 c = rw (c.in-11.is, ← c.is_float_zero-zero-in-11.ensures, c.if-zero-2.false) refl
-
-pub returns-in-1-to-9 : goal.returns-in-1-to-9
-returns-in-1-to-9 c = ap ok c.getter_mask.ensures ∙ same_mask _ _ (omega arith) (omega arith)
+returns-else-zero-2 c = rw (c.in-Float64.is, ← c.is_float_zero-zero-in-Float64.ensures, c.if-zero-2.false) refl
 
 pub returns-in_default : goal.returns-in_default
-returns-in_default c = sym (refused-below _ _ (omega arith))
+returns-in_default c =
+    let d = c.in_default in
+    let k = c.args.kind in
+    let most = leb-true (number_of k) 11 (sym c.if-is_primitive.ensures) in
+    let void = number-own k kind.Void d.not-Void in
+    let float = number-own k kind.Float32 d.not-Float32 in
+    let double = number-own k kind.Float64 d.not-Float64 in
+    ap ok c.getter_mask.ensures ∙ same_mask _ _ (omega arith) (omega arith)
 
 pub returns-in_default-2 : goal.returns-in_default-2
-returns-in_default-2 c = sym (refused-above _ _ (omega arith))
+returns-in_default-2 c =
+    let past = leb-false (number_of c.args.kind) 11 (sym c.if-is_primitive.ensures) in
+    sym (refused-above _ _ (omega arith))

@@ -4,7 +4,6 @@ use native.Mathlib.Omega.{arith}
 use Rattle.std.specs.Prelude.{Ok}
 use Rattle.field.proofs.TypeLaws.{type_other, type-bad, type-alone, type-list, type_brand, rest-fewer, nested_fewer}
 use Rattle.field.proofs.type_span.Goals as goal
-use Rattle.field.proofs.type_span.Goals.{in-14, in-15-to-17, in_default-kind, in_default-kind-2}
 
 pub returns-in_default-clause-is : goal.returns-in_default-clause-is
 returns-in_default-clause-is c =
@@ -20,32 +19,33 @@ returns-in_default-2-clause-is c =
 pub returns-in_default-2-clause-fewer : goal.returns-in_default-2-clause-fewer
 returns-in_default-2-clause-fewer c = rest-fewer _ _ c.next-got.ensures.s_value
 
-pub returns-clause-is : goal.returns-clause-is
-returns-clause-is c =
+pub returns-in-List-clause-is : goal.returns-in-List-clause-is
+returns-in-List-clause-is c =
     let g = c.next-got.ensures in
     let w = c.in-Ok-Typ in
-    let here = rw (w.is ∙ ap Ok (rw w.is at w.field-0-is)) at g.line_value in
-    elim c.match-kind.branch [
-      | in-14 v ↦
-          type-list c.args.s.now _ _ _ _ _ _ _ here g.s_value c.min.ensures refl v.in-14.is
-          (rw v.past-is v.past-past.ensures.rows)
-      | in-15-to-17 v ↦
-          type_brand c.args.s.now _ _ _ _ _ _ _ here g.s_value c.min.ensures refl (omega arith) (omega arith)
-          (rw v.past-is v.past-past-in-15-to-17.ensures.rows)
-      | in_default-kind v ↦
-          type-alone c.args.s.now _ _ _ _ _ _ _ here g.s_value c.min.ensures refl (λ z. omega arith) (λ y z. omega arith)
-          (rw v.past-is refl)
-      | in_default-kind-2 v ↦
-          type-alone c.args.s.now _ _ _ _ _ _ _ here g.s_value c.min.ensures refl (λ z. omega arith) (λ y z. omega arith)
-          (rw v.past-is refl)
-    ]
+    type-list c.args.s.now _ _ _ _ _ _ _ (rw (w.is ∙ ap Ok (rw w.is at w.field-0-is)) at g.line_value) g.s_value refl refl
+    c.in-List.is c.past-past.ensures.rows
 
-pub returns-clause-fewer : goal.returns-clause-fewer
-returns-clause-fewer c =
+pub returns-in-List-clause-fewer : goal.returns-in-List-clause-fewer
+returns-in-List-clause-fewer c = nested_fewer c.args.s.now _ _ _ c.next-got.ensures.s_value c.past-past.ensures.further
+
+pub returns-in-Enum-clause-is : goal.returns-in-Enum-clause-is
+returns-in-Enum-clause-is c =
     let g = c.next-got.ensures in
-    elim c.match-kind.branch [
-      | in-14 v ↦ rw v.past-is (nested_fewer c.args.s.now _ _ _ g.s_value v.past-past.ensures.further)
-      | in-15-to-17 v ↦ rw v.past-is (nested_fewer c.args.s.now _ _ _ g.s_value v.past-past-in-15-to-17.ensures.further)
-      | in_default-kind v ↦ rw v.past-is (rest-fewer _ _ g.s_value)
-      | in_default-kind-2 v ↦ rw v.past-is (rest-fewer _ _ g.s_value)
-    ]
+    let w = c.in-Ok-Typ in
+    type_brand c.args.s.now _ _ _ _ _ _ _ (rw (w.is ∙ ap Ok (rw w.is at w.field-0-is)) at g.line_value) g.s_value refl refl
+    c.in-Enum.is c.past-past-in-Enum.ensures.rows
+
+pub returns-in-Enum-clause-fewer : goal.returns-in-Enum-clause-fewer
+returns-in-Enum-clause-fewer c = nested_fewer c.args.s.now _ _ _ c.next-got.ensures.s_value c.past-past-in-Enum.ensures.further
+
+pub returns-in_default-kind-clause-is : goal.returns-in_default-kind-clause-is
+returns-in_default-kind-clause-is c =
+    let g = c.next-got.ensures in
+    let w = c.in-Ok-Typ in
+    let n = c.in_default-kind in
+    type-alone c.args.s.now _ _ _ _ _ _ _ (rw (w.is ∙ ap Ok (rw w.is at w.field-0-is)) at g.line_value) g.s_value refl refl
+    n.not-List n.not-Enum n.not-Struct n.not-Interface refl
+
+pub returns-in_default-kind-clause-fewer : goal.returns-in_default-kind-clause-fewer
+returns-in_default-kind-clause-fewer c = rest-fewer _ _ c.next-got.ensures.s_value

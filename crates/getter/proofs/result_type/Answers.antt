@@ -1,61 +1,79 @@
 -- `getter::result_type` meets its contract: the arm of the slot's kind, behind the arrow. Assumes nothing.
-use mathlib.Core.Path.{◌≡◌}
+use mathlib.Core.Path.{◌≡◌, sym, ap}
+use borrow.Author.Tests.{leb-true, leb-false}
+use Rattle.terms.specs.Kinds.{number_of}
+use Rattle.terms.specs.declared.kinds.Kind.TheVariants as kind
+use Rattle.terms.proofs.KindLaws.{number-own}
 use native.Mathlib.Omega.{arith}
 use Rattle.text.proofs.Laws.{some-text}
 use Rattle.nodes.specs.Index.{sheet_of}
 use Rattle.codegen.proofs.AroundLaws.{within-behind}
 use Rattle.getter.proofs.ResultLaws.{prim_here, enum-here, client-here, any_here, fails-here}
 use Rattle.getter.proofs.result_type.Goals as goal
-use Rattle.getter.proofs.result_type.Goals.{In_default, in_default-via-in-18+else-slot-eq0, in_default-via-in_default-1}
+use Rattle.getter.proofs.result_type.Goals.{In_default, in_default-via-in-AnyPointer+else-slot-eq0, in_default-via-in_default}
 
-pub returns-then-kind-le-FLOAT64-clause-text : goal.returns-then-kind-le-FLOAT64-clause-text
-returns-then-kind-le-FLOAT64-clause-text c =
+pub returns-then-is_primitive-clause-text : goal.returns-then-is_primitive-clause-text
+returns-then-is_primitive-clause-text c =
     let a = c.args in
-    λ ns ix f h. prim_here (sheet_of a.source.now.root.now ns) a.is_reader a.is_fn _ a.slot f h c.if-kind-le-FLOAT64.true
+    λ ns ix f h. prim_here (sheet_of a.source.now.root.now ns) a.is_reader a.is_fn _ a.slot f h
+    (leb-true (number_of a.slot.kind) 11 (sym c.if-is_primitive.ensures))
     c.prim_result.ensures
 
-pub returns-in-15 : goal.returns-in-15
-returns-in-15 c =
+pub returns-in-Enum : goal.returns-in-Enum
+returns-in-Enum c =
     let a = c.args in
     record {
       text = λ ns ix f h. enum-here (sheet_of a.source.now.root.now ns) a.is_reader a.is_fn _ a.slot f h
-          c.arrow-t.ensures _ _ c.in-15.is (c.enum_result.ensures.text ns ix);
+          c.arrow-t.ensures _ _ (ap number_of c.in-Enum.is) (c.enum_result.ensures.text ns ix);
       within = within-behind _ _ (some-text c.arrow-t.ensures) c.enum_result.ensures.within;
     }
 
-pub returns-in-17 : goal.returns-in-17
-returns-in-17 c =
+pub returns-in-Interface : goal.returns-in-Interface
+returns-in-Interface c =
     let a = c.args in
     record {
       text = λ ns ix f h. client-here (sheet_of a.source.now.root.now ns) a.is_reader a.is_fn _ a.slot f h
-          c.arrow-t.ensures _ _ c.in-17.is (c.fallible_result.ensures.text ns ix);
+          c.arrow-t.ensures _ _ (ap number_of c.in-Interface.is) (c.fallible_result.ensures.text ns ix);
       within = within-behind _ _ (some-text c.arrow-t.ensures) c.fallible_result.ensures.within;
     }
 
-pub returns-in-18 : goal.returns-in-18
-returns-in-18 c =
+pub returns-in-AnyPointer : goal.returns-in-AnyPointer
+returns-in-AnyPointer c =
     let a = c.args in
     record {
       text = λ ns ix f h. any_here (sheet_of a.source.now.root.now ns) a.is_reader a.is_fn _ a.slot f h
-          c.arrow-t.ensures _ _ _ c.module_leaf-leaf.ensures c.in-18.is c.if-slot-eq0.true
+          c.arrow-t.ensures _ _ _ c.module_leaf-leaf.ensures (ap number_of c.in-AnyPointer.is) c.if-slot-eq0.true
           (c.optional_type.ensures.text ns ix);
       within = within-behind _ _ (some-text c.arrow-t.ensures) c.optional_type.ensures.within;
     }
 
--- past the last arm an AnyPointer is a parameter
-with_id : (c : In_default) → c.args.slot.kind ≡ 18 → c.args.slot.id ≡ 0 → ⊥
-with_id c = elim c.in_default.branch [
-  | in_default-via-in-18+else-slot-eq0 w ↦ λ k z. w.if-slot-eq0.false z
-  | in_default-via-in_default-1 w ↦ λ k z. omega arith
-]
+-- past the last arm there is no enum and no interface, and an AnyPointer is a parameter
+past_arms :
+    (c : In_default)
+    → (number_of c.args.slot.kind ≡ 15 → ⊥) × (number_of c.args.slot.kind ≡ 17 → ⊥)
+    × (number_of c.args.slot.kind ≡ 18 → c.args.slot.id ≡ 0 → ⊥)
+past_arms c =
+    let k = c.args.slot.kind in
+    elim c.in_default.branch [
+      | in_default-via-in-AnyPointer+else-slot-eq0 w ↦
+          let n = ap number_of w.in-AnyPointer.is in
+          (λ e. omega arith, λ e. omega arith, λ e z. w.if-slot-eq0.false z)
+      | in_default-via-in_default w ↦
+          let d = w.in_default in (
+            number-own k kind.Enum d.not-Enum,
+            number-own k kind.Interface d.not-Interface,
+            λ e z. number-own k kind.AnyPointer d.not-AnyPointer e,
+          )
+    ]
 
 pub returns-in_default : goal.returns-in_default
 returns-in_default c =
     let a = c.args in
+    let past = past_arms (goal.at.returns-in_default c).In_default in
     record {
       text = λ ns ix f h. fails-here (sheet_of a.source.now.root.now ns) a.is_reader a.is_fn _ a.slot f h
-          c.arrow-t.ensures _ _ _ c.module_leaf-leaf.ensures c.if-kind-le-FLOAT64.false
-          (λ e. omega arith) (λ e. omega arith) (with_id (goal.at.returns-in_default c).In_default)
-          (c.fallible_result-in_default.ensures.text ns ix);
+          c.arrow-t.ensures _ _ _ c.module_leaf-leaf.ensures
+          (leb-false (number_of a.slot.kind) 11 (sym c.if-is_primitive.ensures))
+          past.0 past.1 past.2 (c.fallible_result-in_default.ensures.text ns ix);
       within = within-behind _ _ (some-text c.arrow-t.ensures) c.fallible_result-in_default.ensures.within;
     }

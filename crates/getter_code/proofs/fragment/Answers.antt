@@ -1,44 +1,56 @@
 -- `getter_code::fragment` meets its contract: the arm of the slot's kind. Assumes nothing.
-use mathlib.Core.Path.{◌∙◌}
+use mathlib.Core.Path.{ap, ◌∙◌}
 use native.Mathlib.Omega.{arith}
+use Rattle.terms.specs.Kinds.{number_of}
+use Rattle.terms.specs.declared.kinds.Kind.TheVariants as kinds
+use Rattle.terms.proofs.KindLaws.{number-most, number-own}
 use Rattle.getter_code.proofs.Laws.{kind_by, parameter_by, fragment-number, fragment-pointer}
 use Rattle.getter_code.proofs.fragment.Goals as goal
 
-pub returns-in-0 : goal.returns-in-0
-returns-in-0 c =
+pub returns-in-Void : goal.returns-in-Void
+returns-in-Void c =
     let s = c.args.slot in
-    rw (kind_by s.kind s.id ∙ c.in-0.is) c.void.ensures
+    rw (kind_by (number_of s.kind) s.id, c.in-Void.is) c.void.ensures
 
-pub returns-in-1 : goal.returns-in-1
-returns-in-1 c =
+pub returns-in-Bool : goal.returns-in-Bool
+returns-in-Bool c =
     let s = c.args.slot in
-    rw (kind_by s.kind s.id ∙ c.in-1.is, ← c.getter_mask-mask.ensures) c.get_bool_field.ensures
+    rw (kind_by (number_of s.kind) s.id, ← c.getter_mask-mask.ensures, c.in-Bool.is) c.get_bool_field.ensures
 
-pub returns-in-15 : goal.returns-in-15
-returns-in-15 c =
+pub returns-in-Enum : goal.returns-in-Enum
+returns-in-Enum c =
     let s = c.args.slot in
-    rw (kind_by s.kind s.id ∙ c.in-15.is, ← c.getter_mask-mask-in-15.ensures) c.get_enum_field.ensures
+    rw (kind_by (number_of s.kind) s.id, ← c.getter_mask-mask-in-Enum.ensures, c.in-Enum.is) c.get_enum_field.ensures
 
-pub returns-in-17 : goal.returns-in-17
-returns-in-17 c =
+pub returns-in-Interface : goal.returns-in-Interface
+returns-in-Interface c =
     let s = c.args.slot in
-    rw (kind_by s.kind s.id ∙ c.in-17.is) c.capability.ensures
+    rw (kind_by (number_of s.kind) s.id, c.in-Interface.is) c.capability.ensures
 
-pub returns-in-18 : goal.returns-in-18
-returns-in-18 c =
-    let k = c.in-18.is in
+pub returns-in-AnyPointer : goal.returns-in-AnyPointer
+returns-in-AnyPointer c =
     let s = c.args.slot in
-    rw (kind_by s.kind s.id ∙ k, parameter_by s.kind s.id k) c.untyped.ensures
+    let k = ap number_of c.in-AnyPointer.is in
+    rw (kind_by (number_of s.kind) s.id ∙ k, parameter_by (number_of s.kind) s.id k) c.untyped.ensures
 
-pub returns-in-2-to-11 : goal.returns-in-2-to-11
-returns-in-2-to-11 c =
+pub returns-in-Text : goal.returns-in-Text
+returns-in-Text c =
     let a = c.args in
-    rw (← fragment-number a.root.now a.name.now a.slot a.is_reader a.is_fn (λ e. omega arith) (λ e. omega arith) (omega arith))
-    c.get_number.ensures
+    rw (← fragment-pointer a.root.now a.name.now a.slot a.is_reader a.is_fn c.in-Text.is) c.from_pointer.ensures
 
 pub returns-in_default : goal.returns-in_default
 returns-in_default c =
     let a = c.args in
-    rw (← fragment-pointer a.root.now a.name.now a.slot a.is_reader a.is_fn (λ e. omega arith) (λ e. omega arith) (omega arith)
-    (λ e. omega arith) (λ e. omega arith) (λ e. omega arith))
-    c.from_pointer.ensures
+    let d = c.in_default in
+    let k = a.slot.kind in
+    let most = number-most k in
+    let n0 = number-own k kinds.Void d.not-Void in
+    let n1 = number-own k kinds.Bool d.not-Bool in
+    let n12 = number-own k kinds.Text d.not-Text in
+    let n13 = number-own k kinds.Data d.not-Data in
+    let n14 = number-own k kinds.List d.not-List in
+    let n15 = number-own k kinds.Enum d.not-Enum in
+    let n16 = number-own k kinds.Struct d.not-Struct in
+    let n17 = number-own k kinds.Interface d.not-Interface in
+    let n18 = number-own k kinds.AnyPointer d.not-AnyPointer in
+    rw (← fragment-number a.root.now a.name.now a.slot a.is_reader a.is_fn n0 n1 (omega arith)) c.get_number.ensures

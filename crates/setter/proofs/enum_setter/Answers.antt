@@ -1,8 +1,10 @@
 -- `setter::enum_setter` meets its contract: the setter around the module, with the default's mask, or the refusal of one. Assumes
 -- nothing.
+use mathlib.Core.Path.{ap}
 use Rattle.std.proofs.lemmas.Result.{err_from_is_err_and}
 use Rattle.text.proofs.Laws.{◌⨾◌, some-text, ◌⨟◌}
 use Rattle.names.specs.Names.{name_of}
+use Rattle.terms.specs.Kinds.{number_of}
 use Rattle.nodes.specs.Index.{sheet_of}
 use Rattle.codegen_types.proofs.WrittenLaws.{kept-behind, kept-text}
 use Rattle.calls.specs.Mask.{mask_text}
@@ -18,7 +20,7 @@ returns-in_err-t c =
     record {
       text = λ ns ix f h k. rw (e.1, e.2) (enum-first source.bytes.now x.slot f h
           (sheet_of source.root.now ns) x.tag (name_of x.name)
-          c.set_open-t.new.buf c.set_open-t.result c.qualified_module.new.buf _ k
+          c.set_open-t.new.buf c.set_open-t.result c.qualified_module.new.buf _ (ap number_of k)
           (c.in_err-t.ensures.text source.root.now ns ix));
       within = rw e.1 (kept-behind (some-text c.set_open-t.ensures) c.in_err-t.ensures.within);
     }
@@ -32,7 +34,8 @@ returns-in_err-mask c =
     record {
       text = λ ns ix f h k. rw (e.1, e.2) (enum-later source.bytes.now x.slot f h
           (sheet_of source.root.now ns) x.tag (name_of x.name)
-          c.set_open-t.new.buf c.set_open-t.result c.qualified_module.new.buf _ _ k (c.in_ok-t.ensures.text source.root.now ns ix)
+          c.set_open-t.new.buf c.set_open-t.result c.qualified_module.new.buf _ _ (ap number_of k)
+          (c.in_ok-t.ensures.text source.root.now ns ix)
           c.in_err-mask.ensures);
       within = rw e.1 (kept-text (some-text c.set_open-t.ensures ⨟ c.in_ok-t.ensures.within));
     }
@@ -45,7 +48,7 @@ returns c =
     let behind = c.bytes-t.ensures ⨾ c.tag_line-t.ensures ⨾ c.bytes-t-2.ensures ⨾ c.set_data_field-t.ensures ⨾ c.bytes.ensures in
     record {
       text = λ ns ix f h k. enum-here source.bytes.now x.slot f h (sheet_of source.root.now ns) x.tag (name_of x.name)
-          (mask_text c.in_ok-mask.mask) k c.in_ok-mask.ensures c.set_open-t.ensures
+          (mask_text c.in_ok-mask.mask) (ap number_of k) c.in_ok-mask.ensures c.set_open-t.ensures
           (c.in_ok-t.ensures.text source.root.now ns ix) behind;
       within = some-text c.set_open-t.ensures ⨟ c.in_ok-t.ensures.within ⨟ some-text behind;
     }

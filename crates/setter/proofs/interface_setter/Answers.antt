@@ -1,7 +1,9 @@
 -- `setter::interface_setter` meets its contract: the setter around the client's text, or its refusal. Assumes nothing.
+use mathlib.Core.Path.{ap}
 use Rattle.std.proofs.lemmas.Result.{err_from_is_err_and}
 use Rattle.text.proofs.Laws.{◌⨾◌, some-text, ◌⨟◌}
 use Rattle.names.specs.Names.{name_of}
+use Rattle.terms.specs.Kinds.{number_of}
 use Rattle.nodes.specs.Index.{sheet_of}
 use Rattle.codegen_types.proofs.WrittenLaws.{kept-behind}
 use mathlib.Core.List.{◌++◌}
@@ -20,7 +22,7 @@ returns-in_err-t c =
     record {
       text = λ ns ix f h k. rw (e.1, e.2) (interface-first source.bytes.now x.slot f h
           (sheet_of source.root.now ns) x.tag (name_of x.name)
-          c.set_open-t.new.buf c.set_open-t.result c.type_string.new.buf _ k (c.in_err-t.ensures.text ns ix));
+          c.set_open-t.new.buf c.set_open-t.result c.type_string.new.buf _ (ap number_of k) (c.in_err-t.ensures.text ns ix));
       within = rw e.1 (kept-behind (some-text c.set_open-t.ensures) c.in_err-t.ensures.within);
     }
 
@@ -32,7 +34,8 @@ returns c =
     let behind = retext (capability-line (ascii ")  {\n" ++ tag_line x.tag x.slot.discriminant) x.slot.offset)
     (c.bytes-t.ensures ⨾ c.tag_line-t.ensures ⨾ c.bytes-t-2.ensures ⨾ c.number-t.ensures ⨾ c.bytes.ensures) in
     record {
-      text = λ ns ix f h k. interface-here source.bytes.now x.slot f h (sheet_of source.root.now ns) x.tag (name_of x.name) k
+      text = λ ns ix f h k. interface-here source.bytes.now x.slot f h (sheet_of source.root.now ns) x.tag (name_of x.name)
+          (ap number_of k)
           c.set_open-t.ensures (c.in_ok-t.ensures.text ns ix) behind;
       within = some-text c.set_open-t.ensures ⨟ c.in_ok-t.ensures.within ⨟ some-text behind;
     }

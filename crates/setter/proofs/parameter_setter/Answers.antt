@@ -1,8 +1,10 @@
 -- `setter::parameter_setter` meets its contract: the setter and the initializers around the type's texts, or the refusal of one.
 -- Assumes nothing.
+use mathlib.Core.Path.{ap}
 use Rattle.std.proofs.lemmas.Result.{err_from_is_err_and}
 use Rattle.text.proofs.Laws.{◌⨾◌, some-text, ◌⨟◌}
 use Rattle.names.specs.Names.{name_of}
+use Rattle.terms.specs.Kinds.{number_of}
 use Rattle.nodes.specs.Index.{sheet_of}
 use Rattle.codegen_types.proofs.WrittenLaws.{kept-behind}
 use Rattle.setter.proofs.ArmLaws.{parameter-first, parameter-later, parameter-here}
@@ -17,7 +19,8 @@ returns-in_err-initn c =
     record {
       text = λ ns ix f h k n. rw (e.1, e.2) (parameter-first source.bytes.now x.slot f h
           (sheet_of source.root.now ns) x.tag (name_of x.name)
-          c.initn_open-t.new.buf c.initn_open-t.result c.type_string.new.buf _ k n (c.in_err-initn.ensures.text ns ix));
+          c.initn_open-t.new.buf c.initn_open-t.result c.type_string.new.buf _ (ap number_of k) n
+          (c.in_err-initn.ensures.text ns ix));
       within = rw e.1 (kept-behind (some-text c.initn_open-t.ensures) c.in_err-initn.ensures.within);
     }
 
@@ -31,7 +34,8 @@ returns-in_err-set c =
       text = λ ns ix f h k n. rw (e.1, e.2) (parameter-later source.bytes.now x.slot f h
           (sheet_of source.root.now ns) x.tag (name_of x.name)
           c.initn_open-t.new.buf c.initn_open-t.result c.type_string.new.buf c.in_ok-initn.initn c.set_open-t.new.buf
-          c.set_open-t.result c.setter_input.new.buf _ k n (c.in_ok-initn.ensures.text ns ix) (c.in_err-set.ensures.text ns ix));
+          c.set_open-t.result c.setter_input.new.buf _ (ap number_of k) n (c.in_ok-initn.ensures.text ns ix)
+          (c.in_err-set.ensures.text ns ix));
       within = rw e.1 (kept-behind (some-text c.initn_open-t.ensures ⨟ c.in_ok-initn.ensures.within
           ⨟ some-text (c.new_end-t.ensures ⨾ c.set_open-t.ensures)) c.in_err-set.ensures.within);
     }
@@ -49,7 +53,8 @@ returns c =
     let source = a.source.now in
     let x = a.target.now in
     record {
-      text = λ ns ix f h k n. parameter-here source.bytes.now x.slot f h (sheet_of source.root.now ns) x.tag (name_of x.name) k n
+      text = λ ns ix f h k n. parameter-here source.bytes.now x.slot f h (sheet_of source.root.now ns) x.tag (name_of x.name)
+          (ap number_of k) n
           c.initn_open-t.ensures (c.in_ok-initn.ensures.text ns ix) c.new_end-t.ensures
           c.set_open-t.ensures (c.in_ok-set.ensures.text ns ix) c.set_end-t.ensures
           c.init_open-t.ensures (c.in_ok-init.ensures.text ns ix) c.new_end.ensures;

@@ -1,5 +1,9 @@
 -- `setter::prim_setter` meets its contract: the default's refusal, or the setter with its mask. Assumes nothing.
+use mathlib.Core.Path.{ap}
 use native.Mathlib.Omega.{arith}
+use Rattle.terms.specs.Kinds.{number_of}
+use Rattle.terms.specs.declared.kinds.Kind.TheVariants as kind
+use Rattle.terms.proofs.KindLaws.{number-own}
 use Rattle.std.proofs.lemmas.Result.{err_from_is_err_and}
 use Rattle.text.proofs.Laws.{some-text}
 use Rattle.names.specs.Names.{name_of}
@@ -14,20 +18,21 @@ returns-in_err-prim_default-clause-text c =
     λ root ns sl is n0 le. rw (e.1, e.2) (prim-refused (sheet_of root ns) sl x.slot is x.tag (name_of x.name)
     x.slot.discriminant n0 (omega arith) c.in_err-prim_default.ensures)
 
-pub returns-then-target-eq-BOOL : goal.returns-then-target-eq-BOOL
-returns-then-target-eq-BOOL c =
+pub returns-in-Bool : goal.returns-in-Bool
+returns-in-Bool c =
     let x = c.args.target.now in
     record {
       text = λ root ns sl is n0 le. bool-here (sheet_of root ns) sl x.slot is x.tag (name_of x.name) x.slot.discriminant _
-          c.in_ok-prim_default.ensures c.if-target-eq-BOOL.true (c.boolean.ensures root);
+          c.in_ok-prim_default.ensures (ap number_of c.in-Bool.is) (c.boolean.ensures root);
       within = some-text (c.boolean.ensures (name_of x.name));
     }
 
-pub returns : goal.returns
-returns c =
+pub returns-in_default : goal.returns-in_default
+returns-in_default c =
     let x = c.args.target.now in
     record {
       text = λ root ns sl is n0 le. number-here (sheet_of root ns) sl x.slot is x.tag (name_of x.name) x.slot.discriminant _
-          c.in_ok-prim_default.ensures n0 c.if-target-eq-BOOL.false (omega arith) (c.number.ensures root);
+          c.in_ok-prim_default.ensures n0 (number-own x.slot.kind kind.Bool c.in_default.not-Bool) (omega arith)
+          (c.number.ensures root);
       within = some-text (c.number.ensures (name_of x.name));
     }

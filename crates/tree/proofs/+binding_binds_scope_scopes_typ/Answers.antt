@@ -2,14 +2,14 @@
 -- the start equal to what is left from here, past a run of U rows too. Levels fall from a type to its parts, and below a level
 -- a type calls scopes, a scope its bindings, a binding its type. Assumes nothing.
 use mathlib.Core.Path.{sym, ap, ◌∙◌}
-use Prim.Native.Nat.{ℕ, ◌+◌, ◌-◌}
+use Prim.Native.Nat.{◌+◌, ◌-◌}
 use native.Mathlib.Omega.{arith}
 use Rattle.std.specs.Prelude.{Ok}
 use Rattle.std.proofs.lemmas.Result.{err_from_is_err_and}
 use Rattle.tree.specs.Walked.{passed}
 use Rattle.tree.specs.Read.{read_type}
 use Rattle.tree.proofs.ElseLaws.{other-than}
-use Rattle.tree.proofs.WalkLaws.{type_other, type-deep, type-plain, type-list, type-branded, type-pointer, times_none}
+use Rattle.tree.proofs.WalkLaws.{type_other, type-deep, type-alone, type-list, type-branded, times_none}
 use Rattle.tree.proofs.WalkLaws.{times-on, times-stop, binding-unbound, binding-other, scope-inherit, scope-bind}
 use Rattle.tree.proofs.WalkLaws.{scope_other, walked_wrong, end-next, end-refused}
 use Rattle.tree.proofs.UnboundLaws.{passed-unbound}
@@ -67,34 +67,28 @@ typ-returns-then-left-eq0 t c =
     let f = rw w.is at w.field-0-is in
     type-deep _ _ _ g.line_value g.s_value _ _ _ _ _ (w.is ∙ ap Ok f) c.if-left-eq0.true
 
-pub typ-returns-in-14 : goal.typ-returns-in-14
-typ-returns-in-14 t c =
+pub typ-returns-in-List : goal.typ-returns-in-List
+typ-returns-in-List t c =
     let g = c.next-row.ensures in
     let w = c.in-Ok-Typ in
     let f = rw w.is at w.field-0-is in
-    type-list _ _ _ g.line_value g.s_value _ _ _ _ _ (w.is ∙ ap Ok f) _ c.if-left-eq0.false c.in-14.is c.typ.ensures
+    type-list _ _ _ g.line_value g.s_value _ _ _ _ _ (w.is ∙ ap Ok f) _ c.if-left-eq0.false c.in-List.is c.typ.ensures
 
-pub typ-returns-in-15-to-17 : goal.typ-returns-in-15-to-17
-typ-returns-in-15-to-17 t c =
+pub typ-returns-in-Enum : goal.typ-returns-in-Enum
+typ-returns-in-Enum t c =
     let g = c.next-row.ensures in
     let w = c.in-Ok-Typ in
     let f = rw w.is at w.field-0-is in
-    type-branded _ _ _ g.line_value g.s_value _ _ _ _ _ (w.is ∙ ap Ok f) _ c.if-left-eq0.false
-    (omega arith) (λ e. omega arith) (omega arith) c.scopes.ensures
+    type-branded _ _ _ g.line_value g.s_value _ _ _ _ _ (w.is ∙ ap Ok f) _ c.if-left-eq0.false c.in-Enum.is c.scopes.ensures
 
 pub typ-returns-in_default-kind : goal.typ-returns-in_default-kind
 typ-returns-in_default-kind t c =
     let g = c.next-row.ensures in
     let w = c.in-Ok-Typ in
+    let n = c.in_default-kind in
     let f = rw w.is at w.field-0-is in
-    type-plain _ _ _ g.line_value g.s_value _ _ _ _ _ (w.is ∙ ap Ok f) c.if-left-eq0.false (omega arith)
-
-pub typ-returns-in_default-kind-2 : goal.typ-returns-in_default-kind-2
-typ-returns-in_default-kind-2 t c =
-    let g = c.next-row.ensures in
-    let w = c.in-Ok-Typ in
-    let f = rw w.is at w.field-0-is in
-    type-pointer _ _ _ g.line_value g.s_value _ _ _ _ _ (w.is ∙ ap Ok f) c.if-left-eq0.false (omega arith)
+    type-alone _ _ _ g.line_value g.s_value _ _ _ _ _ (w.is ∙ ap Ok f) c.if-left-eq0.false n.not-List n.not-Enum n.not-Struct
+    n.not-Interface
 
 pub scope-returns-in_default : goal.scope-returns-in_default
 scope-returns-in_default t c =

@@ -9,7 +9,10 @@ use Rattle.std.proofs.lemmas.Result.{err_from_is_err_and}
 use Rattle.text.specs.Bytes.{Str}
 use Rattle.text.proofs.Laws.{some-text, no_text, ◌⨟◌}
 use Rattle.nodes.specs.Index.{sheet_of}
+use Rattle.terms.specs.Kinds.{number_of}
+use Rattle.terms.specs.declared.kinds.Kind.TheVariants as kind
 use Rattle.terms.specs.declared.refusals.Refusal.TheVariants.{ListOfAnyPointer}
+use Rattle.terms.proofs.KindLaws.{number-own, below-last, plain-below, branded-between}
 use Rattle.codegen_types.specs.Out.{Out}
 use Rattle.codegen_types.specs.TypeString.{type_string}
 use Rattle.codegen_types.specs.Written.{Writes}
@@ -198,46 +201,52 @@ write_list-returns-then-left-eq0-clause-text t c = λ ns x. read-law.type-zero _
 pub write_list-returns-then-left-eq0-clause-within : goal.write_list-returns-then-left-eq0-clause-within
 write_list-returns-then-left-eq0-clause-within t c = no_text
 
-pub write_list-returns-in_err-t-in-0-to-17-clause-text : goal.write_list-returns-in_err-t-in-0-to-17-clause-text
-write_list-returns-in_err-t-in-0-to-17-clause-text t c =
+pub write_list-returns-in_err-t-in_default-clause-text : goal.write_list-returns-in_err-t-in_default-clause-text
+write_list-returns-in_err-t-in_default-clause-text t c =
     let p = err_from_is_err_and c.from_residual.result c.from_residual.ensures.1 in
+    let d = c.in_default in
+    let k = c.type_row-row.result.kind in
     rw (p.1, p.2) (λ ns x. read-law.type_row_lem c.args.source.now.bytes.now _ _ _ _ c.type_row-row.ensures c.if-left-eq0.false
-    (law.list-refused (sheet_of c.args.source.now.root.now ns) c.args.leaf _ _ _ _ _ _ _ (λ e. omega arith) (λ e. omega arith)
-    (omega arith) c.element_leaf-element.ensures _ _ _ _ _ _ (c.in_err-t-in-0-to-17.ensures.text ns x)))
+    (law.list-refused (sheet_of c.args.source.now.root.now ns) c.args.leaf _ _ _ _ _ _ _ (number-own k kind.Text d.not-Text)
+    (number-own k kind.Data d.not-Data) (below-last k d.not-AnyPointer) c.element_leaf-element.ensures _ _ _ _ _ _
+    (c.in_err-t-in_default.ensures.text ns x)))
 
-pub write_list-returns-in_err-t-in-0-to-17-clause-within : goal.write_list-returns-in_err-t-in-0-to-17-clause-within
-write_list-returns-in_err-t-in-0-to-17-clause-within t c =
+pub write_list-returns-in_err-t-in_default-clause-within : goal.write_list-returns-in_err-t-in_default-clause-within
+write_list-returns-in_err-t-in_default-clause-within t c =
     let p = err_from_is_err_and c.from_residual.result c.from_residual.ensures.1 in
-    rw p.1 (kept-behind (some-text c.list_head-t.ensures) c.in_err-t-in-0-to-17.ensures.within)
+    rw p.1 (kept-behind (some-text c.list_head-t.ensures) c.in_err-t-in_default.ensures.within)
 
-pub write_list-returns-in-12-clause-text : goal.write_list-returns-in-12-clause-text
-write_list-returns-in-12-clause-text t c =
+pub write_list-returns-in-Text-clause-text : goal.write_list-returns-in-Text-clause-text
+write_list-returns-in-Text-clause-text t c =
     λ ns x. read-law.type_row_lem c.args.source.now.bytes.now _ _ _ _ c.type_row-row.ensures c.if-left-eq0.false
-    (law.list-text (sheet_of c.args.source.now.root.now ns) c.args.leaf _ _ _ _ _ _ c.in-12.is (whole c.displayed.ensures))
+    (law.list-text (sheet_of c.args.source.now.root.now ns) c.args.leaf _ _ _ _ _ _ (ap number_of c.in-Text.is)
+    (whole c.displayed.ensures))
 
-pub write_list-returns-in-13-clause-text : goal.write_list-returns-in-13-clause-text
-write_list-returns-in-13-clause-text t c =
+pub write_list-returns-in-Data-clause-text : goal.write_list-returns-in-Data-clause-text
+write_list-returns-in-Data-clause-text t c =
     λ ns x. read-law.type_row_lem c.args.source.now.bytes.now _ _ _ _ c.type_row-row.ensures c.if-left-eq0.false
-    (law.list-data (sheet_of c.args.source.now.root.now ns) c.args.leaf _ _ _ _ _ _ c.in-13.is
-    (whole c.displayed-in-13.ensures))
+    (law.list-data (sheet_of c.args.source.now.root.now ns) c.args.leaf _ _ _ _ _ _ (ap number_of c.in-Data.is)
+    (whole c.displayed-in-Data.ensures))
 
-pub write_list-returns-in_ok-t-in-0-to-17-clause-text : goal.write_list-returns-in_ok-t-in-0-to-17-clause-text
-write_list-returns-in_ok-t-in-0-to-17-clause-text t c =
+pub write_list-returns-in_ok-t-in_default-clause-text : goal.write_list-returns-in_ok-t-in_default-clause-text
+write_list-returns-in_ok-t-in_default-clause-text t c =
+    let d = c.in_default in
+    let k = c.type_row-row.result.kind in
     λ ns x. read-law.type_row_lem c.args.source.now.bytes.now _ _ _ _ c.type_row-row.ensures c.if-left-eq0.false
-    (law.list-inner (sheet_of c.args.source.now.root.now ns) c.args.leaf _ _ _ _ _ _ _ (λ e. omega arith)
-    (λ e. omega arith) (omega arith) c.element_leaf-element.ensures _ _ _ _ _ _ _ _ c.list_head-t.ensures c.byte.ensures
-    (c.in_ok-t-in-0-to-17.ensures.text ns x))
+    (law.list-inner (sheet_of c.args.source.now.root.now ns) c.args.leaf _ _ _ _ _ _ _ (number-own k kind.Text d.not-Text)
+    (number-own k kind.Data d.not-Data) (below-last k d.not-AnyPointer) c.element_leaf-element.ensures _ _ _ _ _ _ _ _
+    c.list_head-t.ensures c.byte.ensures (c.in_ok-t-in_default.ensures.text ns x))
 
-pub write_list-returns-in_ok-t-in-0-to-17-clause-within : goal.write_list-returns-in_ok-t-in-0-to-17-clause-within
-write_list-returns-in_ok-t-in-0-to-17-clause-within t c =
-    some-text c.list_head-t.ensures ⨟ c.in_ok-t-in-0-to-17.ensures.within ⨟ some-text c.byte.ensures
+pub write_list-returns-in_ok-t-in_default-clause-within : goal.write_list-returns-in_ok-t-in_default-clause-within
+write_list-returns-in_ok-t-in_default-clause-within t c =
+    some-text c.list_head-t.ensures ⨟ c.in_ok-t-in_default.ensures.within ⨟ some-text c.byte.ensures
 
-pub write_list-returns-in_default-clause-text : goal.write_list-returns-in_default-clause-text
-write_list-returns-in_default-clause-text t c =
+pub write_list-returns-in-AnyPointer-clause-text : goal.write_list-returns-in-AnyPointer-clause-text
+write_list-returns-in-AnyPointer-clause-text t c =
     λ ns x. read-law.type_row_lem c.args.source.now.bytes.now _ _ _ _ c.type_row-row.ensures c.if-left-eq0.false
     (read-law.list_of_any (sheet_of c.args.source.now.root.now ns) c.args.leaf _ _ _ _ _ _
     (λ (o : Out Str). Writes o c.args.buf.now c.args.t c.args.buf.now (Err ListOfAnyPointer))
-    (omega arith) (refused-text refl))
+    (let k = ap number_of c.in-AnyPointer.is in omega arith) (refused-text refl))
 
 -- ---- write_own
 
@@ -275,28 +284,33 @@ pub write_type-returns-then-row-eq0-clause-text : goal.write_type-returns-then-r
 unfolding type_string
 write_type-returns-then-row-eq0-clause-text t c =
     λ ns x. read-law.type-any (sheet_of c.args.source.now.root.now ns) c.args.leaf _ _ _ _ _ _
-    (λ (o : Out Str). Writes o c.args.buf.now c.args.t c.displayed.new.buf (Ok c.displayed.result)) (omega arith)
-    c.if-row-eq0.true (whole c.displayed.ensures)
+    (λ (o : Out Str). Writes o c.args.buf.now c.args.t c.displayed.new.buf (Ok c.displayed.result))
+    (let k = ap number_of c.in-AnyPointer.is in omega arith) c.if-row-eq0.true (whole c.displayed.ensures)
 
-pub write_type-returns-in-14-clause-text : goal.write_type-returns-in-14-clause-text
-write_type-returns-in-14-clause-text t c =
+pub write_type-returns-in-List-clause-text : goal.write_type-returns-in-List-clause-text
+write_type-returns-in-List-clause-text t c =
     λ ns x. read-law.type-list _ _ _ _ _ _ (λ ty. Writes (type_string ty (sheet_of c.args.source.now.root.now ns) c.args.leaf)
-    c.args.buf.now c.args.t c.write_list.new.buf c.write_list.result) c.in-14.is (c.write_list.ensures.text ns x)
+    c.args.buf.now c.args.t c.write_list.new.buf c.write_list.result) (ap number_of c.in-List.is)
+    (c.write_list.ensures.text ns x)
 
-pub write_type-returns-in-15-clause-text : goal.write_type-returns-in-15-clause-text
-write_type-returns-in-15-clause-text t c =
+pub write_type-returns-in-Enum-clause-text : goal.write_type-returns-in-Enum-clause-text
+write_type-returns-in-Enum-clause-text t c =
     λ ns x. read-law.type-enum (sheet_of c.args.source.now.root.now ns) c.args.leaf _ _ _ _ _ _
-    (λ (o : Out Str). Writes o c.args.buf.now c.args.t c.qualified_module.new.buf c.qualified_module.result) c.in-15.is
+    (λ (o : Out Str). Writes o c.args.buf.now c.args.t c.qualified_module.new.buf c.qualified_module.result)
+    (ap number_of c.in-Enum.is)
     (c.qualified_module.ensures.text c.args.source.now.root.now ns x)
 
-pub write_type-returns-in-0-to-13-clause-text : goal.write_type-returns-in-0-to-13-clause-text
+pub write_type-returns-in_default-clause-text : goal.write_type-returns-in_default-clause-text
 unfolding type_string
-write_type-returns-in-0-to-13-clause-text t c =
+write_type-returns-in_default-clause-text t c =
+    let d = c.in_default in
     λ ns x. read-law.type-plain _ _ _ _ _ _ (λ ty. Writes (type_string ty (sheet_of c.args.source.now.root.now ns) c.args.leaf)
-    c.args.buf.now c.args.t c.plain.new.buf (Ok c.plain.result)) (omega arith) (whole c.plain.ensures)
+    c.args.buf.now c.args.t c.plain.new.buf (Ok c.plain.result))
+    (plain-below c.args.row.kind d.not-List d.not-Enum d.not-Struct d.not-Interface d.not-AnyPointer) (whole c.plain.ensures)
 
-pub write_type-returns-in-16-to-17-clause-text : goal.write_type-returns-in-16-to-17-clause-text
-write_type-returns-in-16-to-17-clause-text t c =
+pub write_type-returns-in-Struct-clause-text : goal.write_type-returns-in-Struct-clause-text
+write_type-returns-in-Struct-clause-text t c =
+    let k = branded-between c.args.row.kind c.in-Struct.is in
     λ ns x. read-law.type-branded (sheet_of c.args.source.now.root.now ns) c.args.leaf _ _ _ _ _ _
     (λ (o : Out Str). Writes o c.args.buf.now c.args.t c.do_branding.new.buf c.do_branding.result) (omega arith)
     (λ e. omega arith) (λ e. omega arith) (omega arith) (c.do_branding.ensures.text ns x)
@@ -304,5 +318,5 @@ write_type-returns-in-16-to-17-clause-text t c =
 pub write_type-returns-else-row-eq0-clause-text : goal.write_type-returns-else-row-eq0-clause-text
 write_type-returns-else-row-eq0-clause-text t c =
     λ ns x. read-law.type-parameter (sheet_of c.args.source.now.root.now ns) c.args.leaf _ _ _ _ _ _
-    (λ (o : Out Str). Writes o c.args.buf.now c.args.t c.parameter.new.buf c.parameter.result) (omega arith)
-    c.if-row-eq0.false (c.parameter.ensures.text ns x)
+    (λ (o : Out Str). Writes o c.args.buf.now c.args.t c.parameter.new.buf c.parameter.result)
+    (let k = ap number_of c.in-AnyPointer.is in omega arith) c.if-row-eq0.false (c.parameter.ensures.text ns x)

@@ -1,8 +1,9 @@
--- `types::as_type` meets its contract: a T line's numbers, and 0 for any other line. Assumes nothing.
+-- `types::as_type` meets its contract: a T line's kind and numbers, and a Void's for any other line. Assumes nothing.
 use mathlib.Core.Path.{sym, ap, ◌∙◌}
 use native.Mathlib.Omega.{arith}
 use Rattle.std.specs.Prelude.{Ok}
 use Rattle.row.specs.Line.{line_said}
+use Rattle.terms.proofs.KindLaws.{kind-back}
 use Rattle.types.proofs.TypeLaws.{row_other, row-bad}
 use Rattle.types.proofs.as_type.Goals as goal
 
@@ -16,4 +17,4 @@ pub returns : goal.returns
 unfolding line_said
 returns c =
     let w = c.in-Ok-Typ in
-    rw (w.is ∙ ap Ok (rw w.is at w.field-0-is))
+    rw (w.is ∙ ap Ok (rw w.is at w.field-0-is), kind-back _)

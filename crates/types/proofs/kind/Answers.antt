@@ -1,4 +1,4 @@
--- `types::kind` meets its contract: a T row's kind, and 0 for any other row. Assumes nothing.
+-- `types::kind` meets its contract: a T row's kind, and Void for any other row. Assumes nothing.
 use mathlib.Core.Path.{ap, ◌∙◌}
 use native.Mathlib.Omega.{arith}
 use Rattle.std.specs.Prelude.{Ok}
@@ -16,4 +16,4 @@ pub returns : goal.returns
 returns c =
     let w = c.in-Ok-Typ in
     let f = w.is ∙ ap Ok (rw w.is at w.field-0-is) in
-    c.min.ensures ∙ kind-here _ _ _ _ _ (rw f at c.next-got.ensures.line_value)
+    kind-here _ _ _ _ _ (rw f at c.next-got.ensures.line_value)

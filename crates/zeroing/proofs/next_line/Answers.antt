@@ -4,9 +4,9 @@ use Rattle.zeroing.proofs.next_line.Goals as goal
 
 pub returns-then-again : goal.returns-then-again
 returns-then-again c =
-    line-again _ c.args.offset c.args.again _ _ c.requires _ c.clears-clear.ensures c.if-again.true
+    line-again c.args.line.offset c.args.again c.requires c.clears-clear.ensures c.if-again.true
 
 pub returns : goal.returns
 returns c =
-    line-new _ c.args.offset c.args.again _ _ c.requires _ c.clears-clear.ensures _ _ _ _
-    c.if-again.false c.zero_line-t.ensures c.byte-text.ensures
+    line-new c.args.line.offset c.args.again c.requires c.clears-clear.ensures c.if-again.false c.write-t.ensures
+    c.byte-text.ensures

@@ -14,7 +14,7 @@ returns-then-lines-clause-text c =
 pub returns-clause-text : goal.returns-clause-text
 returns-clause-text c =
     λ root ns x. text-none (zero_fields_of_group (sheet_of root ns) 16 c.args.id) _ _ _ _
-    (c.in_ok-lines.ensures.lines root ns x (leads_first _ _ _)) _ _ c.if-lines.false c.no_lines.ensures
+    (c.in_ok-lines.ensures.lines root ns x (leads_first _ _ _)) c.if-lines.false c.no_lines.ensures
 
 pub returns-clause-within : goal.returns-clause-within
 returns-clause-within c = c.in_ok-lines.ensures.within ⨟ some-text c.no_lines.ensures

@@ -1,4 +1,5 @@
 -- `setter_code::Target::boolean` meets its contract: its parts, one after the other. Assumes nothing.
+use Rattle.terms.specs.Kinds.{number_of}
 use Rattle.text.specs.Bytes.{ascii}
 use Rattle.text.proofs.Laws.{◌⨾◌}
 use Rattle.names.specs.Names.{name_of}
@@ -13,7 +14,8 @@ pub returns : goal.returns
 returns c =
     let slot = c.args.self.now.slot in
     λ root. retext (only-text root c.args.self.now.tag (name_of c.args.self.now.name) slot.discriminant
-    (set_bool_field slot.offset (ascii "value") (mask_or (prim_default (value slot.default slot.bits)))) (ascii "bool"))
+    (set_bool_field slot.offset (ascii "value") (mask_or (prim_default (value (number_of slot.default) slot.bits))))
+    (ascii "bool"))
     (retext (bool_open (name_of c.args.self.now.name) (tag_line c.args.self.now.tag slot.discriminant))
     (c.set_open-t.ensures ⨾ c.bytes-t.ensures ⨾ c.tag_line-t.ensures ⨾ c.bytes-t-2.ensures)
     ⨾ c.set_bool-t.ensures ⨾ c.bytes.ensures)

@@ -1,3 +1,5 @@
+-- `zeroing::Table::blocks_left` meets its contract: the blocks that are left from here down are those from the start.
+-- Assumes nothing.
 use mathlib.Core.Path.{◌≡◌}
 use Rattle.zeroing.specs.Table.{blocks_left}
 use Rattle.zeroing.proofs.Table.blocks_left.Given as goal

@@ -7,10 +7,10 @@ use Rattle.zeroing.proofs.Table.is_known.Goals as goal
 pub returns-then-self-i-ne-NO_LINE : goal.returns-then-self-i-ne-NO_LINE
 returns-then-self-i-ne-NO_LINE c =
     λ fs h k. let place = c.in-Some.ensures in
-    knows_again _ _ (take c.args.count fs) k _ _ _ place.0 place.1 c.if-self-i-ne-NO_LINE.true
+    knows_again (take c.args.fields.now.count fs) k _ _ place.0 place.1 c.if-self-i-ne-NO_LINE.true
 
 pub returns : goal.returns
 returns c =
     λ fs h k. let place = c.in-Some.ensures in
-    knows-new _ _ (take c.args.count fs) k _ _ _ place.0 place.1 c.requires (omega arith) (omega arith) (omega arith)
+    knows-new (take c.args.fields.now.count fs) k _ _ place.0 place.1 c.requires (omega arith) (omega arith) (omega arith)
     c.if-self-i-ne-NO_LINE.false

@@ -5,5 +5,5 @@ use Rattle.zeroing.proofs.Table.place.Given as goal
 
 abbrev pub invariant-loop-end : goal.invariant-loop-end
 invariant-loop-end l =
-    left_after l.self.offsets l.self.types l.typ l.offset l.own l.end-index
-    ≡ table_place l.self.offsets l.self.types l.typ l.offset
+    left_after l.self.offsets l.self.types l.line.typ l.line.offset l.own l.end-index
+    ≡ table_place l.self.offsets l.self.types l.line.typ l.line.offset

@@ -1,7 +1,0 @@
--- `exports::kitlubas_blank_line` meets its contract: the blank line, at the fill count. Assumes nothing.
-use mathlib.Core.Path.{refl}
-use Rattle.exports.proofs.Laws.{wrote}
-use Rattle.exports.proofs.kitlubas_blank_line.Goals as goal
-
-pub returns : goal.returns
-returns c = wrote refl c.at.ensures c.blank_line-t.ensures c.count.ensures
