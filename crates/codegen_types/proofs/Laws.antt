@@ -1,7 +1,8 @@
 -- Laws of refusals, and of `do_branding`: one step along the chain of a node's parents. Assumes nothing.
 use mathlib.Core.Path.{◌≡◌, refl}
 use mathlib.Core.List.{List, [], ◌∷◌}
-use Prim.Native.Nat.{ℕ, zero, suc, ◌-◌}
+use Prim.Native.Nat.{ℕ, zero, suc, ◌+◌, ◌-◌, ◌≤◌}
+use native.Mathlib.Omega.{arith}
 use native.Mathlib.Numerals.{sub-one}
 use lib.Dec.{eqb}
 use Rattle.text.specs.Bytes.{cond}
@@ -25,3 +26,7 @@ pub accumulate-more : (sheet : Sheet) (scopes : List (ℕ × Scope)) (n id : ℕ
 unfolding accumulate
 accumulate-more sheet scopes zero id h = absurd (h refl)
 accumulate-more sheet scopes (suc n) id h = rw (sub-one (suc n))
+
+-- a number that is not n, and not below
+pub past : (k n : ℕ) → n ≤ k → (k ≡ n → ⊥) → n + 1 ≤ k
+past k n h ne = omega arith

@@ -1,7 +1,7 @@
 -- Laws of texts that the Rust may refuse: what an answer tells of an outcome, and what a writer that stops at a refusal leaves.
 -- Assumes nothing.
 use mathlib.Core.Path.{◌≡◌, refl, sym, ◌∙◌, ap, subst}
-use mathlib.Core.List.{List, [], ◌∷◌}
+use mathlib.Core.List.{List, [], ◌∷◌, ◌++◌}
 use Rattle.std.specs.Prelude.{Option, None, Some, Result, Ok, Err}
 use Prim.Native.Nat.{ℕ, ◌-◌, ◌^◌, ◌≤◌, min}
 use native.Mathlib.Omega.{arith}
@@ -10,7 +10,7 @@ use Rattle.std.proofs.lemmas.List.{take-set-le, take-take}
 use Rattle.text.specs.Bytes.{Str}
 use Rattle.text.specs.Text.{next, adv, put, Wrote, WroteSome}
 use Rattle.text.specs.declared.Text.{Text}
-use Rattle.text.proofs.Laws.{length-put}
+use Rattle.text.proofs.Laws.{length-put, ◌⨾◌}
 use Rattle.tree.proofs.OtherLines.{never}
 use Rattle.terms.specs.Refusals.{number}
 use Rattle.terms.specs.declared.refusals.Refusal.{Refusal}
@@ -83,6 +83,41 @@ refusal-is (refused k) h = ap go (sym h.refusal)
 pub stops : {l l₀ l₁ : List ℕ} {t t₀ : Text} {l' : List ℕ} {e : Refusal} (o : Out Str) (f : Str → Out Str)
     → Writes o l t l' (Err e) → Writes (o then f) l₀ t₀ l₁ (Err e)
 stops o f h = rw (refusal-is o h) (refused-text refl)
+
+-- bytes in front of a text and behind it, in front of one, and behind one: q is what the writer of all of it answers
+pub around :
+    {a b : Str} {l l₁ l₂ l₃ : List ℕ} {t t₁ t₃ : Text} {r : Result Text Refusal} (o : Out Str) (q : Result Text Refusal)
+    → Wrote l t a l₁ t₁ → Writes o l₁ t₁ l₂ r → ((u : Text) → r ≡ Ok u → Wrote l₂ u b l₃ t₃ × (q ≡ Ok t₃))
+    → ((e : Refusal) → r ≡ Err e → q ≡ Err e) → Writes (o then λ w. ok (a ++ w ++ b)) l t l₃ q
+around {r = Ok u} o q front h f g =
+    let s = text-of o h in
+    let p = f u refl in
+    rw (p.1, s.is) (whole (front ⨾ s.wrote ⨾ p.0))
+around {r = Err e} o q front h f g = rw (g e refl) (stops o _ h)
+
+pub in_front :
+    {a : Str} {l l₁ l₂ : List ℕ} {t t₁ : Text} {r : Result Text Refusal} (o : Out Str) → Wrote l t a l₁ t₁
+    → Writes o l₁ t₁ l₂ r → Writes (o then λ w. ok (a ++ w)) l t l₂ r
+in_front {r = Ok u} o front h = let s = text-of o h in rw s.is (whole (front ⨾ s.wrote))
+in_front {r = Err e} o front h = stops o _ h
+
+pub behind :
+    {b : Str} {l l₁ l₂ : List ℕ} {t t₂ : Text} {r : Result Text Refusal} (o : Out Str) (q : Result Text Refusal)
+    → Writes o l t l₁ r → ((u : Text) → r ≡ Ok u → Wrote l₁ u b l₂ t₂ × (q ≡ Ok t₂))
+    → ((e : Refusal) → r ≡ Err e → q ≡ Err e) → Writes (o then λ w. ok (w ++ b)) l t l₂ q
+behind {r = Ok u} o q h f g =
+    let s = text-of o h in
+    let p = f u refl in
+    rw (p.1, s.is) (whole (s.wrote ⨾ p.0))
+behind {r = Err e} o q h f g = rw (g e refl) (stops o _ h)
+
+-- a text after another, either of which may be refused: the first refusal counts
+pub both :
+    {l l₁ l₂ : List ℕ} {t : Text} {r : Result Text Refusal} (o₁ o₂ : Out Str) (q : Result Text Refusal) → Writes o₁ l t l₁ r
+    → ((u : Text) → r ≡ Ok u → Writes o₂ l₁ u l₂ q) → ((e : Refusal) → r ≡ Err e → q ≡ Err e)
+    → Writes (o₁ then λ a. o₂ then λ b. ok (a ++ b)) l t l₂ q
+both {r = Ok u} o₁ o₂ q h f g = let s = text-of o₁ h in rw s.is (in_front o₂ s.wrote (f u refl))
+both {r = Err e} o₁ o₂ q h f g = rw (g e refl) (stops o₁ _ h)
 
 -- ---- the buffer
 

@@ -167,19 +167,23 @@ unfolding gets gets_in
 at_member true t = (refl, refl, refl)
 at_member false t = (refl, refl, refl)
 
--- a line that begins with the call of its one get
-one-get : (is_reader : Bool) (t : Str) {o : Unit {0} × Str} {g : Get} (s : Str)
+-- a line that begins with its one get
+one-get : (t : Str) {o : Unit {0} × Str} {g : Get} (s : Str) → opens_get (115 ∷ t) ≡ Some o → gets (115 ∷ t) ≡ Some (g, s)
+    → gets_in true t ≡ Some [] → gets_in false (115 ∷ t) ≡ Some (g ∷ [])
+unfolding gets_in
+one-get t {o} {g} s opened got rest =
+    ap (λ (x : Option (Unit {0} × Str)). adds x (gets (115 ∷ t)) (gets_in true t)) opened
+    ∙ ap (λ (x : Option (Get × Str)). adds (Some o) x (gets_in true t)) got
+    ∙ ap (λ (x : Option (List Get)). adds (Some o) (Some (g, s)) x) rest
+
+-- the same, where it is a call of the struct's member
+member-get : (is_reader : Bool) (t : Str) {o : Unit {0} × Str} {g : Get} (s : Str)
     → (lit "get_bool_field" or lit "get_data_field") t ≡ Some o
     → (get_bool_call or get_bool_mask or get_data or get_data_mask) t ≡ Some (g, s) → gets_in false t ≡ Some []
     → gets_in false (ascii "self." ⧺ member is_reader ⧺ ascii "." ⧺ t) ≡ Some (g ∷ [])
-unfolding gets_in
-one-get is_reader t {o} {g} s opened got none =
-    let l : Str = ascii "self." ⧺ member is_reader ⧺ ascii "." ⧺ t in
+member-get is_reader t s opened got none =
     let e = at_member is_reader t in
-    let rest : Option (List Get) = gets_in true (ascii "elf." ⧺ member is_reader ⧺ ascii "." ⧺ t) in
-    ap (λ (x : Option (Unit {0} × Str)). adds x (gets l) rest) (e.0 ∙ opened)
-    ∙ ap (λ (x : Option (Get × Str)). adds (Some o) x rest) (e.1 ∙ got)
-    ∙ ap (λ (x : Option (List Get)). adds (Some o) (Some (g, s)) x) (e.2 ∙ none)
+    one-get (ascii "elf." ⧺ member is_reader ⧺ ascii "." ⧺ t) s (e.0 ∙ opened) (e.1 ∙ got) (e.2 ∙ none)
 
 -- the end of a line
 in_close : (gets_in true (ascii ")") ≡ Some []) × (gets_in true (ascii "))") ≡ Some [])
@@ -191,31 +195,31 @@ pub gets-line : (is_reader : Bool) (k : Kind) (o : ℕ) (m : Option ℕ) → Mas
 unfolding get_bool_field get_data_field
 gets-line r bool o None h =
     simp append_assoc
-    (one-get r _ [] refl (simp parts) (in_fixed false (ascii "get_bool_field(") _ refl ∙ in_decimal false o _ ∙ in_close.0))
+    (member-get r _ [] refl (simp parts) (in_fixed false (ascii "get_bool_field(") _ refl ∙ in_decimal false o _ ∙ in_close.0))
 gets-line r bool o (Some m) h =
     simp append_assoc
-    (one-get r _ [] refl (simp (parts, get-truth m h))
+    (member-get r _ [] refl (simp (parts, get-truth m h))
     (in_fixed false (ascii "get_bool_field_mask(") _ refl ∙ in_decimal false o _ ∙ in_fixed true (ascii ", ") _ refl
     ∙ in_mask bool m _ ∙ in_close.0))
 gets-line r (num t) o None h =
     simp append_assoc
-    (one-get r _ [] refl (simp parts)
+    (member-get r _ [] refl (simp parts)
     (in_fixed false (ascii "get_data_field::<") _ refl ∙ in_name t _ ∙ in_fixed true (ascii ">(") _ refl
     ∙ in_decimal false o _ ∙ in_close.0))
 gets-line r (num t) o (Some m) h =
     simp append_assoc
-    (one-get r _ [] refl (simp (parts, get_mask t m h))
+    (member-get r _ [] refl (simp (parts, get_mask t m h))
     (in_fixed false (ascii "get_data_field_mask::<") _ refl ∙ in_name t _ ∙ in_fixed true (ascii ">(") _ refl
     ∙ in_decimal false o _ ∙ in_fixed true (ascii ", ") _ refl ∙ in_mask (num t) m _ ∙ in_close.0))
 gets-line r enum o None h =
     simp append_assoc
     (in_fixed false (ascii "::core::convert::TryFrom::try_from(") _ refl
-    ∙ one-get r (ascii "get_data_field::<u16>(" ⧺ decimal o ⧺ ascii "))") (ascii ")") refl (simp parts)
+    ∙ member-get r (ascii "get_data_field::<u16>(" ⧺ decimal o ⧺ ascii "))") (ascii ")") refl (simp parts)
     (in_fixed false (ascii "get_data_field::<u16>(") _ refl ∙ in_decimal false o _ ∙ in_close.1))
 gets-line r enum o (Some m) h =
     simp append_assoc
     (in_fixed false (ascii "::core::convert::TryFrom::try_from(") _ refl
-    ∙ one-get r (ascii "get_data_field_mask::<u16>(" ⧺ decimal o ⧺ ascii ", " ⧺ get_mask_text enum m ⧺ ascii "))") (ascii ")")
+    ∙ member-get r (ascii "get_data_field_mask::<u16>(" ⧺ decimal o ⧺ ascii ", " ⧺ get_mask_text enum m ⧺ ascii "))") (ascii ")")
     refl (simp (parts, get_mask_enum m h))
     (in_fixed false (ascii "get_data_field_mask::<u16>(") _ refl ∙ in_decimal false o _ ∙ in_fixed true (ascii ", ") _ refl
     ∙ in_mask enum m _ ∙ in_close.1))

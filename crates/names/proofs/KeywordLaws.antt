@@ -67,3 +67,14 @@ unfolding is_keyword
 of_length_lem s words r n e f g =
     f ∙ any_of s words ∙ ap (is_one_of s) g ∙ ap (λ (k : ℕ). is_one_of s (of_length k rust_keywords)) (sym e)
     ∙ among-length s rust_keywords
+
+-- a length from 2 on that is none of 2 to 8
+from_six : (n : ℕ) → (n ≡ 2 → ⊥) → (n ≡ 3 → ⊥) → (n ≡ 4 → ⊥) → (n ≡ 5 → ⊥) → 2 ≤ n → 6 ≤ n
+from_six n a b c d h = omega arith
+
+past_eight : (n : ℕ) → (n ≡ 6 → ⊥) → (n ≡ 7 → ⊥) → (n ≡ 8 → ⊥) → 6 ≤ n → 8 < n
+past_eight n a b c h = omega arith
+
+pub none_of : (n : ℕ) → (n ≡ 2 → ⊥) → (n ≡ 3 → ⊥) → (n ≡ 4 → ⊥) → (n ≡ 5 → ⊥) → (n ≡ 6 → ⊥) → (n ≡ 7 → ⊥) → (n ≡ 8 → ⊥) → 2 ≤ n
+    → 8 < n
+none_of n a b c d e f g h = past_eight n e f g (from_six n a b c d h)

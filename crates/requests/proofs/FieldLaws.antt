@@ -1,6 +1,7 @@
 -- Laws of a field that was read: which it is in the tree, and what its type's text and its accessors are there, by the field's
 -- arm. Assumes nothing.
 use mathlib.Core.Path.{◌≡◌, refl, sym}
+use mathlib.Core.Bool.{false}
 use mathlib.Core.List.{List}
 use Rattle.std.specs.Prelude.{Option, None, Some, Result, Ok, Err}
 use Prim.Native.Nat.{ℕ}
@@ -36,7 +37,7 @@ use Rattle.zeroing.specs.declared.Zeroed.{Zeroed}
 use Rattle.requests.specs.Requests.{there, field_at, type_text, slot_named, slot_field, group_of, accessor_text}
 use Rattle.requests.specs.declared.Accessor.{Accessor}
 use Rattle.requests.specs.declared.Accessor.TheVariants.{TypeText, Getter, Setter, Haser, Zeroing}
-use Rattle.requests.specs.Parts.{Locates}
+use Rattle.requests.specs.Parts.{may_have_scopes, Locates}
 use Rattle.requests.specs.declared.Located.{Located}
 
 -- ---- where a field is
@@ -185,3 +186,8 @@ group-alone s sheet at r (Getter b f) n h w = group-no_accessor s at.1 r _ h w
 group-alone s sheet at r Setter n h w = group-no_accessor s at.1 r _ h w
 group-alone s sheet at r (Haser b) n h w = group-no_accessor s at.1 r _ h w
 group-alone s sheet at r Zeroing n h w = absurd (n refl)
+
+-- a field that is no slot has no scopes
+pub scopes-none : (f : Field) → ((r : code.Slot) → f ≡ field.Slot r → ⊥) → false ≡ may_have_scopes f
+scopes-none (field.Slot r) o = absurd (o r refl)
+scopes-none (field.Group g) o = refl

@@ -170,7 +170,8 @@ fn may_stop(offsets: &[u32], offset: u32) -> bool
     nodes::among(offsets, offset) | nodes::among(offsets, 0)
 }
 
-// The lines of a group so far by type and offset, each at a place of its own. A place with type 0 and offset 0 is free.
+// The lines of a group so far by type and offset, each at a place of its own. A place with type 0 and offset 0 is free. There
+// are two arrays, since a place of both would take eight bytes for five, and sixteen tables stand on a small stack.
 #[derive(Drop)]
 struct Table {
     offsets: [u32; SIZE],
