@@ -1,7 +1,7 @@
 -- What is claimed of the texts of a slot's accessors, each as a run of the entry left it: a getter alone, a setter alone, set and
 -- then get, the Void setter, hasers. `expected` (crate meaning) is v but for document 01's two exceptions. Assumes nothing.
 use Rattle.std.specs.Prelude.{◌≡◌, ℕ, ◌^◌, ◌<◌, Bool, true, false, not, ◌⊎◌, ◌==◌, Ok}
-use Rattle.std.specs.Prelude.{None, Some}
+use Rattle.std.specs.Prelude.{Option, None, Some}
 use Rattle.text.specs.Bytes.{Str, both, unit}
 use Rattle.text.specs.declared.Text.{Text}
 use Rattle.tree.specs.Read.{admitted}
@@ -24,7 +24,7 @@ use Rattle.agreement.specs.Slots.{expected_at}
 -- the bytes between the two fill counts of an entry that is done are the text of its request
 abbrev pub AnsweredHolds : Type 0
 AnsweredHolds =
-    (s : Str) (id : ℕ) (asked : Request) (l : Str) (t : Text) (l' : Str) (t' : Text)
+    (s : Str) (id : ℕ) (asked : Option Request) (l : Str) (t : Text) (l' : Str) (t' : Text)
     → Answered l t (outcome_of (admitted s) id asked) l' (Ok t')
     → outcome_of (admitted s) id asked ≡ gives (bytes_between t.at t'.at l')
 

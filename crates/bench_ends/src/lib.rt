@@ -41,16 +41,10 @@ fn past_eights(s: &[u8], from: usize) -> usize
 }
 
 // The first byte 10 at or after `from`, as it was sought: by eights, and the last few singly.
-#[tactic(auto, using(row::proofs::NewlineLaws::steps))]
 fn find_by_bytes(s: &[u8], from: usize) -> Option<usize>
     ensures { result ≡ newline_from s.now from }
 {
-    for i in past_eights(s, from)..s.len() {
-        if s[i] == b'\n' {
-            return Some(i);
-        }
-    }
-    None
+    row::singly(s, past_eights(s, from))
 }
 
 #[unsafe(no_mangle)]

@@ -167,16 +167,14 @@ pub fn set_tag(offset: u64, discriminant: u64, t: Text, buf: &mut [u8]) -> Text
     t.bytes(buf, b");")
 }
 
-// The line that zeroes a Bool.
+// The line that zeroes a Bool: its set to false.
 pub fn zero_bool(offset: u64, t: Text, buf: &mut [u8]) -> Text
     ensures { Wrote buf.old t (zero_bool offset) buf.new result }
 {
-    let t = t.bytes(buf, b"self.builder.set_bool_field(");
-    let t = t.number(buf, offset);
-    t.bytes(buf, b", false);")
+    set_bool_field(offset, b"false", None, t, buf)
 }
 
-// The line that zeroes a number or an enum, by its type.
+// The line that zeroes a number or an enum, by its type. Its value is two texts, so that it is no `set_data_field` of one.
 pub fn zero_data(typ: &[u8], offset: u64, t: Text, buf: &mut [u8]) -> Text
     ensures { Wrote buf.old t (zero_data typ.now offset) buf.new result }
 {
@@ -205,18 +203,18 @@ pub fn clear_pointer(offset: u64, t: Text, buf: &mut [u8]) -> Text
     t.bytes(buf, b").clear();")
 }
 
-// A haser's test of its pointer. The two texts differ before and behind the number, and each arm writes its own.
+// A haser's test of its pointer: a text before the offset, and one behind it.
 pub fn not_null(offset: u64, is_reader: bool, t: Text, buf: &mut [u8]) -> Text
     ensures { Wrote buf.old t (not_null is_reader offset) buf.new result }
 {
-    if is_reader {
-        let t = t.bytes(buf, b"!self.reader.get_pointer_field(");
-        let t = t.number(buf, offset);
-        return t.bytes(buf, b").is_null()");
-    }
-    let t = t.bytes(buf, b"!self.builder.is_pointer_field_null(");
+    let texts: (&[u8], &[u8]) = if is_reader {
+        (b"!self.reader.get_pointer_field(", b").is_null()")
+    } else {
+        (b"!self.builder.is_pointer_field_null(", b")")
+    };
+    let t = t.bytes(buf, texts.0);
     let t = t.number(buf, offset);
-    t.bytes(buf, b")")
+    t.bytes(buf, texts.1)
 }
 
 // A haser's line that answers false where the union has another member.

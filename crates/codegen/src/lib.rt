@@ -6,8 +6,8 @@ ghost use Rattle.terms.specs.Kinds.{number_of};
 ghost use Rattle.text.specs.Bytes.{ascii};
 ghost use Rattle.text.specs.Text.{Wrote};
 ghost use Rattle.calls.specs.Calls.{get_data_field, set_bool_field, set_data_field, zero_data};
-ghost use Rattle.calls.specs.Mask.{mask_text};
-ghost use Rattle.codegen.specs.Default.{value, float_zero, prim_default, getter_mask};
+ghost use Rattle.calls.specs.Mask.{argument_text, mask_text};
+ghost use Rattle.codegen.specs.Default.{value, unless, float_zero, prim_default, getter_mask};
 ghost use Rattle.codegen.specs.Mask.{mask_or, masked};
 ghost use Rattle.codegen.specs.Haser.{haser_of};
 ghost use Rattle.codegen.specs.TagLine.{tag_test_line};
@@ -19,7 +19,11 @@ use field::Slot;
 use terms::{Kind, Refusal};
 use text::Text;
 
-// The mask of a getter: the default's bits, looked at as a number, which is signed for Int8 to Int64.
+// The discriminant of a field in no union: capnpc's `field::NO_DISCRIMINANT`.
+pub const NO_DISCRIMINANT: u64 = 65535;
+
+// The mask of a getter: the default's bits, looked at as a number, which is signed for Int8 to Int64. The kind and the bits are
+// no pair: a getter asks with its type's kind, a setter with its default's.
 pub fn getter_mask(kind: Kind, bits: u64) -> Option<Mask>
     ensures { mask_text result ≡ getter_mask (value (number_of kind) bits) }
 {
@@ -49,20 +53,24 @@ fn is_float_zero(sign: u64, bits: u64) -> bool
     bits == 0 || bits == sign
 }
 
+// The mask of a setter of a float, if the default is not 0.0 or -0.0.
+fn float_mask(sign: u64, bits: u64, mask: Mask) -> Option<Mask>
+    ensures { mask_text result ≡ unless (float_zero sign bits) (argument_text mask) }
+{
+    if is_float_zero(sign, bits) {
+        return None;
+    }
+    Some(mask)
+}
+
 // The mask of a setter of a Bool or a number; the refusal of a default that is no primitive.
 pub fn prim_default(kind: Kind, bits: u64) -> Result<Option<Mask>, Refusal>
     ensures { masked result ≡ prim_default (value (number_of kind) bits) }
 {
     match kind {
         Kind::Void => Err(Refusal::SetterDefault),
-        Kind::Float32 => {
-            let zero = is_float_zero(0x8000_0000, bits);
-            Ok(if zero { None } else { Some(Mask::U32(bits)) })
-        }
-        Kind::Float64 => {
-            let zero = is_float_zero(0x8000_0000_0000_0000, bits);
-            Ok(if zero { None } else { Some(Mask::U64(bits)) })
-        }
+        Kind::Float32 => Ok(float_mask(0x8000_0000, bits, Mask::U32(bits))),
+        Kind::Float64 => Ok(float_mask(0x8000_0000_0000_0000, bits, Mask::U64(bits))),
         kind if kind.is_primitive() => Ok(getter_mask(kind, bits)),
         _ => Err(Refusal::SetterDefault),
     }
@@ -139,7 +147,7 @@ pub fn is_pointer(kind: Kind) -> bool
 fn tag_test_line(tag: u64, discriminant: u64, is_reader: bool, t: Text, buf: &mut [u8]) -> Text
     ensures { Wrote buf.old t (tag_test_line is_reader tag discriminant) buf.new result }
 {
-    if discriminant == 65535 {
+    if discriminant == NO_DISCRIMINANT {
         return t;
     }
     let t = t.bytes(buf, b"    ");

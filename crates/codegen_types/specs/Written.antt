@@ -17,7 +17,8 @@ pub record Writes (o : Out Str) (l : List ℕ) (t : Text) (l' : List ℕ) (r : R
   pub refusal : refusal_number r ≡ refusal_of o
   pub text : (w : Str) (u : Text) → o ≡ ok w → r ≡ Ok u → Wrote l t w l' u
 
--- the buffer keeps its length, and no byte before the fill count changes; that count stops at the largest usize
+-- the buffer keeps its length, and no byte before the fill count changes, as where some text was put there (`kept-put` of
+-- KeptLaws); that count stops at the largest usize
 pub record Kept (l : List ℕ) (t : Text) (l' : List ℕ) : Type 0 where
   pub size : length l' ≡ length l
   pub before : take (min t.at (2 ^ 64 - 1)) l' ≡ take (min t.at (2 ^ 64 - 1)) l

@@ -1,22 +1,26 @@
 -- Laws of columns and texts: what a definition gives from one byte on, what four bytes make as one number, and what the bytes of
 -- a name are. Assumes nothing.
-use mathlib.Core.Path.{◌≡◌, refl, ◌∙◌}
+use mathlib.Core.Path.{◌≡◌, refl, sym, ap, ◌∙◌}
 use mathlib.Core.Bool.{Bool, true, false, not}
-use mathlib.Core.List.{[], ◌∷◌}
-use Rattle.std.specs.Prelude.{◌&&◌}
-use Rattle.std.specs.List.{list_all}
+use mathlib.Core.List.{[], ◌∷◌, ◌++◌}
+use Rattle.std.specs.Prelude.{◌&&◌, Option, None, Some}
+use Rattle.std.specs.Array.{IsFirstChunk}
 use Rattle.std.specs.Int.{IsInRange}
+use Rattle.std.specs.List.{list_all}
+use Rattle.std.specs.Option.{MatchOption, option_eq}
+use Rattle.std.specs.Str.{bytes_eq}
+use Rattle.std.proofs.lemmas.Slice.Eq.{bytes_eq-Decides}
 use Prim.Native.Nat.{ℕ, ◌+◌, ◌-◌, ◌*◌, ◌^◌, ◌≤◌, ◌<◌}
 use native.Mathlib.Omega.{arith}
 use native.Mathlib.Nat.{pow-suc, pow-le-pow_right}
 use native.Mathlib.Numerals.{add-one}
-use lib.ListN.{length, get_or, take, drop, length-drop}
+use lib.ListN.{length, get_or, take, drop, length-drop, take-append-drop}
 use lib.Seq.{drop-cons, take_all}
-use lib.Dec.{leb, ltb}
-use borrow.Author.Tests.{eq-eqb, ne_eqb, lt-ltb, le-ltb, ltb-false, leb-true}
+use lib.Dec.{leb}
+use denote.Ref.{Bor}
+use borrow.Author.Tests.{ne_eqb, lt-ltb, le-ltb, leb-true}
 use Rattle.text.specs.Bytes.{Str, cond, both}
 use Rattle.column.specs.Number.{trimmed, digits, unpadded}
-use Rattle.column.specs.Fours.{four, four_bytes}
 use Rattle.column.specs.Texts.{is_digit, is_word, is_graphic, all, sized, is_graphic_text}
 use Rattle.column.specs.Texts.{are_chars, may_be_name, is_name, is_field_name}
 
@@ -31,10 +35,6 @@ all_same ok (b ∷ t) = go (ok b) (all_same ok t)
     go false e = refl
 
 module _ (t : Str) (i : ℕ) (h : i < length t) where
-  pub trimmed-more : get_or t i 0 ≡ 32 → trimmed (drop i t) ≡ trimmed (drop (i + 1) t)
-  unfolding trimmed
-  trimmed-more e = rw (add-one, drop-cons t i 0 h, trimmed, eq-eqb (get_or t i 0) 32 e)
-
   pub digits_more :
       (v : ℕ) → IsInRange 48 57 (get_or t i 0) → v * 10 + (get_or t i 0 - 48) < 2 ^ 64
       → digits v (drop i t) ≡ digits (v * 10 + (get_or t i 0 - 48)) (drop (i + 1) t)
@@ -50,62 +50,22 @@ few_digits v i l h = omega (arith, pow-le-pow_right {n = 10} (omega arith) {i = 
 pub one_more_digit : (v i d : ℕ) → v < 10 ^ i → d < 10 → v * 10 + d < 10 ^ (i + 1)
 one_more_digit v i d l h = rw (add-one, pow-suc 10 i) (omega arith)
 
--- what stands above the lowest byte
-above : (x a u v : ℕ) → x < 256 → a < 256 → x + 256 * u ≡ a + 256 * v → u ≡ v
-above x a u v hx ha e =
-    omega arith
-
--- the bytes a, b, c and d stand from i on
-pub record Four (t : Str) (i a b c d : ℕ) : Type 0 where
-  pub whole : i + 4 ≤ length t
-  pub first : get_or t i 0 ≡ a
-  pub second : get_or t (i + 1) 0 ≡ b
-  pub third : get_or t (i + 2) 0 ≡ c
-  pub fourth : get_or t (i + 3) 0 ≡ d
-
--- four bytes that make the number of a, b, c and d, which is not 0
-pub four_are :
-    (t : Str) (i a b c d : ℕ) → ((j : ℕ) → get_or t j 0 < 256) → 0 < a → a < 256 → b < 256 → c < 256
-    → four_bytes t i ≡ four a b c d → Four t i a b c d
-unfolding four_bytes
-four_are t i a b c d fits positive ha hb hc e = go (ltb (length t) (i + 4)) refl e
-  where
-    go :
-        (p : Bool) → ltb (length t) (i + 4) ≡ p
-        → cond p 0 (four (get_or t i 0) (get_or t (i + 1) 0) (get_or t (i + 2) 0) (get_or t (i + 3) 0)) ≡ four a b c d
-        → Four t i a b c d
-    go true k e = absurd (omega arith)
-    go false k e =
-        let x₀ = get_or t i 0 in
-        let x₁ = get_or t (i + 1) 0 in
-        let x₂ = get_or t (i + 2) 0 in
-        let x₃ = get_or t (i + 3) 0 in
-        let e₁ = above x₀ a (x₁ + 256 * (x₂ + 256 * x₃)) (b + 256 * (c + 256 * d)) (fits i) ha (omega arith) in
-        let e₂ = above x₁ b (x₂ + 256 * x₃) (c + 256 * d) (fits (i + 1)) hb e₁ in
-        let e₃ = above x₂ c x₃ d (fits (i + 2)) hc e₂ in
-        record {
-          whole = ltb-false (length t) (i + 4) k;
-          first = omega arith;
-          second = omega arith;
-          third = omega arith;
-          fourth = e₃;
-        }
-
--- four spaces
-pub trimmed-four : (t : Str) (i : ℕ) → Four t i 32 32 32 32 → trimmed (drop i t) ≡ trimmed (drop (i + 4) t)
-trimmed-four t i f =
-    let h = f.whole in
-    on i (i + 1) (omega arith) (omega arith) f.first
-    ∙ on (i + 1) (i + 2) (omega arith) (omega arith) f.second
-    ∙ on (i + 2) (i + 3) (omega arith) (omega arith) f.third
-    ∙ on (i + 3) (i + 4) (omega arith) (omega arith) f.fourth
-  where
-    on : (m n : ℕ) → n ≡ m + 1 → m < length t → get_or t m 0 ≡ 32 → trimmed (drop m t) ≡ trimmed (drop n t)
-    on m n e h s = rw e (trimmed-more t m h s)
-
 -- the part of a slice from i on
 pub rest-is : (t : Str) (i : ℕ) → take (length t - i) (drop i t) ≡ drop i t
 rest-is t i = take_all (length t - i) (drop i t) (rw (length-drop i t) (omega arith))
+
+-- a first chunk that is these bytes
+pub chunk-is :
+    (t : Str) (short : Type 0) (chunk : Option (Bor Str)) (s : Bor Str)
+    → MatchOption chunk short (λ y. IsFirstChunk t y.now 4)
+    → option_eq {T = Bor Str} (λ x y. bytes_eq x.now y.now) chunk (Some s) ≡ true → take 4 t ≡ s.now
+chunk-is t short None s m e = cc
+chunk-is t short (Some y) s m e = sym m.same ∙ (bytes_eq-Decides y.now s.now).0 e
+
+-- four spaces in front
+pub trimmed-four : (t : Str) → take 4 t ≡ 32 ∷ 32 ∷ 32 ∷ 32 ∷ [] → trimmed t ≡ trimmed (drop 4 t)
+unfolding trimmed
+trimmed-four t e = ap trimmed (sym (take-append-drop 4 t)) ∙ ap (λ (s : Str). trimmed (s ++ drop 4 t)) e
 
 -- a number without spaces that does not begin with 0
 pub unpadded-digits : (t : Str) → (length t ≡ 0 → ⊥) → (get_or t 0 0 ≡ 48 → ⊥) → unpadded t ≡ digits 0 t

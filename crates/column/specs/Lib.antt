@@ -1,4 +1,3 @@
 pub mod Number
 pub mod Texts
-pub mod Fours
 pub mod Examples

@@ -5,7 +5,6 @@ ghost use Rattle.std.specs.Prelude.{◌≡◌, ◌+◌, get_or, ℕ, Bool, true,
 ghost use Rattle.std.specs.List.{list_all};
 ghost use Rattle.text.specs.Bytes.{Str, both};
 ghost use Rattle.column.specs.Number.{trimmed, digits, unpadded, column_of, most};
-ghost use Rattle.column.specs.Fours.{four_bytes};
 ghost use Rattle.column.specs.Texts.{is_word, is_graphic, is_graphic_text, ends_in};
 ghost use Rattle.column.specs.Texts.{is_lead, is_accented, are_chars, may_be_name, is_name, is_field_name};
 
@@ -25,20 +24,6 @@ const DIVISION_SIGN: u8 = 0xb7;
 // As many digits as fit 64 bits whatever they are.
 const DIGITS_THAT_FIT: usize = 19;
 
-// Four spaces as one number.
-const FOUR_SPACES: u64 = 0x2020_2020;
-
-// The four bytes from `i` on as one number, the first lowest; 0 where they are not there whole.
-#[tactic(auto, unfolding(crate::specs::Fours::four_bytes))]
-pub fn four_bytes(t: &[u8], i: usize) -> u64
-    ensures { result ≡ four_bytes t.now i }
-{
-    if t.len() < 4 || t.len() - 4 < i {
-        return 0;
-    }
-    u64::from(u32::from_le_bytes([t[i], t[i + 1], t[i + 2], t[i + 3]]))
-}
-
 // The bytes after the spaces in front: by fours, and the last few singly.
 #[tactic(auto, unfolding(crate::specs::Number::trimmed))]
 fn trimmed(t: &[u8]) -> &[u8]
@@ -57,7 +42,7 @@ fn past_fours(t: &[u8]) -> &[u8]
     ensures { trimmed t.now ≡ trimmed result.now }
 {
     let mut rest = t;
-    while four_bytes(rest, 0) == FOUR_SPACES {
+    while rest.first_chunk::<4>() == Some(b"    ") {
         rest = &rest[4..];
     }
     rest
@@ -78,7 +63,8 @@ fn more_digits(t: &[u8], head: u64) -> Option<u64>
     Some(v)
 }
 
-// The number that digits make, where it fits 64 bits: the first 19 do, and those after them are tested.
+// The number that digits make, where it fits 64 bits: the first 19 do, and those after them are tested. With each of them tested,
+// admission of a sheet of words takes 1.4 times as many instructions, and of one of groups 1.15 times.
 #[tactic(auto, unfolding(crate::specs::Number::digits))]
 fn digits(t: &[u8]) -> Option<u64>
     ensures { result ≡ digits 0 t.now }
@@ -169,7 +155,8 @@ pub fn letter_at(t: &[u8], i: usize) -> bool
 }
 
 // Whether a text is made of chars that pass a test, letters from U+00C0 to U+00FF among them; the test takes no first byte of
-// such a letter. A char is one byte or two, so that no `for` counts them.
+// such a letter. A char is one byte or two, so that no `for` counts them; with what is left of the text in place of a place,
+// admission of a sheet whose fields' names have 64 letters takes 1.06 times as many instructions.
 pub fn are_chars<F: Fn(u8) -> bool>(t: &[u8], ok: F) -> bool
     requires { F.IsAlwaysCallable ok }
     ensures { (test : ℕ → Bool) → ((b : _) (r : Bool) → F.post ok b r → r ≡ test b)

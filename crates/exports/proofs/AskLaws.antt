@@ -1,6 +1,6 @@
 -- What the code's answer says of a request is what is asked of it at the boundary. Assumes nothing.
 use mathlib.Core.Path.{◌≡◌, ap, subst, ◌∙◌}
-use Rattle.std.specs.Prelude.{Result}
+use Rattle.std.specs.Prelude.{Option, Result}
 use Prim.Native.Nat.{ℕ}
 use Rattle.text.specs.Bytes.{Str}
 use Rattle.text.specs.Text.{state_at}
@@ -37,10 +37,10 @@ module _ (l : Str) (fill : ℕ) (o : Outcome) (t : Text) (l' : Str) (r : Result 
 
 -- a request of the sheet with some nodes: q as the code has it, and q' as it was asked
 pub asked_in :
-    (l : Str) (fill : ℕ) (sh : Sheet) (id : ℕ) (q q' : Request) (t : Text) (l' : Str) (r : Result Text Refused)
+    (l : Str) (fill : ℕ) (sh : Sheet) (id : ℕ) (q q' : Option Request) (t : Text) (l' : Str) (r : Result Text Refused)
     → q ≡ q' → t ≡ state_at fill
     → Answered l t (outcome (request_text sh id q)) l' r → (fill' number line column : ℕ)
     → Said (in_numbers r) fill fill' number line column → Asked l fill (ask (sheet sh) id q') l' fill' number line column
 asked_in l fill sh id q q' t l' r e at answered =
     asked l fill (outcome (request_text sh id q')) t l' r at
-    (subst (λ (x : Request). Answered l t (outcome (request_text sh id x)) l' r) e answered)
+    (subst (λ (x : Option Request). Answered l t (outcome (request_text sh id x)) l' r) e answered)

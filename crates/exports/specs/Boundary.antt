@@ -29,7 +29,6 @@ use Rattle.field.specs.declared.Field.TheVariants as field
 use Rattle.requests.specs.Requests.{there, accessor_text, of_field, Outcome, outcome_of, entry_answer, entry_buffer}
 use Rattle.requests.specs.Told.{in_node}
 use Rattle.requests.specs.declared.Request.{Request}
-use Rattle.requests.specs.declared.Request.TheVariants.{Unknown}
 use Rattle.requests.specs.declared.Accessor.{Accessor}
 use Rattle.requests.specs.declared.Accessor.TheVariants.{TypeText, Getter, Setter, Haser, Zeroing}
 
@@ -100,7 +99,7 @@ unfoldable pub reply_of : Outcome → Str → ℕ → Reply
 reply_of o l fill = record { answer = entry_answer l fill o; buffer = entry_buffer l fill o }
 
 -- a request of a node, over a sheet
-abbrev pub ask : Admitted → ℕ → Request → Str → ℕ → Reply
+abbrev pub ask : Admitted → ℕ → Option Request → Str → ℕ → Reply
 ask a id request = reply_of (outcome_of a id request)
 
 -- the texts of a field by their numbers; a type's text is asked for the leaf with a number
@@ -115,11 +114,11 @@ unfoldable pub accessor_numbered : ℕ → ℕ → Option Accessor
 accessor_numbered number leaf = nth number (accessors leaf)
 
 -- the request for such a text of the field at a place; what has no text is no request, which is 15
-abbrev pub requested : ℕ → Option Accessor → Request
+abbrev pub requested : ℕ → Option Accessor → Option Request
 requested place (Some accessor) = of_field place accessor
-requested place None = Unknown
+requested place None = None
 
-abbrev pub request_of : ℕ → ℕ → ℕ → Request
+abbrev pub request_of : ℕ → ℕ → ℕ → Option Request
 request_of number place leaf = requested place (accessor_numbered number leaf)
 
 -- over the buffer l and a fill count, a reply leaves l' and fill', and is told by a number, a line and a column
@@ -149,7 +148,7 @@ pub record AskedWithin (l : Str) (fill : ℕ) (l' : Str) (fill' number : ℕ) : 
 abbrev pub SameAnswersHold : Type 0
 SameAnswersHold =
     (s index : List ℕ) (sh : Sheet) → admitted s ≡ sheet sh → IndexOf s (admitted s) index
-    → (id : ℕ) (request : Request) (l : Str) (fill : ℕ) (l' : Str) (fill' number line column : ℕ)
+    → (id : ℕ) (request : Option Request) (l : Str) (fill : ℕ) (l' : Str) (fill' number line column : ℕ)
     → OverIndex s index (λ a. Asked l fill (ask a id request) l' fill' number line column)
     → Asked l fill (ask (admitted s) id request) l' fill' number line column
 

@@ -8,7 +8,7 @@ ghost use Rattle.exports.specs.Boundary.{Told, Asked, ask, accessor_numbered, re
 ghost use Rattle.exports.specs.Boundary.{SameAnswersHold, OverIndex, AskedWithin, TextTold, NodeTold, EntryTold};
 ghost use Rattle.exports.specs.Boundary.{FirstTold, FirstPut, ValueRead};
 
-use crate::{accessor_of, request_of, say};
+use crate::{accessor_of, request_of, say, tell};
 use field::Field;
 use nodes::Source;
 use row::Span;
@@ -32,19 +32,7 @@ pub fn kitlubas_index(s: &[u8], index: &mut [u64], line: &mut usize, column: &mu
     ensures index { index_size (length s.now) ≤ length index.old
         → IndexOf s.now (admitted s.now) index.new }
 {
-    match sheet::admit(s, index) {
-        Ok(()) => {
-            *line = 0;
-            *column = 0;
-            0
-        }
-        Err(refused) => {
-            // `say` ends so too: no function for both is plainer than these lines.
-            *line = refused.line;
-            *column = refused.column;
-            refused.refusal.number()
-        }
-    }
+    tell(sheet::admit(s, index).err(), line, column)
 }
 
 // The answer to the request with a number, in the sheet with this index. Over any index a refusal changes nothing; no byte before
@@ -143,7 +131,7 @@ pub fn kitlubas_node(
 
 // The field that stands at a position: the kind of its type, or 19 for a group, the place and the length of its name in the
 // sheet, and the position after it. 15 where there is none, and all of them become 0. The field's numbers are put into `field`,
-// if there is room for them.
+// if there is room for them. A slot and a group have an arm each: the kind and the end of the name's span are other ones.
 pub fn kitlubas_field(
     s: &[u8],
     from: usize,

@@ -14,7 +14,7 @@ ghost use Rattle.text.specs.Decimal.{decimal};
 ghost use Rattle.text.specs.Lines.{Line, BlankLine, Branch, none, to_lines, stringify, ended};
 ghost use Rattle.requests.specs.Told.{in_numbers};
 ghost use Rattle.exports.specs.Boundary.{Fills, FillsName, Signed, Told, Asked, ask, accessor_numbered, request_of};
-ghost use Rattle.exports.specs.Parts.{Said};
+ghost use Rattle.exports.specs.Parts.{Tells, Said};
 ghost use Rattle.std.specs.Prelude.{◌≡◌, ◌-◌, ◌^◌, min};
 
 use codegen_types::Leaf;
@@ -46,6 +46,8 @@ pub fn kitlubas_number(at: usize, buf: &mut [u8], n: u64) -> usize
 }
 
 // The number with these bits in two's complement. Bits past the width are dropped; a width is taken that is 8, 16, 32 or 64.
+// The program replay has the four arms by letter: for a function of both it would name the width in as many arms, and throw away
+// the answer that there is none.
 pub fn kitlubas_signed(at: usize, buf: &mut [u8], width: u32, n: u64) -> usize
     ensures { Signed buf.old at width n buf.new result }
 {
@@ -126,27 +128,33 @@ pub fn kitlubas_admit(s: &[u8], line: &mut usize, column: &mut usize) -> u64
     kitlubas_index(s, &mut none, line, column)
 }
 
+// Tells a refusal: its number, or 0 where there is none; `line` and `column` become the refusal's, or 0.
+fn tell(refused: Option<Refused>, line: &mut usize, column: &mut usize) -> u64
+    ensures { Tells refused result line.new column.new }
+{
+    let Some(refused) = refused else {
+        *line = 0;
+        *column = 0;
+        return 0;
+    };
+    *line = refused.line;
+    *column = refused.column;
+    refused.refusal.number()
+}
+
 // Says an answer: 0 with `fill` moved past the text, or the number of its refusal; `line` and `column` become the refusal's.
 fn say(answer: Result<Text, Refused>, fill: &mut usize, line: &mut usize, column: &mut usize) -> u64
     ensures { Said (in_numbers answer) fill.old fill.new result line.new column.new }
 {
-    match answer {
-        Ok(t) => {
-            *fill = t.fill();
-            *line = 0;
-            *column = 0;
-            0
-        }
-        Err(refused) => {
-            *line = refused.line;
-            *column = refused.column;
-            refused.refusal.number()
-        }
+    if let Ok(t) = answer {
+        *fill = t.fill();
     }
+    tell(answer.err(), line, column)
 }
 
-// The text of a field with a number: 0 is its type's text for the leaf with a number, 1 and 2 are the getters of reader and
-// builder, 3 and 4 the same as functions, 5 is the setter, 6 and 7 are the hasers of reader and builder, 8 is the zeroing.
+// The text of a field with a number, as C holds it: 0 is its type's text for the leaf with a number, 1 and 2 are the getters of
+// reader and builder, 3 and 4 the same as functions, 5 is the setter, 6 and 7 are the hasers of reader and builder, 8 is the
+// zeroing.
 #[tactic(auto, unfolding(crate::specs::Boundary::accessor_numbered, nodes::specs::Index::nth))]
 fn accessor_of(number: u64, leaf: u64) -> Option<Accessor>
     ensures { result ≡ accessor_numbered number leaf }
@@ -179,14 +187,12 @@ fn accessor_of(number: u64, leaf: u64) -> Option<Accessor>
     }
 }
 
-// The request with a number: for that text of the field at a place, or for nothing that there is.
-fn request_of(number: u64, place: u64, leaf: u64) -> Request
+// The request with a number, for that text of the field at a place, if there is one.
+fn request_of(number: u64, place: u64, leaf: u64) -> Option<Request>
     ensures { result ≡ request_of number place leaf }
 {
-    match accessor_of(number, leaf) {
-        Some(accessor) => Request::Field { place, accessor },
-        None => Request::Unknown,
-    }
+    let accessor = accessor_of(number, leaf)?;
+    Some(Request::Field { place, accessor })
 }
 
 // The answer to the request with a number.

@@ -47,7 +47,7 @@ module _ (rs rest : Rows) (f : tree.Field) (x : read_field rs ≡ got f rest) wh
   not-read (line.Field a b c d) e u v = u refl
   not-read (line.Group a b) e u v = v refl
   not-read (line.Typ a b c d) e u v = never-read misplaced (rw (← e, ← e, ← e, ← e))
-  not-read (line.Scope a b c) e u v = never-read misplaced (rw (← e, ← e, ← e, ← e))
+  not-read (line.Scope a b) e u v = never-read misplaced (rw (← e, ← e, ← e, ← e))
   not-read line.Unbound e u v = never-read misplaced (rw (← e, ← e, ← e, ← e))
   not-read (line.Value a b) e u v = never-read misplaced (rw (← e, ← e, ← e, ← e))
   not-read (line.Word a) e u v = never-read misplaced (rw (← e, ← e, ← e, ← e))

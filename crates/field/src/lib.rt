@@ -83,7 +83,9 @@ impl Slot {
         row::text_before(s, self.at, self.typ)
     }
 
-    // Its numbers, as a caller holds them. A slot and a group have other numbers, so each gives and takes its own.
+    // Its numbers, as a caller holds them. A slot and a group have other numbers, so each gives and takes its own, by methods of
+    // this crate alone. A `From` would be public, and nobody outside is to make a slot or a group of numbers but by `get`, which
+    // tests what the first of them says.
     fn numbers(self) -> [u64; FIELD_SIZE]
         ensures { result ≡ slot_numbers self }
     {
@@ -105,7 +107,7 @@ impl Slot {
         ]
     }
 
-    // The slot with these numbers.
+    // The slot with these numbers: no `From`, which would be public.
     fn from_numbers(numbers: &[u64; FIELD_SIZE]) -> Slot
         ensures { result ≡ slot_in numbers.now }
     {
@@ -152,7 +154,7 @@ impl Group {
         row::text_before(s, self.at, self.next)
     }
 
-    // Its numbers, as a caller holds them.
+    // Its numbers, as a caller holds them: no `From`, which would be public.
     fn numbers(self) -> [u64; GROUP_SIZE]
         ensures { result ≡ group_numbers self }
     {
@@ -165,7 +167,7 @@ impl Group {
         ]
     }
 
-    // The group with these numbers.
+    // The group with these numbers: no `From`, which would be public.
     fn from_numbers(numbers: &[u64; FIELD_SIZE]) -> Group
         ensures { result ≡ group_in numbers.now }
     {

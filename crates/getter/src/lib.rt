@@ -139,7 +139,8 @@ fn fallible_result(
     Ok(t.bytes(buf, b">"))
 }
 
-// The result type of a getter. Its refusal is the type's.
+// The result type of a getter. Its refusal is the type's. `is_reader` and `is_fn` are the Rust's own two parameters: each part
+// takes one of them, so that a pair would be taken apart again at once.
 fn result_type(
     source: &Source<'_>,
     slot: Slot,

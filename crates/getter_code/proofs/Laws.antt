@@ -6,8 +6,10 @@ use mathlib.Core.Logic.{◌⊎◌, inl, inr}
 use mathlib.Core.List.{append_assoc}
 use native.Mathlib.Omega.{arith}
 use borrow.Author.Tests.{eqb-true, eqb-false, ne_eqb, le-leb}
+use Rattle.std.proofs.lemmas.Bool.{lt-leb}
 use Rattle.terms.specs.Kinds.{number_of, is_primitive}
 use Rattle.terms.specs.declared.kinds.Kind.TheVariants as kinds
+use Rattle.terms.specs.declared.kinds.Unnamed.{Unnamed}
 use Rattle.text.specs.Bytes.{Str, ascii, unit, cond}
 use Rattle.text.specs.Text.{Wrote}
 use Rattle.text.specs.declared.Text.{Text}
@@ -129,14 +131,31 @@ module _ (root name : Str) (r : Slot) (is_reader is_fn : Bool) where
       let k = number_of r.kind in
       sym (rw (kind_by k r.id, ne_eqb k 0 n0, ne_eqb k 1 n1, le-leb k 11 (omega arith)) refl)
 
+  fragment-past :
+      18 < number_of r.kind
+      → from_pointer root is_reader r.offset (pointer_default r.explicit name) ≡ fragment_by root name r is_reader is_fn
+  fragment-past h =
+      let k = number_of r.kind in
+      sym (rw (
+        kind_by k r.id,
+        ne_eqb k 0 (λ e. omega arith),
+        ne_eqb k 1 (λ e. omega arith),
+        lt-leb k 11 (omega arith),
+        ne_eqb k 15 (λ e. omega arith),
+        ne_eqb k 17 (λ e. omega arith),
+        ne_eqb k 18 (λ e. omega arith),
+      ) refl)
+
   pub fragment-pointer :
-      (r.kind ≡ kinds.Text) ⊎ ((r.kind ≡ kinds.Data) ⊎ ((r.kind ≡ kinds.List) ⊎ (r.kind ≡ kinds.Struct)))
+      (r.kind ≡ kinds.Text) ⊎ ((r.kind ≡ kinds.Data) ⊎ ((r.kind ≡ kinds.List) ⊎ ((r.kind ≡ kinds.Struct)
+      ⊎ ((u : Unnamed) × (r.kind ≡ kinds.Unnamed u)))))
       → from_pointer root is_reader r.offset (pointer_default r.explicit name) ≡ fragment_by root name r is_reader is_fn
   fragment-pointer e = elim e [
     | inl e ↦ sym (rw (kind_by (number_of r.kind) r.id, e) refl)
     | inr (inl e) ↦ sym (rw (kind_by (number_of r.kind) r.id, e) refl)
     | inr (inr (inl e)) ↦ sym (rw (kind_by (number_of r.kind) r.id, e) refl)
-    | inr (inr (inr e)) ↦ sym (rw (kind_by (number_of r.kind) r.id, e) refl)
+    | inr (inr (inr (inl e))) ↦ sym (rw (kind_by (number_of r.kind) r.id, e) refl)
+    | inr (inr (inr (inr (u, e)))) ↦ let past = u.past in fragment-past (rw e (omega arith))
   ]
 
 -- ---- the code with an option

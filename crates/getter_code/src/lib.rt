@@ -36,8 +36,8 @@ fn pointer_default(name: &[u8], explicit: u64, t: Text, buf: &mut [u8]) -> Text
     t.bytes(buf, b"::core::option::Option::None")
 }
 
-// The value of a pointer field up to the offset, behind the root. Each text that has two forms has its function, as it has its
-// definition.
+// The value of a pointer field up to the offset, behind the root. Each text that has two forms has its function, which chooses
+// one: a function for all of them would take both forms and the flag, and be no more than an `if`.
 fn from_pointer_head(is_reader: bool) -> &'static [u8]
     ensures { result.now ≡ from_pointer_head is_reader }
 {
@@ -155,7 +155,7 @@ fn fragment(
         },
         Kind::Interface => capability(root, slot.offset, is_reader, t, buf),
         Kind::AnyPointer => untyped(root, slot.id != 0, slot.offset, is_reader, t, buf),
-        Kind::Text | Kind::Data | Kind::List | Kind::Struct => {
+        Kind::Text | Kind::Data | Kind::List | Kind::Struct | Kind::Unnamed(_) => {
             from_pointer(root, name, slot.offset, slot.explicit, is_reader, t, buf)
         }
         _ => codegen::get_number(kind, slot.offset, bits, is_reader, t, buf),

@@ -2,4 +2,3 @@ pub mod NameLaws
 pub mod RowLaws
 pub mod Laws
 pub mod PutLaws
-pub mod SizeLaws

@@ -27,9 +27,8 @@ use Rattle.field.specs.Field.{SlotIn, GroupHere, GroupIn}
 use Rattle.field.specs.declared.Slot as code
 use Rattle.field.specs.declared.Group.{Group}
 use Rattle.field.specs.declared.Field.TheVariants as field_is
-use Rattle.parts.specs.Program.{parts_from, parts_of, field_text}
+use Rattle.parts.specs.Program.{slot_parts, group_parts, parts_of, field_text}
 use Rattle.parts.specs.Fit.{part_most, unit_most, TakesAtMost, PartsPut, FieldPut}
-use Rattle.parts.specs.declared.Part.TheVariants.{GetterReader, Zero}
 
 -- ---- its name
 
@@ -72,11 +71,11 @@ fits_unit k l name (Some n) h g f = omega (arith, unit-most k (length name) h g)
 fits_unit k l name None h g f = omega (arith, unit-most k (length name) h g)
 
 module _ (x : Source) (tag : ℕ) (name l l' : Str) (r : Option ℕ) where
-  -- what is known of a slot's name and of its parts from the first on
+  -- what is known of a slot's name and of its parts
   pub slot-unit :
       (sl : code.Slot) → ((f : SlotField) → SlotHere x.bytes.now sl f → name ≡ f.name)
-      → TakesAtMost (length (parts_from GetterReader) * part_most name) l r
-      → PartsPut x tag (field_is.Slot sl) name GetterReader l' r
+      → TakesAtMost (length slot_parts * part_most name) l r
+      → PartsPut x tag (field_is.Slot sl) name slot_parts l' r
       → FieldPut x tag (field_is.Slot sl) l l' r
   unfolding field_text
   slot-unit sl named fits put ns i₀ at tag-is is few =
@@ -86,15 +85,15 @@ module _ (x : Source) (tag : ℕ) (name l l' : Str) (r : Option ℕ) where
       )
     where
       go : (arm : Arm) → SlotIn x.bytes.now sl at.1.name at.1.discriminant arm
-          → (name ≡ at.1.name) × (parts_of arm ≡ parts_from GetterReader)
+          → (name ≡ at.1.name) × (parts_of arm ≡ slot_parts)
       go (slot t) h = (named _ h, refl)
       go (group id) h = absurd h
 
   -- and of a group's
   pub group-unit :
       (g : Group) → ((n : Str) (d id : ℕ) → GroupHere x.bytes.now g n d id → name ≡ n)
-      → TakesAtMost (length (parts_from Zero) * part_most name) l r
-      → PartsPut x tag (field_is.Group g) name Zero l' r
+      → TakesAtMost (length group_parts * part_most name) l r
+      → PartsPut x tag (field_is.Group g) name group_parts l' r
       → FieldPut x tag (field_is.Group g) l l' r
   unfolding field_text
   group-unit g named fits put ns i₀ at tag-is is few =
@@ -104,6 +103,6 @@ module _ (x : Source) (tag : ℕ) (name l l' : Str) (r : Option ℕ) where
       )
     where
       go : (arm : Arm) → GroupIn x.bytes.now g at.1.name at.1.discriminant arm
-          → (name ≡ at.1.name) × (parts_of arm ≡ parts_from Zero)
+          → (name ≡ at.1.name) × (parts_of arm ≡ group_parts)
       go (slot t) h = absurd h
       go (group id) h = (named _ _ _ h, refl)

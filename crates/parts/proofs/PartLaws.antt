@@ -20,7 +20,7 @@ use Rattle.nodes.specs.Index.{InSource, sheet_of}
 use Rattle.nodes.specs.declared.Source.{Source}
 use Rattle.field.specs.declared.Field.{Field}
 use Rattle.requests.specs.Requests.{accessor_text}
-use Rattle.parts.specs.Program.{parts_from, accessor_of, header_text, refused_text, part_text, printed_part, each_text}
+use Rattle.parts.specs.Program.{accessor_of, header_text, refused_text, part_text, printed_part, each_text}
 use Rattle.parts.specs.Fit.{part_most, Named, PartPut, PartsPut}
 use Rattle.parts.specs.declared.Part.{Part}
 use Rattle.parts.proofs.FitLaws.{text-end, lent, back, back-length, on-within, taken-on}
@@ -59,41 +59,40 @@ pub part-whole :
 unfolding printed_part
 part-whole sheet at part name l l' n m i h g header text = taken-on l l' n h m g ∙ rw (header, text, i)
 
--- ---- the parts of a field from one on
+-- ---- parts of a field, one after the other
 
--- n bytes of l are the parts from `first` on but for these, which are left; each part has at most `part_most name` bytes
-pub record PartsLeft (x : Source) (tag : ℕ) (field : Field) (name : Str) (first : Part) (l₀ l : Str) (n : ℕ)
+-- n bytes of l are the parts `all` but for these, which are left; each part has at most `part_most name` bytes
+pub record PartsLeft (x : Source) (tag : ℕ) (field : Field) (name : Str) (all : List Part) (l₀ l : Str) (n : ℕ)
     (left : List Part) : Type 0 where
   pub size : length l ≡ length l₀
   pub within : n ≤ length l
-  pub fits : n + length left * part_most name ≤ length (parts_from first) * part_most name
+  pub fits : n + length left * part_most name ≤ length all * part_most name
   pub said : InSource x (λ sheet. (at : Node × tree.Field) → Named x.bytes.now tag field name at
-      → take n l ++ each_text (printed_part sheet at) left ≡ each_text (printed_part sheet at) (parts_from first))
+      → take n l ++ each_text (printed_part sheet at) left ≡ each_text (printed_part sheet at) all)
 
-module _ (x : Source) (tag : ℕ) (field : Field) (name : Str) (first : Part) (l₀ : Str) where
-  module _ (l : Str) (n : ℕ) (part : Part) (left : PartsLeft x tag field name first l₀ l n (parts_from part)) where
+module _ (x : Source) (tag : ℕ) (field : Field) (name : Str) (all : List Part) (l₀ : Str) where
+  module _ (l : Str) (n : ℕ) (part : Part) (parts : List Part) (left : PartsLeft x tag field name all l₀ l n (part ∷ parts)) where
     -- the next part stands behind them, and these are left
     pub parts_more :
-        (l' : Str) (m : ℕ) (parts : List Part) → parts_from part ≡ part ∷ parts → length l' ≡ length (lent l n) → m ≤ length l'
+        (l' : Str) (m : ℕ) → length l' ≡ length (lent l n) → m ≤ length l'
         → m ≤ part_most name → PartPut x tag field name part l' (Some m)
-        → PartsLeft x tag field name first l₀ (back l n l') (n + m) parts
+        → PartsLeft x tag field name all l₀ (back l n l') (n + m) parts
     unfolding each_text
-    parts_more l' m parts i k g h put = record {
+    parts_more l' m k g h put = record {
       size = back-length l l' n left.within k ∙ left.size;
       within = on-within l l' n left.within m g;
-      fits = let e : length (parts_from part) ≡ length parts + 1 = omega (arith, ap length i) in
-          omega (arith, h, rw e at left.fits);
+      fits = omega (arith, h, left.fits);
       said = λ ns i₀ at named.
           let each = each_text (printed_part (sheet_of x.root.now ns) at) in
           ap (λ (y : Str). y ++ each parts) (taken-on l l' n left.within m g)
           ∙ append_assoc (take n l) (take m l') (each parts)
           ∙ ap (λ (y : Str). take n l ++ (y ++ each parts)) (put ns i₀ at named)
-          ∙ (rw i at (left.said ns i₀ at named));
+          ∙ left.said ns i₀ at named;
     }
 
   -- none is left
   pub parts_last :
-      (l : Str) (n : ℕ) → PartsLeft x tag field name first l₀ l n []
-      → PartsPut x tag field name first l (Some n)
+      (l : Str) (n : ℕ) → PartsLeft x tag field name all l₀ l n []
+      → PartsPut x tag field name all l (Some n)
   unfolding each_text
   parts_last l n left = λ ns i₀ at named. sym (append-nil (take n l)) ∙ left.said ns i₀ at named

@@ -1,5 +1,5 @@
 -- What a text takes of a buffer that it begins, and what is told of a field's parts that are written so. Assumes nothing.
-use Rattle.std.specs.Prelude.{◌≡◌, List, [], ℕ, ◌+◌, ◌≤◌, ◌<◌, ltb, length, take, ⊤, Option, None, Some, Result, Ok, Err}
+use Rattle.std.specs.Prelude.{◌≡◌, List, ℕ, ◌+◌, ◌≤◌, ◌<◌, ltb, length, take, ⊤, Option, None, Some, Result, Ok, Err}
 use Rattle.text.specs.Bytes.{Str, cond}
 use Rattle.tree.specs.Tree as tree
 use Rattle.tree.specs.Tree.{Node}
@@ -13,7 +13,7 @@ use Rattle.nodes.specs.declared.Source.{Source}
 use Rattle.field.specs.Field.{FieldIs}
 use Rattle.field.specs.declared.Field.{Field}
 use Rattle.requests.specs.Told.{OfField}
-use Rattle.parts.specs.Program.{parts_from, part_text, refused_text, printed_part, each_text, field_text}
+use Rattle.parts.specs.Program.{part_text, refused_text, printed_part, each_text, field_text}
 use Rattle.parts.specs.declared.Part.{Part}
 
 -- the bytes that a part has at most, by its field's name: a header of 17, the name and 1, a text of 65,536
@@ -59,29 +59,24 @@ abbrev pub NotLong : Result Text Refusal → Type 0
 NotLong (Ok t) = t.at ≤ 65536
 NotLong (Err e) = Unit {0}
 
--- the parts of a field after one
-abbrev pub parts_after : Option Part → List Part
-parts_after (Some part) = parts_from part
-parts_after None = []
-
 -- a field that was read and its name, against a node and its field in the tree
 pub record Named (s : Str) (tag : ℕ) (field : Field) (name : Str) (at : Node × tree.Field) : Type 0 where
   pub tag-is : at.0.tag_offset ≡ tag
   pub field_is : FieldIs s field at.1
   pub name-is : name ≡ at.1.name
 
--- the contracts, in every sheet whose nodes the index has: a part, the parts from one on, all of a field
+-- the contracts, in every sheet whose nodes the index has: a part, parts one after the other, all of a field
 module _ (x : Source) (tag : ℕ) (field : Field) where
   abbrev pub PartPut : Str → Part → Str → Option ℕ → Type 0
   PartPut name part l r =
       InSource x
       (λ sheet. (at : Node × tree.Field) → Named x.bytes.now tag field name at → Puts (printed_part sheet at part) l r)
 
-  abbrev pub PartsPut : Str → Part → Str → Option ℕ → Type 0
-  PartsPut name first l r =
+  abbrev pub PartsPut : Str → List Part → Str → Option ℕ → Type 0
+  PartsPut name parts l r =
       InSource x
       (λ sheet. (at : Node × tree.Field) → Named x.bytes.now tag field name at
-      → Puts (each_text (printed_part sheet at) (parts_from first)) l r)
+      → Puts (each_text (printed_part sheet at) parts) l r)
 
   abbrev pub FieldPut : Str → Str → Option ℕ → Type 0
   FieldPut l l' r =

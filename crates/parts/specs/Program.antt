@@ -12,19 +12,16 @@ use Rattle.requests.specs.declared.Accessor.TheVariants as accessor
 use Rattle.parts.specs.declared.Part.{Part}
 use Rattle.parts.specs.declared.Part.TheVariants.{GetterReader, GetterBuilder, Setter, HaserReader, HaserBuilder, Zero}
 
--- the parts of a field from this one on, in their order
-abbrev pub parts_from : Part → List Part
-parts_from GetterReader = GetterReader ∷ GetterBuilder ∷ Setter ∷ HaserReader ∷ HaserBuilder ∷ []
-parts_from GetterBuilder = GetterBuilder ∷ Setter ∷ HaserReader ∷ HaserBuilder ∷ []
-parts_from Setter = Setter ∷ HaserReader ∷ HaserBuilder ∷ []
-parts_from HaserReader = HaserReader ∷ HaserBuilder ∷ []
-parts_from HaserBuilder = HaserBuilder ∷ []
-parts_from Zero = Zero ∷ []
+-- all parts of an F line in their order, and the one part of a G line
+abbrev pub slot_parts : List Part
+slot_parts = GetterReader ∷ GetterBuilder ∷ Setter ∷ HaserReader ∷ HaserBuilder ∷ []
 
--- all parts of an F line, and the one part of a G line
+abbrev pub group_parts : List Part
+group_parts = Zero ∷ []
+
 abbrev pub parts_of : Arm → List Part
-parts_of (slot s) = parts_from GetterReader
-parts_of (group id) = parts_from Zero
+parts_of (slot s) = slot_parts
+parts_of (group id) = group_parts
 
 -- the accessor that is asked for a part: a getter in the form that is not a function
 abbrev pub accessor_of : Part → Accessor

@@ -5,19 +5,19 @@
 
 use field::Field;
 use nodes::Source;
-use requests::Accessor;
+use requests::{Accessor, Located};
 use terms::Refusal;
 use text::Text;
 
 mod print;
 
-ghost use Rattle.std.specs.Prelude.{◌≡◌, ◌∷◌, ◌*◌, length};
+ghost use Rattle.std.specs.Prelude.{◌≡◌, ◌*◌, length};
 ghost use Rattle.text.specs.Text.{Wrote};
 ghost use Rattle.requests.specs.Requests.{accessor_text};
 ghost use Rattle.requests.specs.Told.{OfField};
-ghost use Rattle.parts.specs.Program.{parts_from, accessor_of, header_text, refused_text, part_text};
+ghost use Rattle.parts.specs.Program.{accessor_of, header_text, refused_text, part_text};
 ghost use Rattle.parts.specs.Program.{opening as Program·opening};
-ghost use Rattle.parts.specs.Fit.{part_most, fit_of, Within, TakesAtMost, Puts, parts_after, PartPut, PartsPut, FieldPut};
+ghost use Rattle.parts.specs.Fit.{part_most, fit_of, Within, TakesAtMost, Puts, PartPut, PartsPut, FieldPut};
 ghost use Rattle.parts.specs.Fit.{SaidUnder, Under, NotLong};
 
 pub use print::{claims, print_sheet};
@@ -25,7 +25,7 @@ pub use print::{claims, print_sheet};
 // The bytes that a text has at most; a longer one is refused with 22.
 const TEXT_SIZE: usize = 65536;
 
-// A part of a field: the first five are those of a slot, the last is a group's.
+// A part of a field.
 #[derive(Clone, Copy)]
 enum Part {
     GetterReader,
@@ -35,6 +35,18 @@ enum Part {
     HaserBuilder,
     Zero,
 }
+
+// The parts of a slot, in their order.
+const SLOT_PARTS: [Part; 5] = [
+    Part::GetterReader,
+    Part::GetterBuilder,
+    Part::Setter,
+    Part::HaserReader,
+    Part::HaserBuilder,
+];
+
+// The one part of a group.
+const GROUP_PARTS: [Part; 1] = [Part::Zero];
 
 // A part that is to be written, and whether its text is measured before: a flag, as both ways then call the same functions.
 #[derive(Clone, Copy)]
@@ -86,32 +98,19 @@ fn asked(part: Part) -> Accessor
     }
 }
 
-// The part after a part of the same field, if there is one.
-fn next_part(part: Part) -> Option<Part>
-    ensures { parts_from part ≡ part ∷ parts_after result }
-{
-    match part {
-        Part::GetterReader => Some(Part::GetterBuilder),
-        Part::GetterBuilder => Some(Part::Setter),
-        Part::Setter => Some(Part::HaserReader),
-        Part::HaserReader => Some(Part::HaserBuilder),
-        Part::HaserBuilder => None,
-        Part::Zero => None,
-    }
-}
-
 // The header of a part up to the name.
 fn opening(part: Part, t: Text, buf: &mut [u8]) -> Text
     ensures { Wrote buf.old t (Program·opening part) buf.new result }
 {
-    match part {
-        Part::GetterReader => t.bytes(buf, b"# getter reader "),
-        Part::GetterBuilder => t.bytes(buf, b"# getter builder "),
-        Part::Setter => t.bytes(buf, b"# setter "),
-        Part::HaserReader => t.bytes(buf, b"# haser reader "),
-        Part::HaserBuilder => t.bytes(buf, b"# haser builder "),
-        Part::Zero => t.bytes(buf, b"# zero "),
-    }
+    let head: &[u8] = match part {
+        Part::GetterReader => b"# getter reader ",
+        Part::GetterBuilder => b"# getter builder ",
+        Part::Setter => b"# setter ",
+        Part::HaserReader => b"# haser reader ",
+        Part::HaserBuilder => b"# haser builder ",
+        Part::Zero => b"# zero ",
+    };
+    t.bytes(buf, head)
 }
 
 // The header of a part of the field with a name.
@@ -146,16 +145,15 @@ fn refused(number: u64, buf: &mut [u8]) -> Option<usize>
 // The text of a part of a field that was read, from the start of the buffer on: it is refused too where it is too long.
 fn write_text(
     source: &Source<'_>,
-    field: Field,
-    tag: u64,
+    located: &Located,
     part: Part,
     buf: &mut [u8],
 ) -> Result<Text, Refusal>
-    ensures under { OfField source.now tag field
+    ensures under { OfField source.now located.now.tag located.now.field
         (λ sheet at. Under (accessor_text sheet at (accessor_of part)) buf.old buf.new result) }
     ensures fits { NotLong result }
 {
-    let t = requests::field_accessor(source, field, tag, asked(part), Text::at(0), buf)?;
+    let t = requests::field_accessor(source, located, asked(part), Text::at(0), buf)?;
     if TEXT_SIZE < t.fill() {
         return Err(Refusal::NoRoom);
     }
@@ -163,48 +161,41 @@ fn write_text(
 }
 
 // The refusal of a part's text, if it is refused: it is measured over an empty buffer.
-fn measure(source: &Source<'_>, field: Field, tag: u64, part: Part) -> Result<(), Refusal>
-    ensures { OfField source.now tag field
+fn measure(source: &Source<'_>, located: &Located, part: Part) -> Result<(), Refusal>
+    ensures { OfField source.now located.now.tag located.now.field
         (λ sheet at. SaidUnder result (part_text (accessor_text sheet at (accessor_of part)))) }
 {
     let mut empty = [0u8; 0];
-    write_text(source, field, tag, part, &mut empty)?;
+    write_text(source, located, part, &mut empty)?;
     Ok(())
 }
 
 // The text of a part, which is measured before it is written where the job says so.
 fn job_text(
     source: &Source<'_>,
-    field: Field,
-    tag: u64,
+    located: &Located,
     job: Job,
     buf: &mut [u8],
 ) -> Result<Text, Refusal>
-    ensures under { OfField source.now tag field
+    ensures under { OfField source.now located.now.tag located.now.field
         (λ sheet at. Under (accessor_text sheet at (accessor_of job.part)) buf.old buf.new result) }
     ensures fits { NotLong result }
 {
     if job.measured {
-        measure(source, field, tag, job.part)?;
+        measure(source, located, job.part)?;
     }
-    write_text(source, field, tag, job.part, buf)
+    write_text(source, located, job.part, buf)
 }
 
 // What stands under the header of a part of a field that was read. Where its text is refused or too long, the refusal is written
 // over it.
-fn under_header(
-    source: &Source<'_>,
-    field: Field,
-    tag: u64,
-    job: Job,
-    buf: &mut [u8],
-) -> Option<usize>
+fn under_header(source: &Source<'_>, located: &Located, job: Job, buf: &mut [u8]) -> Option<usize>
     ensures within { Within result buf.new }
     ensures fits { TakesAtMost 65536 buf.old result }
-    ensures said { OfField source.now tag field
+    ensures said { OfField source.now located.now.tag located.now.field
         (λ sheet at. Puts (part_text (accessor_text sheet at (accessor_of job.part))) buf.new result) }
 {
-    match job_text(source, field, tag, job, buf) {
+    match job_text(source, located, job, buf) {
         Ok(t) => taken(t, buf),
         Err(refusal) => refused(refusal.number(), buf),
     }
@@ -214,76 +205,65 @@ fn under_header(
 fn write_part(
     source: &Source<'_>,
     name: &[u8],
-    field: Field,
-    tag: u64,
+    located: &Located,
     job: Job,
     out: &mut [u8],
 ) -> Option<usize>
     ensures within { Within result out.new }
     ensures fits { TakesAtMost (part_most name.now) out.old result }
-    ensures said { PartPut source.now tag field name.now job.part out.new result }
+    ensures said { PartPut source.now located.now.tag located.now.field name.now job.part out.new result }
 {
     let t = header(name, job.part, Text::at(0), out);
     let n = t.fill();
     if out.len() < n {
         return None;
     }
-    let m = under_header(source, field, tag, job, &mut out[n..])?;
+    let m = under_header(source, located, job, &mut out[n..])?;
     Some(n + m)
 }
 
-// The parts of a field from one on.
+// Parts of a field, one after the other.
 fn write_parts(
     source: &Source<'_>,
     name: &[u8],
-    field: Field,
-    tag: u64,
-    first: Job,
+    located: &Located,
+    parts: &[Part],
+    measured: bool,
     out: &mut [u8],
 ) -> Option<usize>
     ensures within { Within result out.new }
-    ensures fits { TakesAtMost (length (parts_from first.part) * part_most name.now) out.old result }
-    ensures said { PartsPut source.now tag field name.now first.part out.new result }
+    ensures fits { TakesAtMost (length parts.now * part_most name.now) out.old result }
+    ensures said { PartsPut source.now located.now.tag located.now.field name.now parts.now out.new result }
 {
-    let measured = first.measured;
-    let mut part = first.part;
     let mut n: usize = 0;
-    // The next part is what `next_part` says.
-    loop {
+    for &part in parts {
         let job = Job { part, measured };
-        n += write_part(source, name, field, tag, job, &mut out[n..])?;
-        let Some(next) = next_part(part) else {
-            return Some(n);
-        };
-        part = next;
+        n += write_part(source, name, located, job, &mut out[n..])?;
     }
+    Some(n)
 }
 
 // Whether a getter of the field is refused or too long, where its type may have scopes. The texts of such a field are measured
 // before they are written, each as far as the Rust comes; those of any other are written at once.
-fn is_refused(source: &Source<'_>, field: Field, tag: u64) -> bool {
-    requests::may_have_scopes(field) && measure(source, field, tag, Part::GetterReader).is_err()
+fn is_refused(source: &Source<'_>, located: &Located) -> bool {
+    requests::may_have_scopes(located.field)
+        && measure(source, located, Part::GetterReader).is_err()
 }
 
 // All that is printed of a field: of a slot five parts, of a group its zeroing.
-fn write_field(source: &Source<'_>, field: Field, tag: u64, out: &mut [u8]) -> Option<usize>
+fn write_field(source: &Source<'_>, located: &Located, out: &mut [u8]) -> Option<usize>
     ensures within { Within result out.new }
-    ensures said { FieldPut source.now tag field out.old out.new result }
+    ensures said { FieldPut source.now located.now.tag located.now.field out.old out.new result }
 {
-    match field {
+    match located.field {
         Field::Slot(slot) => {
-            let first = Job {
-                part: Part::GetterReader,
-                measured: is_refused(source, field, tag),
-            };
-            write_parts(source, slot.name(source.bytes), field, tag, first, out)
+            let name = slot.name(source.bytes);
+            let measured = is_refused(source, located);
+            write_parts(source, name, located, &SLOT_PARTS, measured, out)
         }
         Field::Group(group) => {
-            let only = Job {
-                part: Part::Zero,
-                measured: false,
-            };
-            write_parts(source, group.name(source.bytes), field, tag, only, out)
+            let name = group.name(source.bytes);
+            write_parts(source, name, located, &GROUP_PARTS, false, out)
         }
     }
 }

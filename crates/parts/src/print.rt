@@ -23,6 +23,7 @@ ghost use Rattle.parts.specs.declared.Place.TheVariants.{At, End};
 
 use crate::{Piece, Place, Turn, taken, write_field};
 use nodes::Source;
+use requests::Located;
 use sheet::Refused;
 use std::io::{self, Print};
 use terms::limits;
@@ -123,7 +124,11 @@ fn field_turn(sheet: &Printed<'_>, node: usize, at: usize, out: &mut [u8]) -> Tu
             next: next_node(&sheet.source, node),
         };
     };
-    let fit = write_field(&sheet.source, field, tag_of(&sheet.source, node), out);
+    let located = Located {
+        tag: tag_of(&sheet.source, node),
+        field,
+    };
+    let fit = write_field(&sheet.source, &located, out);
     Turn {
         fit,
         next: Place::At {
@@ -212,7 +217,7 @@ fn print_pieces(
 }
 
 // The same over the small buffer, from the start of a short sheet; a longer one is left to the large buffer, so that no unit of
-// it is tried in the small one first. Each buffer has its own function, so that the stack holds one of them at a time.
+// it is tried in the small one first. The buffer stands here and not in `print_sheet`, so that the stack holds one at a time.
 fn print_small(rt: &HostRuntime, sheet: &Printed<'_>, start: Place) -> io::Result<Place>
     requires { Left sheet.now.source.bytes.now sheet.now.source.index.now start
         (program_text (admitted sheet.now.source.bytes.now)) }
@@ -226,7 +231,7 @@ fn print_small(rt: &HostRuntime, sheet: &Printed<'_>, start: Place) -> io::Resul
 }
 
 // The same over a buffer that holds any unit, from a place where something is left. It asks more of the place than `print_small`
-// can say, so that one function with the size as a parameter would let a sheet be printed again from its start.
+// can say: one function with the size as a parameter was tried, and lets a sheet be printed again from its start.
 fn print_large(rt: &HostRuntime, sheet: &Printed<'_>, start: Place) -> io::Result<Place>
     requires reached { Reached sheet.now.source.bytes.now sheet.now.source.index.now start }
     requires more { start ≡ End → ⊥ }

@@ -1,5 +1,6 @@
 // What the programs share: reading standard input, the lines and sheets of an input, and how much of a buffer a text state has
-// filled. Each program has a `main` of its own: its buffers and its messages are its own.
+// filled. Each program has a `main` of its own: one for all, over the size of its buffer as a const parameter, would take each
+// message and what is done with the input as arguments, and whether a failed write is a message or the error itself.
 #![tactic(auto)]
 
 ghost use Rattle.std.specs.Prelude.{◌≡◌, ◌+◌, ◌≤◌, min, max, length};
@@ -14,7 +15,7 @@ use text::Text;
 // How often a read that a signal interrupted is tried again.
 const TRIES: usize = 4096;
 
-// Where a sheet starts and ends among others.
+// Where a sheet starts and ends among others. It is no `row::Span`, as this crate stands over texts alone.
 #[derive(Clone, Copy)]
 pub struct Sheet {
     pub start: usize,

@@ -16,16 +16,12 @@ use Rattle.record.specs.Offsets.{bytes_of}
 use Rattle.record.specs.Record.{read, write}
 use Rattle.record.proofs.BitLaws.{of_to, to_bits-at, to_bits_append, to_bits_mod}
 
-pub bytes_rest : (b : ℕ) (l : List ℕ) → Bytes (b ∷ l) → Bytes l
+bytes_rest : (b : ℕ) (l : List ℕ) → Bytes (b ∷ l) → Bytes l
 bytes_rest b l h i = h (suc i)
 
 bytes_drop : (n : ℕ) (l : List ℕ) → Bytes l → Bytes (drop n l)
 bytes_drop (suc n) (x ∷ l) h = bytes_drop n l (bytes_rest x l h)
 bytes_drop _ _ h = h
-
-pub bytes_end : (a b : List ℕ) → Bytes (a ++ b) → Bytes b
-bytes_end [] b h = h
-bytes_end (x ∷ a) b h = bytes_end a b (bytes_rest x (a ++ b) h)
 
 bytes_take : (n : ℕ) (l : List ℕ) → Bytes l → Bytes (take n l)
 bytes_take zero l h i = zero-lt-suc 255

@@ -1,26 +1,27 @@
 -- What the code does to bytes is what the definitions do to bits: a law for each operation, inside the section and past it, one
--- for each answer of the code, from where it looked and what it found there, and one for each turn of a loop. Assumes nothing.
+-- for each answer of the code, from where it looked and what it found there. Assumes nothing.
 use mathlib.Core.Path.{◌≡◌, refl, sym, ap, ◌∙◌, subst}
 use mathlib.Core.Bool.{Bool, true, false, not, beq}
 use Rattle.std.specs.Prelude.{Option, None, Some, Ok, Err, ⊤, MatchOption}
 use Rattle.std.specs.Slice.{IsItemAt, IsGetRangeResult}
 use denote.Ref.{Bor}
-use Rattle.std.specs.List.{push, slice_range}
+use Rattle.std.specs.List.{slice_range}
 use Rattle.std.specs.Int.RustNames.{bit_or, bit_and}
 use mathlib.Core.Logic.{◌⊎◌, inl, inr}
 use mathlib.Core.List.{List, [], ◌∷◌, ◌++◌, append_assoc, append-nil}
 use Prim.Native.Nat.{ℕ, zero, suc, ◌+◌, ◌-◌, ◌*◌, ◌/◌, ◌%◌, ◌^◌, ◌≤◌, ◌<◌}
-use native.Mathlib.Nat.{mod-lt, mod-eq_of_lt, div-add-mod', zero-lt-suc, pow-succ', one-le-pow, one-mul, zero-mul}
+use native.Mathlib.Nat.{mod-lt, mod-eq_of_lt, div-add-mod', zero-lt-suc, pow-suc, one-mul, zero-mul, div-one, div-div-eq-div-mul}
+use Rattle.std.specs.Int.{w64, byte_at, byte_worth, bytes_low_first, sum_through, to_le_bytes, from_le_bytes}
 use native.Mathlib.Omega.{arith}
 use lib.Arith.{digits_div, digits_mod}
 use lib.Bits.{bit_xor, xor_lt, or_zero_r}
-use Rattle.std.proofs.lemmas.Nat.{or_shifted, or_disjoint, shr_high, shr_split, and_mask, and-not, and_comm}
+use Rattle.std.proofs.lemmas.Nat.{or_disjoint, shr_high, shr_split, and_mask, and-not, and_comm}
 use Rattle.std.proofs.lemmas.Nat.Bits.{and_pow}
 use borrow.Rule.Slice.PartMut.{put_mid}
 use lib.Dec.{eqb, lit<}
-use lib.ListN.{length, take, drop, get_or, set, length-append, length-set, length-take, length-drop}
+use lib.ListN.{replicate, drop_of_length-le, length, take, drop, get_or, set, length-append, length-take, length-drop}
 use lib.Pow.{high, low, pow_pos, pow-lt, shl_exact}
-use lib.Seq.{drop-cons, take_at, drop_at, sets, set_split, set_out, take-suc-set, take_all, sets-eq, drop-drop}
+use lib.Seq.{drop-cons, take_at, drop_at, sets, set_split, set_out, sets-eq, drop-drop}
 use Rattle.record.specs.Bits.{to_bits, bit, with_bit, section_bits, little, little_bytes, flags}
 use Rattle.record.specs.Bytes.{Bytes, SetBytesHolds}
 use Rattle.record.specs.Offsets.{Place, bytes_of, bool_at, data_at, from, bit_count}
@@ -37,7 +38,7 @@ use Rattle.record.specs.declared.Width.TheVariants.{One}
 use Rattle.record.proofs.BitLaws.{length-to_bits, length-xors, bit-two, to_bits_append, to_bits_mod, mask_bits}
 use Rattle.record.proofs.BitLaws.{mask_alone, xors_xor}
 use Rattle.record.proofs.SectionLaws.{write-part, length-read, found_inside, found-past, stored-inside, stored_past}
-use Rattle.record.proofs.ByteLaws.{bytes_rest, bytes_end, length_section, read_section, write_section, bool_at_lem, number_at}
+use Rattle.record.proofs.ByteLaws.{length_section, read_section, write_section, bool_at_lem, number_at}
 use Rattle.record.proofs.ByteLaws.{to_bits-bytes, length-little_bytes, length-flags, flag_at}
 
 -- ---- one bit of a byte
@@ -330,61 +331,64 @@ module _ (l : List ℕ) (i : PointerOffset) (a : ℕ) (e : a ≡ pointer_address
       let k = rw e at h in
       record { answer = rw (clear-past l i k); left = rw (clear-past l i k); bytes = sym (set_out l i.0 0 k) }
 
--- ---- loops
+-- ---- the bytes of a word
 
--- bytes are a number below 256 to their count
-little-below : (n : ℕ) (l : List ℕ) → Bytes l → length l ≤ n → little l < 256 ^ n
-little-below n [] b h = one-le-pow n 256 (zero-lt-suc 255)
-little-below zero (x ∷ l) b h = absurd (omega arith)
-little-below (suc n) (x ∷ l) b h = rw pow-succ' (omega (arith, little-below n l (bytes_rest x l b) (omega arith), b 0))
+-- a number is its byte and what stands behind it; past the bytes both are 0
+little-step : (i : ℕ) (l : List ℕ) → little (drop i l) ≡ get_or l i 0 + 256 * little (drop (suc i) l)
+little-step zero [] = refl
+little-step zero (b ∷ l) = refl
+little-step (suc i) [] = refl
+little-step (suc i) (b ∷ l) = little-step i l
 
--- the number of the bytes behind the ones that are still to come
-pub record Loaded (bytes rest : List ℕ) (word : ℕ) : Type 0 where
-  pub behind : List ℕ
-  pub whole : rest ++ behind ≡ bytes
-  pub number : word ≡ little behind
+-- one byte more of these is one less of those behind them
+one-more : {n : ℕ} (s b p r : ℕ) → s + p * (b + 256 * r) ≡ n → s + b * p + p * 256 * r ≡ n
+one-more s b p r e = omega arith
 
--- the last of those that are still to come is put in front of these
-pub loaded_turn : {bytes rest next : List ℕ} {word : ℕ} (byte : ℕ) → Bytes bytes → length bytes ≤ 8 → rest ≡ push next byte
-    → Loaded bytes rest word → Loaded bytes next (bit_or (word * 256 % 2 ^ 64) byte)
-loaded_turn {bytes} {rest} {next} {word} byte small few last l =
-    let e : next ++ (byte ∷ l.behind) ≡ bytes =
-    sym (append_assoc next (byte ∷ []) l.behind) ∙ ap (λ (r : List ℕ). r ++ l.behind) (sym last) ∙ l.whole in
-    let b : Bytes (byte ∷ l.behind) = bytes_end next (byte ∷ l.behind) (rw (← e) at small) in
-    let n : length l.behind ≤ 7 = omega (arith, few, ap length e, length-append next (byte ∷ l.behind)) in
-    let h : word < 256 ^ 7 = rw l.number (little-below 7 l.behind (bytes_rest byte l.behind b) n) in
-    let m : word * 256 % 2 ^ 64 ≡ word * 256 = mod-eq_of_lt (omega arith) in
-    record { behind = byte ∷ l.behind; whole = e; number = rw m (or_shifted word 8 byte (b 0) ∙ omega (arith, l.number)) }
+-- so many bytes by their worth, and what stands behind them
+worth-through : (k : ℕ) (l : List ℕ)
+    → sum_through (λ (i : ℕ). byte_worth i (get_or l i 0)) k + 256 ^ suc k * little (drop (suc k) l) ≡ little l
+worth-through zero l = omega (arith, little-step 0 l)
+worth-through (suc k) l =
+    rw (pow-suc 256 (suc k))
+    (one-more _ (get_or l (suc k) 0) (256 ^ suc k) _ (rw (little-step (suc k) l) at (worth-through k l)))
 
--- where none is still to come, the number is that of the bytes
-pub loaded_all : {bytes : List ℕ} {word : ℕ} (rest : List ℕ) → length rest ≡ 0 → Loaded bytes rest word → word ≡ little bytes
-loaded_all [] n l = rw (← l.whole) l.number
-loaded_all (x ∷ rest) n l = absurd (omega arith)
+-- zeros are 0, and change no number that they stand behind
+little_zeros : (n k : ℕ) → little (drop n (replicate k 0)) ≡ 0
+little_zeros zero zero = refl
+little_zeros zero (suc k) = rw (little_zeros zero k)
+little_zeros (suc n) zero = refl
+little_zeros (suc n) (suc k) = little_zeros n k
 
--- what the loop has put, and what it is still to put, are the bytes of the number
-pub record Filling (bytes : List ℕ) (word i : ℕ) (now : List ℕ) (left : ℕ) : Type 0 where
-  pub kept : length now ≡ length bytes
-  pub made : take i now ++ little_bytes (length bytes - i) left ≡ little_bytes (length bytes) word
+little-front : (l rest : List ℕ) → little rest ≡ 0 → little (l ++ rest) ≡ little l
+little-front [] rest e = e
+little-front (b ∷ l) rest e = rw (little-front l rest e)
 
-pub filling_turn : {bytes now : List ℕ} {word i left : ℕ} → i < length now → Filling bytes word i now left
-    → Filling bytes word (i + 1) (set now i (left % 256)) (left / 256)
-filling_turn {bytes} {now} {word} {i} {left} h f =
-    let e : i + 1 ≡ suc i = omega arith in
-    let k : length bytes - i ≡ suc (length bytes - (i + 1)) = omega (arith, f.kept) in
-    let made = rw k at f.made in
-    record {
-      kept = length-set now i (left % 256) ∙ f.kept;
-      made = rw (
-        ap (λ (j : ℕ). take j (set now i (left % 256))) e,
-        take-suc-set now i (left % 256) h,
-        append_assoc (take i now) (left % 256 ∷ []) (little_bytes (length bytes - (i + 1)) (left / 256)),
-      ) made;
-    }
+-- nothing stands behind eight bytes
+little_drop : (l : List ℕ) → length l ≡ 8 → little (drop 8 l) ≡ 0
+little_drop l e = rw (drop_of_length-le l {i = 8} (omega arith))
 
-pub filled : {bytes now : List ℕ} {word i left : ℕ} → length bytes ≤ i → Filling bytes word i now left
-    → now ≡ little_bytes (length bytes) word
-filled {bytes} {now} {word} {i} {left} h f =
-    let z : length bytes - i ≡ 0 = omega arith in
-    sym (take_all i now (omega (arith, f.kept)))
-    ∙ sym (append-nil (take i now))
-    ∙ rw z at f.made
+-- the number of the bytes in front of so many zeros as make them eight
+pub loaded : {bytes front : List ℕ} {word : ℕ} → length bytes ≤ 8 → front ≡ bytes
+    → word ≡ from_le_bytes w64 (front ++ drop (length bytes) (replicate 8 0)) → word ≡ little bytes
+loaded {bytes} h e f =
+    let zeros : List ℕ = drop (length bytes) (replicate 8 0) in
+    let l : List ℕ = bytes ++ zeros in
+    let size : length l ≡ 8 = rw (length-append bytes zeros) (simp (length-drop) (omega arith)) in
+    rw e at f ∙ omega (arith, worth-through 7 l, little_drop l size) ∙ little-front bytes zeros (little_zeros (length bytes) 8)
+
+-- a byte of a word by what stands from it on
+byte-of : (i word : ℕ) → byte_at i word ≡ word / 256 ^ i % 256
+byte-of zero word = rw (div-one word)
+byte-of (suc i) word = refl
+
+-- the front of a word's bytes, from one of them on
+low-front : (i n k word : ℕ) → n ≤ k → take n (bytes_low_first i k word) ≡ little_bytes n (word / 256 ^ i)
+low-front i zero k word h = refl
+low-front i (suc n) zero word h = absurd (omega arith)
+low-front i (suc n) (suc k) word h =
+    rw (byte-of i word, low-front (suc i) n k word (omega arith), pow-suc, div-div-eq-div-mul word (256 ^ i) 256)
+
+-- the low bytes of a word
+pub low_bytes : {front bytes : List ℕ} (n word : ℕ) → n ≤ 8 → bytes ≡ to_le_bytes w64 word → front ≡ take n bytes
+    → front ≡ little_bytes n word
+low_bytes n word h e f = rw (div-one word) at (rw e at f ∙ low-front 0 n 8 word h)

@@ -49,7 +49,7 @@ pub struct NoWidth(pub u32);
 pub struct NoMeaning;
 
 impl Width {
-    // The width in bytes.
+    // The width in bytes: a method, as a `From` would not say what the number counts.
     pub fn bytes(self) -> usize
         ensures { result ≡ bytes_of self }
     {
@@ -126,28 +126,24 @@ fn with_bit(b: u8, at: u32, on: bool) -> u8
 }
 
 // the number that the bytes are, little-endian
-#[tactic(auto, using(crate::proofs::OperationLaws::loaded_turn, crate::proofs::OperationLaws::loaded_all))]
+#[tactic(auto, using(crate::proofs::OperationLaws::loaded))]
 fn load(bytes: &[u8]) -> u64
     requires { length bytes.now ≤ 8 }
     ensures { result ≡ little bytes.now }
 {
-    let mut word = 0;
-    for byte in bytes.iter().rev() {
-        word = (word << 8) | u64::from(*byte);
-    }
-    word
+    let mut word = [0; 8];
+    word[..bytes.len()].copy_from_slice(bytes);
+    u64::from_le_bytes(word)
 }
 
 // fills the bytes with the low ones of a number, little-endian
-#[tactic(auto, using(crate::proofs::OperationLaws::filling_turn, crate::proofs::OperationLaws::filled))]
+#[tactic(auto, using(crate::proofs::OperationLaws::low_bytes))]
 fn store(bytes: &mut [u8], word: u64)
+    requires { length bytes.old ≤ 8 }
     ensures { bytes.new ≡ little_bytes (length bytes.old) word }
 {
-    let mut left = word;
-    for byte in bytes.iter_mut() {
-        *byte = (left % 256) as u8;
-        left /= 256;
-    }
+    let n = bytes.len();
+    bytes.copy_from_slice(&word.to_le_bytes()[..n]);
 }
 
 // ---- Bools

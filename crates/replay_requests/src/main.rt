@@ -73,12 +73,8 @@ fn print_request(rt: &HostRuntime, sheet: &[u8], asked: &[u8]) -> io::Result<()>
 
 // Prints the answers to the requests of a sheet.
 fn replay_requests(rt: &HostRuntime, sheet: &[u8], requests: &[u8]) -> io::Result<()> {
-    // No `split`: after the last byte 10 it has an empty part, which is no request.
-    let mut at = 0;
-    while at < requests.len() {
-        let end = programs::line_end(requests, at);
-        print_request(rt, sheet, &requests[at..end])?;
-        at = end + 1;
+    for request in requests.split_inclusive(|&b| b == b'\n') {
+        print_request(rt, sheet, request)?;
     }
     Ok(())
 }

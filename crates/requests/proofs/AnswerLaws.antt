@@ -4,21 +4,19 @@ use mathlib.Core.Path.{◌≡◌, refl, ap, ◌∙◌}
 use Rattle.std.specs.Prelude.{Result, Ok, Err}
 use Prim.Native.Nat.{ℕ, ◌+◌, ◌-◌, ◌^◌, ◌≤◌, ◌<◌, min}
 use native.Mathlib.Omega.{arith}
-use borrow.Author.Tests.{lt-ltb, le-ltb}
+use borrow.Author.Tests.{lt-ltb}
 use lib.ListN.{length}
 use Rattle.text.specs.Bytes.{Str}
 use Rattle.text.specs.Text.{put, adv, state_at, Wrote}
 use Rattle.text.specs.declared.Text.{Text}
 use Rattle.text.proofs.AnswerLaws as text-laws
 use Rattle.text.proofs.Places.{adv-at}
-use Rattle.terms.specs.Refusals.{number}
 use Rattle.terms.specs.declared.refusals.Refusal.{Refusal}
 use Rattle.terms.specs.declared.refusals.Refusal.TheVariants.{FillPastEnd, NoRoom}
 use Rattle.tree.proofs.OtherLines.{never}
 use Rattle.codegen_types.specs.Out.{Out, ok, refused}
 use Rattle.codegen_types.specs.Written.{Writes}
 use Rattle.codegen_types.proofs.WrittenLaws.{refusal-is}
-use Rattle.sheet.specs.declared.Refused.{Refused}
 use Rattle.requests.specs.Requests.{Outcome, gives, refuses, outcome}
 use Rattle.requests.specs.Told.{Answered, unplaced, length_of, length_said}
 use Rattle.requests.proofs.LentLaws.{text-end, lent, back, lent-wrote}
@@ -44,10 +42,6 @@ past_end l t (gives w) h =
 past_end l t (refuses k line column) h = record { answer = rw (lt-ltb _ _ h); buffer = refl }
 
 module _ (l : Str) (t : Text) (within : t.at ≤ length l) where
-  -- a refusal changes nothing
-  pub refuses_so : (r : Refused) → Answered l t (refuses (number r.refusal) r.line r.column) l (Err r)
-  refuses_so r = record { answer = rw (le-ltb _ _ within); buffer = refl }
-
   -- a request whose text is w, which does not fit, or fits
   module _ (w : Str) (b : length l < 2 ^ 64 - 1) where
     end : (adv t w).at ≡ min (t.at + length w) (2 ^ 64 - 1)

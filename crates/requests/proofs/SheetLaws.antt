@@ -15,7 +15,7 @@ use Rattle.tree.specs.Reader.{Rows, Reading, got, no, ◌then◌, On}
 use Rattle.tree.specs.Read.{read_nodes, Admitted, sheet, refused, numbered, admitted}
 use Rattle.tree.specs.Read as read
 use Rattle.tree.proofs.OtherLines.{never}
-use Rattle.std.specs.Prelude.{Result, Ok, ⊤}
+use Rattle.std.specs.Prelude.{Option, Result, Ok, ⊤}
 use Rattle.nodes.specs.Index.{Indexed, sheet_of, IsSource}
 use Rattle.nodes.specs.declared.Source.{Source}
 use Rattle.sheet.specs.declared.Refused.{Refused}
@@ -79,7 +79,7 @@ of_sheet s x P u e d h = go (admitted s) (admitted-root s) e d
         rw z at (h sh.nodes d)
     go (refused k line column) root e d = never cc
 
-module _ (s : Str) (x : List ℕ) (id : ℕ) (request : Request) (l : Str) (t : Text) where
+module _ (s : Str) (x : List ℕ) (id : ℕ) (request : Option Request) (l : Str) (t : Text) where
   pub sheet-answered :
       (l' : Str) (a : Result Text Refused) (u : ⊤) → answer_numbers (Ok u) ≡ refusal_in (admitted s)
       → IndexOf s (admitted s) x → (y : Source) → IsSource s x y → RequestAnswered y id request l t l' a

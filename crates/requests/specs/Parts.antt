@@ -43,6 +43,6 @@ module _ (x : Source) where
       OfField x tag f (λ sheet at. Answered l t (outcome (accessor_text sheet at accessor)) l' (all_unplaced r))
 
   -- the answer to any request
-  abbrev pub RequestAsked : ℕ → Request → List ℕ → Text → List ℕ → Result Text Refusal → Type 0
+  abbrev pub RequestAsked : ℕ → Option Request → List ℕ → Text → List ℕ → Result Text Refusal → Type 0
   RequestAsked id request l t l' r =
       InSource x (λ sheet. Answered l t (outcome (request_text sheet id request)) l' (all_unplaced r))

@@ -1,6 +1,6 @@
 -- What can be requested and what it comes to: document 01, 'What can be requested' and the order of refusals. Assumes nothing.
 use Rattle.std.specs.Prelude.{Bool, List, ℕ, ltb, length}
-use Rattle.std.specs.Prelude.{Option}
+use Rattle.std.specs.Prelude.{Option, None, Some}
 use Rattle.text.specs.Bytes.{Str, cond}
 use Rattle.text.specs.Answer as text
 use Rattle.tree.specs.Tree.{Arm, slot, group, Field, Node, Sheet}
@@ -65,14 +65,14 @@ accessor_text sheet at (Haser is_reader) = slot_field at.1 then slot_haser at.0.
 accessor_text sheet at Zeroing = group_of at.1.arm then zeroing_request sheet
 
 -- the request for a text of the field at a place
-abbrev pub of_field : ℕ → Accessor → Request
-of_field = request.Field
+abbrev pub of_field : ℕ → Accessor → Option Request
+of_field place accessor = Some (request.Field place accessor)
 
--- the text of a request of the node with an id, or the number of its refusal; what is no request is 15
-abbrev pub request_text : Sheet → ℕ → Request → Out Str
-request_text sheet id (request.Field place accessor) =
+-- the text of a request of the node with an id, or the number of its refusal; where there is no request, 15
+abbrev pub request_text : Sheet → ℕ → Option Request → Out Str
+request_text sheet id (Some (request.Field place accessor)) =
     field_at sheet.nodes id place then λ at. accessor_text sheet at accessor
-request_text sheet id request.Unknown = refused 15
+request_text sheet id None = refused 15
 
 -- ---- the answer
 
@@ -87,7 +87,7 @@ abbrev pub outcome : Out Str → Outcome
 outcome (ok s) = gives s
 outcome (refused k) = refuses k 0 0
 
-abbrev pub outcome_of : Admitted → ℕ → Request → Outcome
+abbrev pub outcome_of : Admitted → ℕ → Option Request → Outcome
 outcome_of (read.refused k line column) id request = refuses k line column
 outcome_of (read.sheet sheet) id request = outcome (request_text sheet id request)
 

@@ -79,7 +79,7 @@ module _ (x : Source) where
       OfField x tag f (λ sheet at. length_said r ≡ length_of (accessor_text sheet at accessor))
 
   -- the answer to any request of a node
-  abbrev pub RequestAnswered : ℕ → Request → List ℕ → Text → List ℕ → Result Text Refused → Type 0
+  abbrev pub RequestAnswered : ℕ → Option Request → List ℕ → Text → List ℕ → Result Text Refused → Type 0
   RequestAnswered id request l t l' r =
       InSource x (λ sheet. Answered l t (outcome (request_text sheet id request)) l' r)
 

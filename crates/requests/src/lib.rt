@@ -43,19 +43,18 @@ pub enum Accessor {
     Zeroing,
 }
 
-// What can be requested of a node: a text of its field at a place; or, as it is asked by a number that names no request, nothing
-// that there is, which is 15.
+// What can be requested of a node: a text of its field at a place. The request is missing where it was asked for by a number
+// that names none: this is 15, in its order as that of a leaf.
 #[derive(Clone, Copy)]
 pub enum Request {
     Field { place: u64, accessor: Accessor },
-    Unknown,
 }
 
-// A field that was found, and the offset of its node's tag.
+// A field that was read, and the offset of its node's tag.
 #[derive(Clone, Copy)]
-struct Located {
-    tag: u64,
-    field: Field,
+pub struct Located {
+    pub tag: u64,
+    pub field: Field,
 }
 
 // A refusal that names no line: it is none of the sheet's.
@@ -145,21 +144,20 @@ fn group_accessor(
     Ok(zeroed.text)
 }
 
-// An accessor of a field that was read, whose node's tag is at this offset: its text, or its refusal.
+// An accessor of a field that was read: its text, or its refusal.
 pub fn field_accessor(
     source: &Source<'_>,
-    field: Field,
-    tag: u64,
+    located: &Located,
     accessor: Accessor,
     t: Text,
     buf: &mut [u8],
 ) -> Result<Text, Refusal>
-    ensures text { AccessorWritten source.now tag field accessor
+    ensures text { AccessorWritten source.now located.now.tag located.now.field accessor
         buf.old t buf.new result }
     ensures within { Within buf.old t buf.new result }
 {
-    match field {
-        Field::Slot(slot) => slot_accessor(source, slot, tag, accessor, t, buf),
+    match located.field {
+        Field::Slot(slot) => slot_accessor(source, slot, located.tag, accessor, t, buf),
         Field::Group(group) => group_accessor(source, group, accessor, t, buf),
     }
 }
@@ -180,16 +178,11 @@ pub fn may_have_scopes(field: Field) -> bool
 }
 
 // The refusal of an accessor of a field that was read, or the length of its text: it is written over an empty buffer.
-fn measure(
-    source: &Source<'_>,
-    field: Field,
-    tag: u64,
-    accessor: Accessor,
-) -> Result<usize, Refusal>
-    ensures { AccessorMeasured source.now tag field accessor result }
+fn measure(source: &Source<'_>, located: &Located, accessor: Accessor) -> Result<usize, Refusal>
+    ensures { AccessorMeasured source.now located.now.tag located.now.field accessor result }
 {
     let mut empty = [0u8; 0];
-    let measured = field_accessor(source, field, tag, accessor, Text::at(0), &mut empty)?;
+    let measured = field_accessor(source, located, accessor, Text::at(0), &mut empty)?;
     Ok(measured.fill())
 }
 
@@ -198,51 +191,44 @@ fn measure(
 // what the Rust never comes to is not written either.
 pub fn write_accessor(
     source: &Source<'_>,
-    field: Field,
-    tag: u64,
+    located: &Located,
     accessor: Accessor,
     t: Text,
     buf: &mut [u8],
 ) -> Result<Text, Refusal>
-    ensures text { AccessorWritten source.now tag field accessor
+    ensures text { AccessorWritten source.now located.now.tag located.now.field accessor
         buf.old t buf.new result }
     ensures within { Within buf.old t buf.new result }
 {
-    if may_have_scopes(field) {
-        measure(source, field, tag, accessor)?;
+    if may_have_scopes(located.field) {
+        measure(source, located, accessor)?;
     }
-    field_accessor(source, field, tag, accessor, t, buf)
+    field_accessor(source, located, accessor, t, buf)
 }
 
 // The answer for a field that was found: its refusal, 22, or its text. What is written is written into the free part of the
-// buffer, so that no byte before the fill count can change.
+// buffer, so that no byte before the fill count can change. That there is one is a premise of this and two functions below, and
+// no value's fact, as the buffer is lent.
 fn answer_found(
     source: &Source<'_>,
-    located: Located,
+    located: &Located,
     accessor: Accessor,
     t: Text,
     buf: &mut [u8],
 ) -> Result<Text, Refusal>
     requires { t.at ≤ length buf.old }
-    ensures indexed { FieldAnswered source.now located.tag located.field accessor
+    ensures indexed { FieldAnswered source.now located.now.tag located.now.field accessor
         buf.old t buf.new result }
     ensures within { AnswerWithin buf.old t buf.new result }
 {
-    let n = measure(source, located.field, located.tag, accessor)?;
+    let n = measure(source, located, accessor)?;
     let fill = t.fill();
     if buf.len() - fill < n {
         return Err(Refusal::NoRoom);
     }
     let free = &mut buf[fill..];
     // What was measured is not refused now.
-    let _ = field_accessor(
-        source,
-        located.field,
-        located.tag,
-        accessor,
-        Text::at(0),
-        free,
-    );
+    let _ = field_accessor(source, located, accessor, Text::at(0), free);
     Ok(Text::at(fill + n))
 }
 
@@ -262,14 +248,14 @@ fn answer_field(
     let Some(located) = locate(source, id, place) else {
         return Err(Refusal::NotThere);
     };
-    answer_found(source, located, accessor, t, buf)
+    answer_found(source, &located, accessor, t, buf)
 }
 
-// The answer to a request of the node with an id: 21 before anything is looked at.
+// The answer to a request of the node with an id: 21 before anything is looked at; where there is no request, 15.
 fn answer_asked(
     source: &Source<'_>,
     id: u64,
-    request: Request,
+    request: Option<Request>,
     t: Text,
     buf: &mut [u8],
 ) -> Result<Text, Refusal>
@@ -280,8 +266,10 @@ fn answer_asked(
         return Err(Refusal::FillPastEnd);
     }
     match request {
-        Request::Field { place, accessor } => answer_field(source, id, place, accessor, t, buf),
-        Request::Unknown => Err(Refusal::NotThere),
+        Some(Request::Field { place, accessor }) => {
+            answer_field(source, id, place, accessor, t, buf)
+        }
+        None => Err(Refusal::NotThere),
     }
 }
 
@@ -290,17 +278,14 @@ fn answer_asked(
 pub fn answer_in(
     source: &Source<'_>,
     id: u64,
-    request: Request,
+    request: Option<Request>,
     t: Text,
     buf: &mut [u8],
 ) -> Result<Text, Refused>
     ensures indexed { RequestAnswered source.now id request buf.old t buf.new result }
     ensures within { AnswerWithin buf.old t buf.new result }
 {
-    match answer_asked(source, id, request, t, buf) {
-        Ok(end) => Ok(end),
-        Err(refusal) => Err(unplaced(refusal)),
-    }
+    answer_asked(source, id, request, t, buf).map_err(unplaced)
 }
 
 // The answer to a request of the node with an id, over an index that has room for the sheet's nodes: the sheet's own refusal,
@@ -308,7 +293,7 @@ pub fn answer_in(
 fn answer_over<const N: usize>(
     s: &[u8],
     id: u64,
-    request: Request,
+    request: Option<Request>,
     t: Text,
     buf: &mut [u8],
 ) -> Result<Text, Refused>
@@ -327,7 +312,7 @@ fn answer_over<const N: usize>(
 pub fn answer_request(
     s: &[u8],
     id: u64,
-    request: Request,
+    request: Option<Request>,
     t: Text,
     buf: &mut [u8],
 ) -> Result<Text, Refused>
@@ -359,6 +344,10 @@ pub fn text(
     let (Some(entry), Some(field)) = (source.nth(node), field) else {
         return Err(Refusal::NotThere);
     };
-    let end = write_accessor(source, field, entry.tag_offset, accessor, Text::at(0), buf)?;
+    let located = Located {
+        tag: entry.tag_offset,
+        field,
+    };
+    let end = write_accessor(source, &located, accessor, Text::at(0), buf)?;
     Ok(end.fill())
 }

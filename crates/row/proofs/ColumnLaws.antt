@@ -3,16 +3,19 @@
 -- `Left` between two columns, `Column` where one was looked at. Assumes nothing.
 use mathlib.Core.Path.{◌≡◌, refl, sym, ap, ◌∙◌}
 use mathlib.Core.Bool.{Bool, true, false}
-use Rattle.std.specs.Prelude.{Option, None, Some}
-use Prim.Native.Nat.{ℕ, ◌+◌, ◌<◌, ◌≤◌}
+use Rattle.std.specs.Prelude.{Option, None, Some, Result, Ok}
+use Rattle.std.specs.Option.{unwrap_or}
+use Prim.Native.Nat.{ℕ, zero, suc, ◌+◌, ◌<◌, ◌≤◌}
 use native.Mathlib.Decide.{dec_lt}
 use native.Mathlib.Omega.{arith}
-use lib.Dec.{ltb}
+use lib.Dec.{eqb, ltb}
 use lib.ListN.{length, take, drop}
 use borrow.Author.Tests.{lt-ltb, le-ltb}
 use Rattle.text.specs.Bytes.{Str, cond}
-use Rattle.column.specs.Number.{number, within, column_of}
-use Rattle.row.specs.Line.{Content, Bad, fault, letter_of, given, with_number}
+use Rattle.column.specs.Number.{number, within, column_of, most}
+use Rattle.row.specs.Line.{Content, Scope, Bad, fault, letter_of, given, with_number, with_nothing, said_with}
+use Rattle.row.specs.Line.{bind_of, most_count, scope_line}
+use Rattle.row.specs.declared.BadLine.{BadLine}
 
 -- a line that goes on with a number has what a line with a bad number has, and each line that it goes on with
 pub by_number :
@@ -71,10 +74,6 @@ pub none-there :
     → l ≡ Bad (letter_of r.bytes) (fault 16 (r.place + 1)) → l ≡ line r.bytes
 none-there r h z = z ∙ rw h at r.is
 
--- the end of the line is left
-pub at-end : {line : Str → Content} (w : Left line) {l : Content} → l ≡ w.rest → l ≡ line w.bytes
-at-end w e = e ∙ w.is
-
 -- the text at the end is none, and is one
 pub no_text : {p b : Bool} → p ≡ b → p ≡ false → b ≡ false
 no_text e h = sym e ∙ h
@@ -99,3 +98,30 @@ number-bounded t a most f g same = go (ltb (length t) (a + 21)) (number (take 21
     go true o = refl
     go false None = refl
     go false (Some v) = rw (le-ltb v 0 (omega arith)) (inside v (dec_lt most v))
+
+-- an S row's bindings by its two numbers, and its line by those bindings
+abbrev pub bindings_said : ℕ → ℕ → Option ℕ
+bindings_said b n = cond (eqb b 0) None (Some n)
+
+abbrev pub by_bindings : ℕ → ℕ → ℕ → Content
+by_bindings i b n = Scope i (bind_of (bindings_said b n)) (unwrap_or (bindings_said b n) 0)
+
+pub scope-by_bindings :
+    (t : Str)
+    → (with_number t 1 0 (most 64) λ i.
+    with_number t 22 0 1 λ b.
+    with_number t 43 0 (most_count b) λ n. with_nothing t 64 (by_bindings i b n))
+    ≡ scope_line t
+unfolding scope_line most_count
+scope-by_bindings t =
+    number-bounded t 1 (most 64) _ _ λ i h. number-bounded t 22 1 _ _ λ b least.
+    number-bounded t 43 (most_count b) _ _ λ n l. ap (with_nothing t 64) (same i b n least l)
+  where
+    same : (i b n : ℕ) → b ≤ 1 → n ≤ cond (eqb b 0) 0 (most 64) → by_bindings i b n ≡ Scope i b n
+    same i zero n h l = let z : 0 ≡ n = omega arith in ap (Scope i 0) z
+    same i (suc zero) n h l = refl
+    same i (suc (suc b)) n h l = let z : ⊥ = omega arith in absurd z
+
+-- a line goes on with the number that the code read
+pub went-on : {r : Result ℕ BadLine} {v : ℕ} {l : Content} (f : ℕ → Content) → said_with r f ≡ l → r ≡ Ok v → f v ≡ l
+went-on f h e = ap (λ (r : Result ℕ BadLine). said_with r f) (sym e) ∙ h

@@ -5,12 +5,13 @@ use mathlib.Core.List.{List, [], ◌∷◌, ◌++◌}
 use Prim.Native.Nat.{ℕ, zero, suc, ◌+◌, ◌-◌, ◌<◌, ◌≤◌, min}
 use native.Mathlib.Decide.{dec_le}
 use native.Mathlib.Omega.{arith}
-use native.Mathlib.Numerals.{add-one}
 use native.Mathlib.Nat.{add-sub_cancel_left, suc-add, zero-add, sub-zero, suc-sub-suc}
 use lib.ListN.{length, get_or, drop, take, drop_of_length-le, length-take, length-drop}
-use lib.Seq.{drop-cons, drop-drop, take-suc, take_all, take-take, take-nil, length-take-le, get_or-drop, get_or-take}
+use lib.Seq.{drop-cons, drop-drop, take_all, take-take, take-nil, length-take-le, get_or-drop, get_or-take}
 use lib.Dec.{eqb}
 use borrow.Author.Tests.{eq-eqb, ne_eqb}
+use Rattle.std.specs.Prelude.{count_by}
+use Rattle.std.proofs.lemmas.List.Recursion.{is_count_by}
 use Rattle.text.specs.Bytes.{Str, cond, unit}
 use Rattle.row.specs.Rows.{row_len, onto, rows, joined, rest_of, newlines, size, line_no}
 use Rattle.row.specs.Line.{reader, bad_line, line_of, text_start, text_of, text_at}
@@ -199,23 +200,21 @@ newlines_append (x ∷ s) t = go (newlines_append s t) (eqb x 10) refl
     go h true e = rw (newlines, e) (ap suc h ∙ sym (suc-add (newlines s) (newlines t)))
     go h false e = rw (newlines, e) h
 
-pub newline_here : (s : Str) (i : ℕ) → i < length s → get_or s i 0 ≡ 10 → newlines (take (i + 1) s) ≡ newlines (take i s) + 1
+-- they are those bytes that the code counts
+newlines-by : (s : Str) → newlines s ≡ count_by (λ b. eqb b 10) s
 unfolding newlines
-newline_here s i h e = rw (add-one, take-suc s i 0 h, newlines_append (take i s) (unit (get_or s i 0)), e)
-
-pub newline_not : (s : Str) (i : ℕ) → i < length s → (get_or s i 0 ≡ 10 → ⊥) → newlines (take (i + 1) s) ≡ newlines (take i s)
-unfolding newlines
-newline_not s i h e =
-    rw (add-one, take-suc s i 0 h, newlines_append (take i s) (unit (get_or s i 0)), newlines, ne_eqb (get_or s i 0) 10 e)
-    (omega arith)
-
--- one byte more in front of a row
-pub ruleset newline_steps = (newline_here, newline_not)
+newlines-by = is_count_by newlines (λ b. eqb b 10) refl λ b s. go (eqb b 10) (newlines s)
+  where
+    go : (t : Bool) (n : ℕ) → elim t [ true ↦ suc n | false ↦ n ] ≡ cond t (1 + n) n
+    go true n = omega arith
+    go false n = refl
 
 -- the number of the row at a position, by the bytes in front of it
 pub line_no_counted :
-    (s : Str) (at k n : ℕ) → k ≡ min at (length s) → n ≡ suc (newlines (take k s)) → n ≡ line_no s (rows (drop at s))
-line_no_counted s at k n e is = is ∙ ap (λ (t : Str). suc (newlines t)) (same (dec_le at (length s))) ∙ sym (line_no-at s at)
+    (s : Str) (at k n : ℕ) → k ≡ min at (length s) → n ≡ count_by (λ b. eqb b 10) (take k s)
+    → 1 + n ≡ line_no s (rows (drop at s))
+line_no_counted s at k n e is =
+    omega (arith, is ∙ sym (newlines-by (take k s)) ∙ ap newlines (same (dec_le at (length s))), line_no-at s at)
   where
     same : Dec (at ≤ length s) → take k s ≡ take at s
     same (yes l) = let m : k ≡ at = omega arith in rw m

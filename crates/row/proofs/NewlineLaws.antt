@@ -14,7 +14,9 @@ use lib.Dec.{eqb}
 use lib.ListN.{length, get_or, take, drop, drop_of_length-le, length-drop}
 use lib.Seq.{drop-cons, drop-drop}
 use borrow.Author.Tests.{eq-eqb, ne_eqb, eqb-true, eqb-false}
-use Rattle.text.specs.Bytes.{Str}
+use Rattle.std.specs.Option.{option_map}
+use Rattle.std.specs.List.{position_from}
+use Rattle.text.specs.Bytes.{Str, cond}
 use Rattle.row.specs.Rows.{row_len}
 use Rattle.row.specs.Newline.{first_newline, newline_from, FirstAtOrAfter}
 use Rattle.row.specs.Eights.{word_of, newline_bits}
@@ -33,8 +35,27 @@ pub found_none : (s : Str) (i : ℕ) → length s ≤ i → newline_from s i ≡
 unfolding newline_from first_newline
 found_none s i h = rw (drop_of_length-le s h)
 
--- each step of a search byte by byte
-pub ruleset steps = (found_here, found_later, found_none)
+-- the first byte 10 of some bytes, as `position` tells where it stands among them
+first-of : (from i : ℕ) (t : Str) → option_map (λ k. from + k) (position_from (λ b. eqb b 10) i t) ≡ first_newline (from + i) t
+unfolding first_newline
+first-of from i [] = refl
+first-of from i (b ∷ t) = go (eqb b 10) (first-of from (i + 1) t)
+  where
+    go :
+        (p : Bool) → option_map (λ k. from + k) (position_from (λ b. eqb b 10) (i + 1) t) ≡ first_newline (from + (i + 1)) t
+        → option_map (λ k. from + k) (cond p (Some i) (position_from (λ b. eqb b 10) (i + 1) t))
+        ≡ elim p [ true ↦ Some (from + i) | false ↦ first_newline (suc (from + i)) t ]
+    go true e = refl
+    go false e = e ∙ ap (λ k. first_newline k t) (omega arith)
+
+pub position-is :
+    (s : Str) (from : ℕ) (r : Option ℕ) → r ≡ position_from (λ b. eqb b 10) 0 (drop from s)
+    → option_map (λ k. from + k) r ≡ newline_from s from
+unfolding newline_from
+position-is s from r e =
+    ap (option_map (λ k. from + k)) e
+    ∙ first-of from 0 (drop from s)
+    ∙ ap (λ k. first_newline k (drop from s)) (add-zero from)
 
 -- what is found is the first at or after the start: a byte that is passed is none, and the rest goes by how much is left
 module _ (s : Str) (from : ℕ) (other : get_or s from 0 ≡ 10 → ⊥) where

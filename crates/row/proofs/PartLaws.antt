@@ -15,7 +15,7 @@ use borrow.Author.Tests.{eqb-false, ne_eqb, le-ltb}
 use Rattle.terms.specs.Kinds.{number_of, kind_numbered}
 use Rattle.terms.specs.declared.kinds.Kind.{Kind}
 use Rattle.terms.specs.declared.kinds.Kind.TheVariants as kind
-use Rattle.terms.proofs.KindLaws.{as-kind}
+use Rattle.terms.proofs.KindLaws.{number-back}
 use Rattle.text.specs.Bytes.{Str, cond, unit}
 use Rattle.column.specs.Number.{column_of, most}
 use Rattle.column.proofs.PaddedLaws.{column-printed}
@@ -48,14 +48,12 @@ unfolding line_at
 scope-owed [] i b n e = false-true (ap is_part e)
 scope-owed (r ∷ rs) i b n e = scope_counts i b n (printed-line r (Scope i b n) tt e).fits.2
 
--- ---- a T line announces by its kind
+-- ---- a T line announces by its kind, which has a name
 
-module _ (n a b c : ℕ) where
-  -- a number that is none's announces what the last kind's does
-  owed_kind : owed (Typ n a b c) ≡ owed (Typ (number_of (kind_numbered n)) a b c)
-  unfolding owed
-  owed_kind = as-kind (λ (k : ℕ). owed (Typ k a b c))
-      (λ k h. rw (le-ltb k 14 (omega arith), ne_eqb k 14 (λ z. omega arith), le-ltb k 18 h) refl) n
+pub named-kind : (rs : List Str) (k a b c : ℕ) → line_at rs ≡ Typ k a b c → k ≤ 18
+unfolding line_at
+named-kind [] k a b c e = false-true (ap is_part e)
+named-kind (r ∷ rs) k a b c e = (printed-line r (Typ k a b c) tt e).fits.0
 
 module _ (a b c : ℕ) where
   pub owed-none :
@@ -66,6 +64,10 @@ module _ (a b c : ℕ) where
   owed-none kind.Enum l e s i = absurd (e refl)
   owed-none kind.Struct l e s i = absurd (s refl)
   owed-none kind.Interface l e s i = absurd (i refl)
+  owed-none (kind.Unnamed u) l e s i =
+      let n = u.number in
+      let past = u.past in
+      rw (le-ltb n 14 (omega arith), ne_eqb n 14 (λ z. omega arith), le-ltb n 18 (omega arith)) refl
   owed-none k l e s i = refl
 
   pub owed-branded :
@@ -208,7 +210,7 @@ module _ (s : Str) (at : ℕ) (h : at < length s) where
   pub type_owes :
       (n : ℕ) → ((v : ℕ) → column_of s (at + 1) 0 (most 64) ≡ Some v → n ≡ v) → (m k a b c : ℕ)
       → line_at (rows (drop at s)) ≡ Typ k a b c → m ≡ owed (Typ (number_of (kind_numbered n)) a b c) → m ≡ owed (Typ k a b c)
-  type_owes n known m k a b c is e = e ∙ rw (known k (type-kind k a b c is)) (sym (owed_kind k a b c))
+  type_owes n known m k a b c is e = e ∙ rw (number-back n, known k (type-kind k a b c is)) refl
 
   -- what is said of each letter's line is said of the row
   abbrev Told : ℕ → ℕ → Content → Type 0

@@ -1,6 +1,7 @@
 pub mod Rows
 pub mod Newline
 pub mod Eights
+pub mod Fours
 pub mod Line
 pub mod Span
 pub mod Part

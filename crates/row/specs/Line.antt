@@ -3,6 +3,7 @@
 -- text or surplus bytes, with its column (N5). Assumes nothing.
 use Rattle.std.specs.Prelude.{Bool, List, [], ◌∷◌, ℕ, ◌+◌, ◌-◌, eqb, ltb, length, get_or, take, drop}
 use Rattle.std.specs.Prelude.{Option, None, Some, Result, Ok, Err}
+use Rattle.std.specs.Option.{unwrap_or}
 use Prim.Native.Char.{code}
 use Prim.Native.String as S
 use Rattle.text.specs.Bytes.{Str, cond}
@@ -41,6 +42,11 @@ pub data Content : Type 0 where
   Word : ℕ → Content
   Bad : ℕ → Fault → Content
 
+-- the first of the two numbers of an S row's bindings, of which the second is how many they are: 0 inherit or 1 bind
+abbrev pub bind_of : Option ℕ → ℕ
+bind_of None = 0
+bind_of (Some n) = 1
+
 -- what a good line of the code says
 abbrev pub good_said : Line → Content
 good_said line.Root = Root
@@ -50,7 +56,7 @@ good_said line.Parameter = Parameter
 good_said (line.Field offset discriminant explicit option) = Field offset discriminant explicit option
 good_said (line.Group id discriminant) = Group id discriminant
 good_said (line.Typ kind a b c) = Typ (number_of kind) a b c
-good_said (line.Scope id bind count) = Scope id bind count
+good_said (line.Scope id bindings) = Scope id (bind_of bindings) (unwrap_or bindings 0)
 good_said line.Unbound = Unbound
 good_said (line.Value kind bits) = Value (number_of kind) bits
 good_said (line.Word value) = Word value

@@ -12,7 +12,8 @@ const LOW: u64 = 0x7f7f_7f7f_7f7f_7f7f;
 
 const HIGH: u64 = 0x8080_8080_8080_8080;
 
-// The eight bytes from `i` on as one number, the first lowest: one load.
+// The eight bytes from `i` on as one number, the first lowest: one load. With `first_chunk` of the rest the search by words takes
+// 1.12 to 1.22 times as many instructions, and where every line has two bytes more than that by single bytes.
 #[tactic(auto, using(crate::proofs::WordLaws::word_eight))]
 fn eight_bytes(s: &[u8], i: usize) -> u64
     requires { i + 8 ≤ length s.now }
@@ -40,7 +41,8 @@ fn newline_bits(w: u64) -> u64
 }
 
 // How many bytes of a word stand before its first byte 10, by the word's bits. The first four places are told by a test each, so
-// that behind a short line the next search need not wait for a count of zeros.
+// that behind a short line the next search need not wait for a count of zeros: by the count alone it takes 1.46, 1.26 and 1.16
+// times as long where each row has two, three or four bytes, and longer than by single bytes; where lengths vary it takes less.
 fn before_first(bits: u64) -> usize
     ensures { result ≡ count_trailing_zeros 64 bits / 8 }
 {
@@ -59,8 +61,9 @@ fn before_first(bits: u64) -> usize
     (bits.trailing_zeros() / 8) as usize
 }
 
-// The search by words, while eight bytes remain: where the first byte 10 stands, or from where on it is left to seek; for that
-// the place is counted here. Where none stands it takes 0.65 of the instructions of a search by single bytes (`bench/run ends`).
+// The search by words, while eight bytes remain: where the first byte 10 stands, or from where on it is left to seek. Where none
+// stands it takes 0.65 of the instructions of a search by single bytes (`bench/run ends`). By a `for` over `as_chunks`, which
+// needs no place, it takes 1.31 times those where each row has two bytes, and bench/run allows no more than once.
 #[tactic(auto, using(crate::proofs::NewlineLaws::past_word))]
 fn by_words(s: &[u8], from: usize) -> Result<usize, usize>
     ensures { words_said s.now result ≡ newline_from s.now from }
@@ -81,16 +84,12 @@ fn by_words(s: &[u8], from: usize) -> Result<usize, usize>
 }
 
 // The search byte by byte.
-#[tactic(auto, using(crate::proofs::NewlineLaws::steps))]
-fn singly(s: &[u8], from: usize) -> Option<usize>
+pub fn singly(s: &[u8], from: usize) -> Option<usize>
     ensures { result ≡ newline_from s.now from }
 {
-    for i in from..s.len() {
-        if s[i] == b'\n' {
-            return Some(i);
-        }
-    }
-    None
+    let rest = s.get(from..)?;
+    let i = rest.iter().position(|&b| b == b'\n')?;
+    Some(from + i)
 }
 
 // The first byte 10 at or after `from`: by words while eight bytes remain, and the last few singly.

@@ -1,5 +1,5 @@
 // What a line says, by its letter: its numbers and its text from left to right, or the first of them that is bad.
-ghost use Rattle.std.specs.Prelude.{◌≡◌, ◌^◌, ◌<◌, ℕ};
+ghost use Rattle.std.specs.Prelude.{◌≡◌, ℕ};
 ghost use Rattle.text.specs.Bytes.{cond};
 ghost use Rattle.terms.specs.Kinds.{number_of};
 ghost use Rattle.row.specs.Line.{root_line, node_line, parameter_line, field_line, group_line};
@@ -17,7 +17,7 @@ const MOST_32: u64 = 0xffff_ffff;
 const MOST_16: u64 = 0xffff;
 
 // The number of the last kind, and how many kinds there are.
-const LAST_KIND: u64 = Kind::AnyPointer as u64;
+const LAST_KIND: u64 = 18;
 
 const KINDS: usize = 19;
 
@@ -63,10 +63,10 @@ fn letter_of(t: &[u8]) -> u8
 // on in a register: with a call, each took half as many instructions again.
 #[inline(always)]
 #[tactic(auto, unfolding(crate::specs::Line::line_said))]
-fn number(t: &[u8], a: usize, least: u64, most: u64) -> Result<u64, BadLine>
-    requires { a < 2 ^ 16 }
+fn number(t: &[u8], a: u16, least: u64, most: u64) -> Result<u64, BadLine>
     ensures { (f : ℕ → Content) → said_with result f ≡ with_number t.now a least most f }
 {
+    let a = usize::from(a);
     column::column(t, a, least, most).ok_or(BadLine {
         letter: letter_of(t),
         refusal: Refusal::BadNumber,
@@ -76,13 +76,13 @@ fn number(t: &[u8], a: usize, least: u64, most: u64) -> Result<u64, BadLine>
 
 // The line ends in one space at `a` and a good text. With another text after that space, or without a space, it is bad.
 #[tactic(auto, unfolding(crate::specs::Line::line_said))]
-fn text(t: &[u8], a: usize, good: bool) -> Result<(), BadLine>
-    requires { a < 2 ^ 16 }
+fn text(t: &[u8], a: u16, good: bool) -> Result<(), BadLine>
     ensures { (line : Content) → said_with result (λ _. line) ≡ cond good line (Bad (letter_of t.now) (bad_text t.now a)) }
 {
     if good {
         return Ok(());
     }
+    let a = usize::from(a);
     let column = if a < t.len() && t[a] == b' ' {
         a + 2
     } else {
@@ -97,10 +97,10 @@ fn text(t: &[u8], a: usize, good: bool) -> Result<(), BadLine>
 
 // The line ends at `a`. With more bytes or fewer it is bad.
 #[tactic(auto, unfolding(crate::specs::Line::line_said))]
-fn nothing(t: &[u8], a: usize) -> Result<(), BadLine>
-    requires { a < 2 ^ 16 }
+fn nothing(t: &[u8], a: u16) -> Result<(), BadLine>
     ensures { (line : Content) → said_with result (λ _. line) ≡ with_nothing t.now a line }
 {
+    let a = usize::from(a);
     if t.len() == a {
         return Ok(());
     }
@@ -203,7 +203,7 @@ fn most_a(kind: Kind) -> u64
 {
     match kind {
         Kind::Enum | Kind::Struct | Kind::Interface => u64::MAX,
-        Kind::AnyPointer => 1,
+        Kind::AnyPointer | Kind::Unnamed(_) => 1,
         _ => 0,
     }
 }
@@ -215,7 +215,7 @@ fn most_b(kind: Kind, a: u64) -> u64
 {
     match kind {
         Kind::Enum | Kind::Struct | Kind::Interface => u64::MAX,
-        Kind::AnyPointer if a != 0 => u64::MAX,
+        Kind::AnyPointer | Kind::Unnamed(_) if a != 0 => u64::MAX,
         _ => 0,
     }
 }
@@ -226,7 +226,7 @@ fn most_c(kind: Kind, a: u64) -> u64
     ensures { result ≡ most_c (number_of kind) a }
 {
     match kind {
-        Kind::AnyPointer if a != 0 => MOST_16,
+        Kind::AnyPointer | Kind::Unnamed(_) if a != 0 => MOST_16,
         _ => 0,
     }
 }
@@ -261,7 +261,10 @@ fn scope_line(t: &[u8]) -> Result<Line, BadLine>
     let bind = number(t, 22, 0, 1)?;
     let count = number(t, 43, 0, most_count(bind))?;
     nothing(t, 64)?;
-    Ok(Line::Scope { id, bind, count })
+    Ok(Line::Scope {
+        id,
+        bindings: (bind != 0).then_some(count),
+    })
 }
 
 // U: the letter alone.
@@ -278,7 +281,7 @@ fn unbound_line(t: &[u8]) -> Result<Line, BadLine>
 fn most_bits(kind: Kind) -> u64
     ensures { result ≡ most_bits (number_of kind) }
 {
-    MOST_BITS[kind as usize]
+    MOST_BITS.get(kind.number() as usize).copied().unwrap_or(0)
 }
 
 // V: the kind, and bits that fit its width.

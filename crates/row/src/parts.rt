@@ -20,6 +20,8 @@ fn type_owed(s: &[u8], at: usize) -> u64
 }
 
 // What belongs to the T, S or U row at a position. An S row has bindings only where it binds, so that their number is enough.
+// Each arm has its own length and tests it: with a `match` for the length, one test and a `match` for what is owed, `accessors`
+// takes 1.16 times as many instructions for a nest of scopes that bind.
 #[tactic(auto, using(crate::proofs::PartLaws::parts))]
 pub fn part(s: &[u8], at: usize) -> Owing
     ensures { PartAt s.now at result }

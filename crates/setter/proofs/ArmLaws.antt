@@ -50,20 +50,21 @@ use Rattle.codegen.proofs.AroundLaws as around
 use Rattle.setter.specs.Typed.{input_type, set_end, init_end, setter_text_of}
 use Rattle.setter.proofs.TypeLaws.{ElementIs, of_list, element_at}
 use Rattle.setter.proofs.TypeLaws.{at-list, at_enum, at-struct, at-interface, at-any, at-parameter, plain-is}
-use Rattle.setter.proofs.Laws.{made, both_parts, three_parts, only_end, only-writes, both-writes, three_writes}
+use Rattle.setter.proofs.Laws.{made, both_parts, behind_set, three_parts, only_end, only-writes, both-writes, three_writes}
 
 -- the default of a slot of the tree, by its numbers
 default-here : (s : tree.Slot) (r : Slot) → SlotIs r s → s.default ≡ value (number_of r.default) r.bits
 default-here s r is = rw (← is.default, ← is.bits) refl
 
--- what a setter takes, around the text of whatever type is read
-pub on-input : {l l₁ l₂ l₃ : List ℕ} {t t₁ u t₃ : Text} (g : Reading Ty) (sheet : Sheet)
-    → On g (λ ty. Writes (type_string ty sheet Owned) l₁ t₁ l₂ (Ok u))
-    → ((w : Str) → Wrote l₁ t₁ w l₂ u → Wrote l t (setter_input sheet.root w) l₃ t₃)
-    → On g (λ ty. Writes (input_type sheet ty) l t l₃ (Ok t₃))
-on-input {l} {l₁} {l₂} {l₃} {t} {t₁} {u} {t₃} g sheet x h =
-    on_one (λ ty. Writes (type_string ty sheet Owned) l₁ t₁ l₂ (Ok u)) (λ ty. Writes (input_type sheet ty) l t l₃ (Ok t₃)) g
-    (λ ty y. around.made (setter_input sheet.root) (type_string ty sheet Owned) y h) x
+-- what is made of the text of whatever type is read
+pub on-made : {l l₁ l₂ l₃ : List ℕ} {t t₁ u t₃ : Text} (g : Reading Ty) (sheet : Sheet) (leaf : Leaf) (f : Str → Str)
+    → On g (λ ty. Writes (type_string ty sheet leaf) l₁ t₁ l₂ (Ok u))
+    → ((w : Str) → Wrote l₁ t₁ w l₂ u → Wrote l t (f w) l₃ t₃)
+    → On g (λ ty. Writes (type_string ty sheet leaf then λ w. ok (f w)) l t l₃ (Ok t₃))
+on-made {l} {l₁} {l₂} {l₃} {t} {t₁} {u} {t₃} g sheet leaf f x h =
+    on_one (λ ty. Writes (type_string ty sheet leaf) l₁ t₁ l₂ (Ok u))
+    (λ ty. Writes (type_string ty sheet leaf then λ w. ok (f w)) l t l₃ (Ok t₃)) g
+    (λ ty y. around.made f (type_string ty sheet leaf) y h) x
 
 -- a refusal of document 01, by its number
 ok-some : {j k : ℕ} → ◌≡◌ {A = Option ℕ} (Some j) (Some k) → j ≡ k
@@ -199,19 +200,6 @@ module _ (bytes : Str) (r : Slot) (f : SlotField) (here : SlotHere bytes r f) wh
 
       -- it is not, and what comes after it is
       module _ (u : Text) (l₄ : List ℕ) (t₄ : Text) (l₅ : List ℕ) (e : Refusal) where
-        pub struct-later : number_of r.kind ≡ 16 → There (read (Reader Anonymous)) l₁ t₁ l₂ (Ok u)
-            → There (read (Builder A)) l₄ t₄ l₅ (Err e) → Writes text l t l' (Err e)
-        struct-later k x y =
-            let p = text-of (typ (Reader Anonymous)) (there (read (Reader Anonymous)) l₁ t₁ l₂ (Ok u) x) in
-            rw (struct-is k, p.is, refusal-is (typ (Builder A)) (there (read (Builder A)) l₄ t₄ l₅ (Err e) y)) (refused-text refl)
-
-        pub list-later : number_of r.kind ≡ 14 → ListReader l₁ t₁ l₂ (Ok u) → There (read (Builder A)) l₄ t₄ l₅ (Err e)
-            → Writes text l t l' (Err e)
-        list-later k x y =
-            let arm = list-is k in
-            let p = text-of (list_reader_type sheet arm.0 f.slot.ty) (list_reader l₁ t₁ l₂ (Ok u) x arm.0 arm.1) in
-            rw (arm.2, p.is, refusal-is (typ (Builder A)) (there (read (Builder A)) l₄ t₄ l₅ (Err e) y)) (refused-text refl)
-
         pub parameter-later : number_of r.kind ≡ 18 → (r.id ≡ 0 → ⊥) → There (read (Builder A)) l₁ t₁ l₂ (Ok u)
             → There (input_type sheet) l₄ t₄ l₅ (Err e) → Writes text l t l' (Err e)
         parameter-later k n x y =
@@ -229,31 +217,34 @@ module _ (bytes : Str) (r : Slot) (f : SlotField) (here : SlotHere bytes r f) wh
       enum-later u e k x m =
           let p = text-of (get_qualified_module sheet r.id) x in rw (enum-is k, p.is, ← m) (refused-text refl)
 
-    -- nothing is refused
-    module _ {l l₁ l₂ l₃ l₄ l₅ l₆ : List ℕ} {t t₁ t₃ t₄ t₆ v w : Text} where
-      pub struct-here : number_of r.kind ≡ 16 → Wrote l t (set_open name) l₁ t₁ → There (read (Reader Anonymous)) l₁ t₁ l₂ (Ok v)
-          → Wrote l₂ v (set_end sheet.root tag r.discriminant r.offset) l₃ t₃
-          → Wrote l₃ t₃ (init_open name false) l₄ t₄ → There (read (Builder A)) l₄ t₄ l₅ (Ok w)
-          → Wrote l₅ w (init_end tag r.discriminant (init_pointer sheet.root r.offset (ascii "0"))) l₆ t₆
-          → Writes text l t l₆ (Ok t₆)
-      struct-here k a x b c y e =
+    -- the first type is not refused, and what follows it may be
+    abbrev follow : Bool → Str → Ty → Out Str
+    follow sized size ty =
+        read (Builder A) ty then λ b.
+        ok (behind_set sheet.root tag name r.discriminant r.offset sized (init_pointer sheet.root r.offset size) b)
+
+    module _ {l l₁ l₃ : List ℕ} {t t₁ : Text} {q : Result Text Refusal} (l₂ : List ℕ) (v : Text) where
+      followed : (sized : Bool) (size : Str) (o : Out Str) → Wrote l t (set_open name) l₁ t₁ → Writes o l₁ t₁ l₂ (Ok v)
+          → There (follow sized size) l₂ v l₃ q
+          → Writes (from (o then λ a. typ (Builder A) then λ b. ok (both sized size a b))) l t l₃ q
+      followed sized size o a x y =
+          both-writes sheet.root tag name r.discriminant r.offset sized (init_pointer sheet.root r.offset size)
+          o (typ (Builder A)) a x (there (follow sized size) l₂ v l₃ q y)
+
+      pub struct-here : number_of r.kind ≡ 16 → Wrote l t (set_open name) l₁ t₁
+          → There (read (Reader Anonymous)) l₁ t₁ l₂ (Ok v) → There (follow false (ascii "0")) l₂ v l₃ q → Writes text l t l₃ q
+      struct-here k a x y =
           rw (struct-is k)
-          (both-writes sheet.root tag name r.discriminant r.offset false (init_pointer sheet.root r.offset (ascii "0"))
-          (typ (Reader Anonymous)) (typ (Builder A)) a (there (read (Reader Anonymous)) l₁ t₁ l₂ (Ok v) x) b
-          c (there (read (Builder A)) l₄ t₄ l₅ (Ok w) y) e)
+          (followed false (ascii "0") (typ (Reader Anonymous)) a (there (read (Reader Anonymous)) l₁ t₁ l₂ (Ok v) x) y)
 
       pub list-here : number_of r.kind ≡ 14 → Wrote l t (set_open name) l₁ t₁ → ListReader l₁ t₁ l₂ (Ok v)
-          → Wrote l₂ v (set_end sheet.root tag r.discriminant r.offset) l₃ t₃
-          → Wrote l₃ t₃ (init_open name true) l₄ t₄ → There (read (Builder A)) l₄ t₄ l₅ (Ok w)
-          → Wrote l₅ w (init_end tag r.discriminant (init_pointer sheet.root r.offset (ascii "size"))) l₆ t₆
-          → Writes text l t l₆ (Ok t₆)
-      list-here k a x b c y e =
+          → There (follow true (ascii "size")) l₂ v l₃ q → Writes text l t l₃ q
+      list-here k a x y =
           let arm = list-is k in
           rw arm.2
-          (both-writes sheet.root tag name r.discriminant r.offset true (init_pointer sheet.root r.offset (ascii "size"))
-          (list_reader_type sheet arm.0 f.slot.ty) (typ (Builder A)) a (list_reader l₁ t₁ l₂ (Ok v) x arm.0 arm.1) b
-          c (there (read (Builder A)) l₄ t₄ l₅ (Ok w) y) e)
+          (followed true (ascii "size") (list_reader_type sheet arm.0 f.slot.ty) a (list_reader l₁ t₁ l₂ (Ok v) x arm.0 arm.1) y)
 
+    -- nothing is refused
     pub interface-here : {l l₁ l₂ l₃ : List ℕ} {t t₁ u t₃ : Text} → number_of r.kind ≡ 17 → Wrote l t (set_open name) l₁ t₁
         → There (read Client) l₁ t₁ l₂ (Ok u)
         → Wrote l₂ u (only_end tag r.discriminant (reborrowed r.offset ++ ascii ".set_capability(value.client.hook);")) l₃ t₃
@@ -291,7 +282,7 @@ module _ (bytes : Str) (r : Slot) (f : SlotField) (here : SlotHere bytes r f) wh
 
 -- the line of an interface's setter, its constants merged
 pub capability-line : (x : Str) (offset : ℕ)
-    → x ++ ascii "    self.builder.reborrow().get_pointer_field(" ++ decimal offset
+    → x ++ ascii "    " ++ ascii "self.builder.reborrow().get_pointer_field(" ++ decimal offset
     ++ ascii ").set_capability(value.client.hook);\n}\n"
     ≡ x ++ ascii "    " ++ (reborrowed offset ++ ascii ".set_capability(value.client.hook);") ++ ascii "\n}\n"
 capability-line x offset =
@@ -299,7 +290,7 @@ capability-line x offset =
     (ascii ".set_capability(value.client.hook);")
     (ascii "\n}\n")
   where
-    joined : (x sp p o q u z : Str) → x ++ (sp ++ p) ++ o ++ (q ++ u ++ z) ≡ x ++ sp ++ (p ++ o ++ q ++ u) ++ z
+    joined : (x sp p o q u z : Str) → x ++ sp ++ p ++ o ++ (q ++ u ++ z) ≡ x ++ sp ++ (p ++ o ++ q ++ u) ++ z
     joined x sp p o q u z = simp append_assoc
 
 -- what a list's setter takes, by whether its element has several SetterInput impls

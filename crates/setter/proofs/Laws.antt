@@ -3,7 +3,7 @@
 use mathlib.Core.Path.{◌≡◌, refl, ◌∙◌}
 use mathlib.Core.Bool.{Bool, true, false}
 use mathlib.Core.List.{List, [], ◌++◌, append_assoc}
-use Rattle.std.specs.Prelude.{None, Some, Ok}
+use Rattle.std.specs.Prelude.{None, Some, Result, Ok}
 use Prim.Native.Nat.{ℕ}
 use Rattle.text.specs.Bytes.{Str, ascii}
 use Rattle.text.specs.Lines.{stringify}
@@ -14,6 +14,8 @@ use Rattle.tree.proofs.OtherLines.{never}
 use Rattle.codegen_types.specs.Out.{Out, ok, refused, ◌then◌}
 use Rattle.codegen_types.specs.Written.{Writes}
 use Rattle.codegen_types.proofs.WrittenLaws.{whole, text-of}
+use Rattle.terms.specs.declared.refusals.Refusal.{Refusal}
+use Rattle.codegen.proofs.AroundLaws.{front}
 use Rattle.codegen.specs.Setter.{Parts, setter_functions, setter_only, setter_and_initter, line_alone, set_pointer, setter_input}
 use Rattle.setter_code.specs.Parts.{tag_line, set_open, set_close, size_param, init_open, initn_open}
 use Rattle.setter_code.proofs.Laws.{only-text, both-text, parameter-text, retext}
@@ -53,8 +55,11 @@ module _ (root : Str) (tag : ℕ) (name : Str) (d : ℕ) where
       setter_and_initter (line_alone (set_pointer root offset)) reader_type true (size_param sized) (line_alone line)
       builder_type None
 
-  both-lines : (offset : ℕ) (sized : Bool) (line a b : Str)
-      → set_open name ++ a ++ set_end root tag d offset ++ init_open name sized ++ b ++ init_end tag d line
+  -- what follows the type of what is set
+  abbrev pub behind_set : ℕ → Bool → Str → Str → Str
+  behind_set offset sized line b = set_end root tag d offset ++ init_open name sized ++ b ++ init_end tag d line
+
+  both-lines : (offset : ℕ) (sized : Bool) (line a b : Str) → set_open name ++ a ++ behind_set offset sized line b
       ≡ stringify (setter_functions root tag name d (both_parts offset sized line a b))
   both-lines offset sized line a b =
       joined (set_open name) a (set_close root true) (tag_line tag d) (ascii "    ") (set_pointer root offset)
@@ -63,19 +68,23 @@ module _ (root : Str) (tag : ℕ) (name : Str) (d : ℕ) where
       ∙ both-text root tag name d (set_pointer root offset) a true sized line b
     where
       joined : (p r q u sp v z i b w n : Str)
-          → p ++ r ++ (q ++ u ++ sp ++ v ++ z) ++ i ++ b ++ (w ++ u ++ sp ++ n ++ z)
+          → p ++ r ++ (q ++ u ++ sp ++ v ++ z ++ i ++ b ++ (w ++ u ++ sp ++ n ++ z))
           ≡ (p ++ r ++ q ++ u ++ sp ++ v ++ z) ++ (i ++ b ++ w ++ u ++ sp ++ n ++ z)
       joined p r q u sp v z i b w n = simp append_assoc
 
-  pub both-writes : {l l₁ l₂ l₃ l₄ l₅ l₆ : List ℕ} {t t₁ t₃ t₄ t₆ v w : Text}
+  pub both-writes : {l l₁ l₂ l₃ : List ℕ} {t t₁ v : Text} {q : Result Text Refusal}
       (offset : ℕ) (sized : Bool) (line : Str) (o o' : Out Str)
-      → Wrote l t (set_open name) l₁ t₁ → Writes o l₁ t₁ l₂ (Ok v) → Wrote l₂ v (set_end root tag d offset) l₃ t₃
-      → Wrote l₃ t₃ (init_open name sized) l₄ t₄ → Writes o' l₄ t₄ l₅ (Ok w) → Wrote l₅ w (init_end tag d line) l₆ t₆
-      → Writes (made (o then λ a. o' then λ b. ok (both_parts offset sized line a b))) l t l₆ (Ok t₆)
-  both-writes offset sized line o o' a x b c y e =
+      → Wrote l t (set_open name) l₁ t₁ → Writes o l₁ t₁ l₂ (Ok v)
+      → Writes (o' then λ b. ok (behind_set offset sized line b)) l₂ v l₃ q
+      → Writes (made (o then λ a. o' then λ b. ok (both_parts offset sized line a b))) l t l₃ q
+  both-writes {l} {l₁} {l₂} {l₃} {t} {t₁} {v} {q} offset sized line o o' a x y =
       let p = text-of o x in
-      let q = text-of o' y in
-      rw (p.is, q.is) (whole (retext (both-lines offset sized line p.text q.text) (a ⨾ p.wrote ⨾ b ⨾ c ⨾ q.wrote ⨾ e)))
+      rw p.is (go p.text o' (front (behind_set offset sized line) o' (a ⨾ p.wrote) y))
+    where
+      go : (w : Str) (o : Out Str) → Writes (o then λ b. ok (set_open name ++ w ++ behind_set offset sized line b)) l t l₃ q
+          → Writes (made (o then λ b. ok (both_parts offset sized line w b))) l t l₃ q
+      go w (ok b) z = rw (both-lines offset sized line w b) at z
+      go w (refused k) z = z
 
   -- ---- a parameter's functions
 

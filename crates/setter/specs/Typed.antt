@@ -1,5 +1,5 @@
 -- Texts with a type that is read in the sheet, and the ends of the functions that have one. Assumes nothing.
-use Rattle.std.specs.Prelude.{true, List, ◌++◌, ℕ, drop, Result}
+use Rattle.std.specs.Prelude.{Bool, true, false, List, ◌++◌, ℕ, drop, Result}
 use Rattle.text.specs.Bytes.{Str, ascii}
 use Rattle.text.specs.Lines.{stringify}
 use Rattle.text.specs.declared.Text.{Text}
@@ -10,15 +10,16 @@ use Rattle.tree.specs.Read.{read_type}
 use Rattle.tree.specs.Reader.{On}
 use Rattle.codegen_types.specs.Out.{Out, ok, ◌then◌}
 use Rattle.codegen_types.specs.TypeString.{type_string}
-use Rattle.codegen_types.specs.declared.Leaf.TheVariants.{Owned}
+use Rattle.codegen_types.specs.declared.Leaf.TheVariants.{Owned, Builder}
+use Rattle.codegen_types.specs.declared.Lifetime.TheVariants.{A}
 use Rattle.codegen_types.specs.Written.{Writes}
 use Rattle.terms.specs.declared.refusals.Refusal.{Refusal}
 use Rattle.nodes.specs.Index.{InSource}
 use Rattle.nodes.specs.declared.Source.{Source}
 use Rattle.names.specs.Names.{name_of}
 use Rattle.setter_code.specs.declared.Target.{Target}
-use Rattle.codegen.specs.Setter.{set_pointer, setter_input, generate_setter}
-use Rattle.setter_code.specs.Parts.{tag_line, set_close}
+use Rattle.codegen.specs.Setter.{set_pointer, init_pointer, setter_input, generate_setter}
+use Rattle.setter_code.specs.Parts.{tag_line, start, set_close, init_open}
 
 -- what is made of the type at a position, in every sheet that the index has, is written
 abbrev pub Types : Source → ℕ → (Sheet → Ty → Out Str) → List ℕ → Text → List ℕ → Result Text Refusal → Type 0
@@ -36,10 +37,24 @@ set_end root tag discriminant offset =
 
 -- an initializer from its result's type up to its last line, and up to its end
 abbrev pub init_start : ℕ → ℕ → Str
-init_start tag discriminant = ascii " {\n" ++ tag_line tag discriminant ++ ascii "    "
+init_start tag discriminant = start (ascii " {\n") tag discriminant
 
 abbrev pub init_end : ℕ → ℕ → Str → Str
 init_end tag discriminant line = init_start tag discriminant ++ line ++ ascii "\n}\n"
+
+-- what an initializer passes as the size: its parameter, where it has one
+abbrev pub size_argument : Bool → Str
+size_argument true = ascii "size"
+size_argument false = ascii "0"
+
+-- a list's or a struct's functions after the type of what is set: the setter's end, and the initializer of an object, with a size
+-- or not
+abbrev pub object_end : Target → Bool → Sheet → Ty → Out Str
+object_end target sized sheet ty =
+    type_string ty sheet (Builder A) then λ builder_type.
+    ok (set_end sheet.root target.tag target.slot.discriminant target.slot.offset ++ init_open (name_of target.name) sized
+    ++ builder_type
+    ++ init_end target.tag target.slot.discriminant (init_pointer sheet.root target.slot.offset (size_argument sized)))
 
 -- the text of a setter by its styled name
 abbrev pub setter_text_of : Sheet → ℕ → Str → ℕ → tree.Slot → Out Str

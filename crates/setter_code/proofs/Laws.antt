@@ -18,7 +18,9 @@ use Rattle.codegen.specs.Function.{function}
 use Rattle.codegen.specs.Setter.{setter_only, setter_and_initter, line_alone, tagged, return_type, setter_functions}
 use Rattle.codegen.specs.Setter.{pointer_parts, new_pointer, init_pointer}
 use Rattle.codegen.proofs.Laws.{line-or-none, function-lines, function-text}
-use Rattle.setter_code.specs.Parts.{tag_line, set_open, set_close, set_text}
+use Rattle.text.proofs.Laws.{◌⨾◌}
+use Rattle.setter_code.specs.declared.Target.{Target}
+use Rattle.setter_code.specs.Parts.{tag_line, start, set_open, set_close, set_text}
 use Rattle.setter_code.specs.Parts.{size_param, init_open, init_text, initn_text}
 
 -- the lines of a function: those of its tag, and another
@@ -178,7 +180,8 @@ module _ (root : Str) (o : ℕ) (name : Str) (d : ℕ) where
       joined i p name q v c t a r b n tag e = simp append_assoc
 
   pub pointer-text : (offset : ℕ)
-      → init_open name false ++ root ++ ascii "::any_pointer::Builder<'a> {\n" ++ tag_line o d ++ ascii "    let mut result = "
+      → init_open name false ++ root ++ ascii "::any_pointer::Builder<'a> {\n" ++ tag_line o d ++ ascii "    "
+      ++ ascii "let mut result = "
       ++ new_pointer root offset ++ ascii ";\n    result.clear();\n    result\n}\n"
       ≡ stringify (setter_functions root o name d (pointer_parts root offset))
   unfolding to_lines flat_map ended
@@ -204,7 +207,7 @@ module _ (root : Str) (o : ℕ) (name : Str) (d : ℕ) where
 
       joined : (i p name q v c root t b n tag sp l np semi rest e : Str)
           → i ++ (p ++ name ++ q ++ v ++ c ++ (root ++ t) ++ b ++ n ++ (tag ++ ((sp ++ (l ++ np ++ semi)) ++ (n ++ rest))) ++ e)
-          ≡ ((i ++ p) ++ name ++ q ++ v ++ c) ++ root ++ (t ++ b ++ n) ++ tag ++ (sp ++ l) ++ np ++ (semi ++ n ++ rest ++ e)
+          ≡ ((i ++ p) ++ name ++ q ++ v ++ c) ++ root ++ (t ++ b ++ n) ++ tag ++ sp ++ l ++ np ++ (semi ++ n ++ rest ++ e)
       joined i p name q v c root t b n tag sp l np semi rest e = simp append_assoc
 
 -- ---- the writers' parts: constants merged
@@ -219,11 +222,16 @@ retext e w = rw e at w
 merged : (x a b c : Str) → x ++ (a ++ b ++ c) ≡ x ++ a ++ b ++ c
 merged x a b c = simp append_assoc
 
-pub init_sized : (name : Str) → ascii "#[inline]\npub fn init_" ++ name ++ ascii "(self, size: u32) -> " ≡ init_open name true
-init_sized name = merged (ascii "#[inline]\npub fn init_" ++ name) (ascii "(self, ") (ascii "size: u32") (ascii ") -> ")
+pub init_opened : (name : Str) (sized : Bool)
+    → ascii "#[inline]\npub fn init_" ++ name ++ (ascii "(self, " ++ size_param sized ++ ascii ") -> ") ≡ init_open name sized
+init_opened name sized = merged (ascii "#[inline]\npub fn init_" ++ name) (ascii "(self, ") (size_param sized) (ascii ") -> ")
 
-pub init_plain : (name : Str) → ascii "#[inline]\npub fn init_" ++ name ++ ascii "(self, ) -> " ≡ init_open name false
-init_plain name = merged (ascii "#[inline]\npub fn init_" ++ name) (ascii "(self, ") [] (ascii ") -> ")
+-- a start behind a text, in its parts
+pub begun : {l l₁ l₂ : List ℕ} {t t₁ t₂ : Text} {x : Str} (target : Target) (head_end : Str) → Wrote l t x l₁ t₁
+    → Wrote l₁ t₁ (start head_end target.tag target.slot.discriminant) l₂ t₂
+    → Wrote l t (x ++ head_end ++ tag_line target.tag target.slot.discriminant ++ ascii "    ") l₂ t₂
+begun {x = x} target head_end a b =
+    retext (merged x head_end (tag_line target.tag target.slot.discriminant) (ascii "    ")) (a ⨾ b)
 
 pub init_call : (root : Str) (offset : ℕ) (size : Str)
     → root ++ ascii "::traits::FromPointerBuilder::init_pointer(self.builder.get_pointer_field(" ++ decimal offset
@@ -236,12 +244,12 @@ init_call root offset size =
 
 -- a function whose type begins with the root and whose line is a call on a pointer field
 pub field-line : (x root b c tag sp p o q u e : Str)
-    → x ++ root ++ (b ++ c) ++ tag ++ (sp ++ p) ++ o ++ (q ++ u ++ e)
+    → x ++ root ++ (b ++ c) ++ tag ++ sp ++ p ++ o ++ (q ++ u ++ e)
     ≡ x ++ (root ++ b) ++ c ++ tag ++ sp ++ (p ++ o ++ q ++ u) ++ e
 field-line x root b c tag sp p o q u e = simp append_assoc
 
 pub sized-line : (x root b c tag sp p o q u e : Str)
-    → x ++ root ++ b ++ c ++ tag ++ (sp ++ p) ++ o ++ q ++ u ++ e
+    → x ++ root ++ b ++ c ++ tag ++ sp ++ p ++ o ++ q ++ u ++ e
     ≡ x ++ (root ++ b) ++ c ++ tag ++ sp ++ (p ++ o ++ q ++ u) ++ e
 sized-line x root b c tag sp p o q u e = simp append_assoc
 

@@ -9,6 +9,10 @@ abbrev pub tag_line : ℕ → ℕ → Str
 tag_line tag_offset discriminant =
     cond (eqb discriminant 65535) [] (ascii "    " ++ set_tag tag_offset discriminant ++ ascii "\n")
 
+-- the end of a function's head, the line that sets the tag, and the start of the next line
+abbrev pub start : Str → ℕ → ℕ → Str
+start head_end tag_offset discriminant = head_end ++ tag_line tag_offset discriminant ++ ascii "    "
+
 -- a setter up to its value's type, and from there up to its lines
 abbrev pub set_open : Str → Str
 set_open name = ascii "#[inline]\npub fn set_" ++ name ++ ascii "(&mut self, value: "

@@ -1,15 +1,17 @@
 -- Laws of `seen`, `params` and `fields`: one turn of each loop, and the line at which it ends: a bad one with a letter that may
 -- stand there is refused by its fault. Assumes nothing.
 use mathlib.Core.Path.{◌≡◌, refl, sym, ap, ◌∙◌}
-use mathlib.Core.Bool.{Bool, true, false}
+use mathlib.Core.Bool.{Bool, true, false, ◌||◌}
 use mathlib.Core.List.{List, [], ◌∷◌, ◌++◌, append-nil, append_assoc}
 use Rattle.std.specs.Prelude.{Option, None, Some, Result, Ok, Err, is_some}
-use Prim.Native.Nat.{ℕ, ◌+◌, ◌-◌, ◌≤◌, ◌<◌}
+use Rattle.std.specs.List.{list_any}
+use Rattle.std.specs.Simd.{first_chunks}
+use Prim.Native.Nat.{ℕ, zero, suc, ◌+◌, ◌*◌, ◌≤◌, ◌<◌}
 use native.Mathlib.Omega.{arith}
 use native.Mathlib.Numerals.{add-one}
 use lib.Dec.{eqb}
-use lib.ListN.{length, take, drop, set}
-use lib.Seq.{drop-drop, take-add, take-suc-set}
+use lib.ListN.{length, take, drop, set, take-append-drop}
+use lib.Seq.{drop-drop, take-suc-set}
 use denote.Enum.Declared.{tag_of}
 use Rattle.text.specs.Bytes.{Str, unit, cond, either}
 use Rattle.row.specs.contracts.Line.{the_type}
@@ -31,21 +33,31 @@ use Rattle.tree.proofs.WalkLaws.{passed-map, end-here, end-next, end-refused}
 use Rattle.tree.proofs.TailLaws.{Tail, tail_rest, tail_length, tail_size, leaves-passed, leaves-slot}
 use Rattle.tree.proofs.FieldLaws.{fields-here}
 use Rattle.tree.proofs.AmongLaws.{among_append}
+use Rattle.nodes.proofs.Laws.{among-any}
 use Rattle.sheet.proofs.RoomLaws.{group-room}
 use Rattle.sheet.specs.Steps.{groups_after}
 use Rattle.row.specs.declared.Line.TheVariants as line
 
--- the search among the first ids: those from i up to a place j, where b says whether it is found, and those from there on
-pub seen_parts :
-    (ids : List ℕ) (count id i j : ℕ) → i ≤ j → j ≤ count → (b : Bool) → b ≡ among id (take (j - i) (drop i ids))
-    → among id (take (count - i) (drop i ids)) ≡ either b (among id (take (count - j) (drop j ids)))
-seen_parts ids count id i j h g b e =
-    let sum : count - i ≡ (j - i) + (count - j) = omega arith in
-    let there : i + (j - i) ≡ j = omega arith in
-    let rest : drop (j - i) (drop i ids) ≡ drop j ids = rw there at (drop-drop (j - i) i ids) in
-    let cut : take (count - i) (drop i ids) ≡ take (j - i) (drop i ids) ++ take (count - j) (drop j ids) =
-    rw sum (rw rest at (take-add (j - i) (count - j) (drop i ids))) in
-    ap (among id) cut ∙ rw (among_append id (take (j - i) (drop i ids)) (take (count - j) (drop j ids)), e)
+-- whether an id stands among ids, by parts of 32 and what is left after them
+grouped : (p q r : Bool) → either (p || q) r ≡ either p (either q r)
+grouped true q r = refl
+grouped false q r = refl
+
+module _ (id : ℕ) where
+  abbrev pub any_id : List ℕ → Bool
+  any_id part = list_any (λ (y : ℕ). eqb y id) part
+
+  pub seen_parts :
+      (k : ℕ) (ids : List ℕ) → either (list_any any_id (first_chunks 32 k ids)) (any_id (drop (k * 32) ids)) ≡ among id ids
+  seen_parts zero ids = among-any id ids
+  seen_parts (suc k) ids =
+      let e : suc k * 32 ≡ 32 + k * 32 = omega arith in
+      let left = ap (λ (n : ℕ). any_id (drop n ids)) e ∙ ap any_id (sym (drop-drop (k * 32) 32 ids)) in
+      let others = list_any any_id (first_chunks 32 k (drop 32 ids)) in
+      grouped (any_id (take 32 ids)) others (any_id (drop (suc k * 32) ids))
+      ∙ ap (either (any_id (take 32 ids))) (ap (either others) left ∙ seen_parts k (drop 32 ids))
+      ∙ ap (λ (b : Bool). either b (among id (drop 32 ids))) (among-any id (take 32 ids))
+      ∙ sym (among_append id (take 32 ids) (drop 32 ids)) ∙ ap (among id) (take-append-drop 32 ids)
 
 -- an id put after the first n
 pub pushed : (l : List ℕ) (n i : ℕ) → n < length l → take (n + 1) (set l n i) ≡ take n l ++ unit i
@@ -84,7 +96,7 @@ not-read rs (Ok line.Parameter) here u v = rw (← here, ← here, ← here, ←
 not-read rs (Ok (line.Field a b c d)) here u v = absurd (u refl)
 not-read rs (Ok (line.Group a b)) here u v = absurd (v refl)
 not-read rs (Ok (line.Typ a b c d)) here u v = rw (← here, ← here, ← here, ← here)
-not-read rs (Ok (line.Scope a b c)) here u v = rw (← here, ← here, ← here, ← here)
+not-read rs (Ok (line.Scope a b)) here u v = rw (← here, ← here, ← here, ← here)
 not-read rs (Ok line.Unbound) here u v = rw (← here, ← here, ← here, ← here)
 not-read rs (Ok (line.Value a b)) here u v = rw (← here, ← here, ← here, ← here)
 not-read rs (Ok (line.Word a)) here u v = rw (← here, ← here, ← here, ← here)

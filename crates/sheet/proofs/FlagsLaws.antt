@@ -1,11 +1,10 @@
--- Laws of the flags, by which `known` tells an id that is new without a search: an id whose flag is not set is none of those
--- that were put there, and putting one more there with its flag keeps it so. Assumes nothing.
+-- Laws of the flags, by which `has` of `Groups` tells an id that is new without a search: an id whose flag is not set is none of
+-- those that were put there, and putting one more there with its flag keeps it so. Assumes nothing.
 use mathlib.Core.Path.{◌≡◌, sym, ap, ◌∙◌}
 use mathlib.Core.Bool.{true}
 use mathlib.Core.List.{List, [], ◌∷◌, ◌++◌}
-use Prim.Native.Nat.{ℕ, ◌%◌, ◌≤◌, ◌<◌}
+use Prim.Native.Nat.{ℕ, ◌%◌, ◌<◌}
 use native.Mathlib.Nat.{mod-lt, zero-lt-suc}
-use native.Mathlib.Omega.{arith}
 use native.Mathlib.Decide.{ℕ_discrete}
 use borrow.Author.Tests.{ne_eqb}
 use lib.Dec.{eqb}
@@ -14,9 +13,7 @@ use lib.Seq.{get_or-set_same, get_or-set_other}
 use Rattle.text.specs.Bytes.{unit, either}
 use Rattle.tree.specs.Read.{among}
 use Rattle.tree.proofs.OtherLines.{never}
-use Rattle.row.specs.Rows.{size}
-use Rattle.tree.specs.Reader.{Rows}
-use Rattle.sheet.specs.Steps.{Flagged, Holding}
+use Rattle.sheet.specs.Steps.{Flagged}
 
 -- each id has its flag below 2048
 flag-fits : (id : ℕ) → id % 2048 < 2048
@@ -44,12 +41,3 @@ flagged-more flags ids i l m = record { set = λ id h. go id h (ℕ_discrete (id
     go id h (no n) =
         get_or-set_other flags (i % 2048) (id % 2048) 1 0 n
         ∙ m.set id (sym (among-before ids i id (λ e. n (ap (λ (x : ℕ). x % 2048) (sym e)))) ∙ h)
-
--- ids that are held stay so over fewer rows
-pub held-fewer :
-    (groups flags : List ℕ) (n : ℕ) (rs ts : Rows) → Holding groups flags n rs → size ts ≤ size rs → Holding groups flags n ts
-held-fewer groups flags n rs ts h less = record {
-  flags-size = h.flags-size;
-  room = omega (arith, h.room);
-  flagged = h.flagged;
-}

@@ -7,4 +7,3 @@ pub mod PlacedLaws
 pub mod NodeLaws
 pub mod NodesLaws
 pub mod AdmitLaws
-pub mod VerdictLaws

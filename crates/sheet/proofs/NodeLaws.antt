@@ -6,7 +6,7 @@ use mathlib.Core.List.{List, ◌++◌}
 use Rattle.std.specs.Prelude.{Result, Ok}
 use Prim.Native.Nat.{ℕ, ◌+◌, ◌*◌, ◌≤◌, ◌<◌}
 use native.Mathlib.Omega.{arith}
-use lib.ListN.{length, drop, take}
+use lib.ListN.{length, drop}
 use Rattle.text.specs.Bytes.{Str}
 use Rattle.row.specs.Rows.{rows, rest_of, size}
 use Rattle.row.specs.Line.{fault, line_said, line_at, text_at, fault_of}
@@ -29,12 +29,10 @@ use Rattle.nodes.proofs.PutLaws.{entry-put, length-put, before-put, after-put}
 use Rattle.sheet.specs.Steps.{groups_after, FieldsRead, RefusedAs, SameBetween, ParamsRead, Placed}
 use Rattle.sheet.specs.Steps.{node_with}
 use Rattle.sheet.specs.Steps.{NodeRoom, members_here, Ready, Begun, seen_after, NodeRead}
-use Rattle.sheet.specs.declared.FieldsRun.{FieldsRun}
 use Rattle.sheet.specs.declared.ParamsRun.{ParamsRun}
 use Rattle.sheet.specs.declared.Held.{Held}
 use Rattle.sheet.proofs.FieldsHereLaws as fields
 use Rattle.sheet.proofs.FieldsHereLaws.{Stand, fields_stand}
-use Rattle.sheet.proofs.FlagsLaws.{held-fewer}
 use Rattle.sheet.proofs.PlacedLaws.{marked-same}
 use Rattle.sheet.proofs.RoomLaws.{node-room}
 use Rattle.row.specs.declared.Line.TheVariants as line
@@ -54,13 +52,13 @@ module _ (rs : Rows) (l : Result Line BadLine) (here : line_said l ≡ line_at r
 
 -- what is left after a row is less
 pub ready_after :
-    (s : Str) (at e : ℕ) (groups flags : List ℕ) (held : Held) → Ready s at groups flags held
-    → rows (drop e s) ≡ rest_of (rows (drop at s)) → Ready s e groups flags held
-ready_after s at e groups flags held r after =
+    (s : Str) (at e free : ℕ) (held : Held) → Ready s at free held → rows (drop e s) ≡ rest_of (rows (drop at s))
+    → Ready s e free held
+ready_after s at e free held r after =
     let less : size (rows (drop e s)) ≤ size (rows (drop at s)) = rw after (tail_size (tail_rest (rows (drop at s)))) in
     record {
       few = r.few;
-      holding = held-fewer groups flags held.groups _ _ r.holding less;
+      room = omega (arith, r.room);
       first = r.first;
       marks = omega (arith, r.marks);
       nodes = omega (arith, r.nodes);
@@ -104,14 +102,13 @@ module _ (s : Str) (at e : ℕ) (l : Result Line BadLine) (here : line_said l �
 
 -- the bytes that are left after the fields
 fields-left :
-    (s : Str) (seen groups flags : List ℕ) (ts : Rows) (f : FieldsRun) → FieldsRead s ts seen groups flags f
-    → size (rows (drop f.next s)) ≤ size ts
-fields-left s seen groups flags ts f h = go (read_fields seen ts) (fields_stand seen ts) h.read
+    (s : Str) (seen : List ℕ) (groups : ℕ × List ℕ) (ts : Rows) (next : ℕ) → FieldsRead s ts seen groups next
+    → size (rows (drop next s)) ≤ size ts
+fields-left s seen groups ts next h = go (read_fields seen ts) (fields_stand seen ts) h.read
   where
     go : (g : Reading (List Field)) → Stand ts g
-        → got (take f.groups groups) (rows (drop f.next s)) ≡ (g then λ fs. got (seen ++ group_ids fs))
-        → size (rows (drop f.next s)) ≤ size ts
-    go (got fs us) (fields.read x t) e = let z : us ≡ rows (drop f.next s) = cc in rw (← z) (tail_size t)
+        → got groups.1 (rows (drop next s)) ≡ (g then λ fs. got (seen ++ group_ids fs)) → size (rows (drop next s)) ≤ size ts
+    go (got fs us) (fields.read x t) e = let z : us ≡ rows (drop next s) = cc in rw (← z) (tail_size t)
     go (no k us) fields.not e = never cc
 
 -- a P row is refused
@@ -249,14 +246,13 @@ module _ (s : Str) (held : Held) (seen x y : List ℕ) (n : Entry) (p : ParamsRu
         by-fields ps d (no k us) fields.not = tt
 
     pub members-whole :
-        (groups flags : List ℕ) (f : FieldsRun) → FieldsRead s ts seen groups flags f
-        → NodeRead s held seen x (members_here s n seen) groups flags z
-        (record { id = n.id; next = f.next; groups = f.groups; marks = p.marks })
-    members-whole groups flags f h =
-        let less : size (rows (drop f.next s)) ≤ size ts = fields-left s seen groups flags ts f h in
+        (groups : ℕ × List ℕ) (next : ℕ) → FieldsRead s ts seen groups next
+        → NodeRead s held seen x (members_here s n seen) groups z (record { id = n.id; next = next; marks = p.marks })
+    members-whole groups next h =
+        let less : size (rows (drop next s)) ≤ size ts = fields-left s seen groups ts next h in
         record {
-          read = members-read (take f.groups groups) (rows (drop f.next s)) h.read;
-          holding = h.held;
+          read = members-read groups.1 (rows (drop next s)) h.read;
+          room = h.room;
           marks = omega (arith, params.room);
           nodes = omega (arith, begun.room, params.left);
           further = omega (arith, params.next);

@@ -17,11 +17,10 @@ use Rattle.tree.specs.Walked.{passed, refused_row, misplaced_at}
 use Rattle.tree.specs.declared.RefusedRow.{RefusedRow}
 use Rattle.tree.proofs.OtherLines.{never}
 use Rattle.nodes.specs.Index.{first_mark, index_size}
-use Rattle.sheet.specs.Steps.{Holding, MarkRoom, NodeRoom, refusal_of, RefusedAs, seen_after, NodeRead, NodesRead}
+use Rattle.sheet.specs.Steps.{Room, MarkRoom, NodeRoom, refusal_of, RefusedAs, seen_after, NodeRead, NodesRead}
 use Rattle.sheet.specs.declared.Held.{Held}
 use Rattle.sheet.specs.declared.NodeRun.{NodeRun}
 use Rattle.sheet.proofs.FieldsLaws.{pushed}
-use Rattle.sheet.proofs.FlagsLaws.{flagged-none}
 use Rattle.sheet.proofs.RoomLaws.{rest-fits}
 use Rattle.sheet.proofs.PlacedLaws.{Filled, filled-same, filled_more, filled-all}
 
@@ -67,28 +66,28 @@ after_one : (done : List Node) (n : Node) (g : Reading (List Node))
 after_one done n (got ns us) = ap (λ (l : List Node). got l us) (sym (append_assoc done (n ∷ []) ns))
 after_one done n (no k us) = refl
 
--- at the head of the loop: `count` nodes are read, with n group ids and the marks before a place, and the next stands at `at`
-pub record Standing (s : Str) (from : ℕ) (index ids groups flags : List ℕ) (n count marks at : ℕ) : Type 0 where
+-- at the head of the loop: `count` nodes are read, with their group ids, and the marks before a place; the next stands at `at`
+pub record Standing (s : Str) (from : ℕ) (index ids : List ℕ) (groups : ℕ × List ℕ) (count marks at : ℕ) : Type 0 where
   pub ids_size : length ids ≡ 64
   pub few : count ≤ 64
-  pub holding : Holding groups flags n (rows (drop at s))
+  pub room : Room groups.0 (rows (drop at s))
   pub first : first_mark (length s) ≤ marks
   pub mark-room : MarkRoom (length s) marks (size (rows (drop at s)))
   pub node-room : NodeRoom (length s) count (size (rows (drop at s)))
   pub done : List Node
   pub done-count : length done ≡ count
-  pub same : whole s from ≡ after done (read_nodes (64 - count) (take count ids) (take n groups) (rows (drop at s)))
+  pub same : whole s from ≡ after done (read_nodes (64 - count) (take count ids) groups.1 (rows (drop at s)))
   pub filled : index_size (length s) ≤ length index → Filled s index marks 1 done
 
 pub standing_first :
-    (s : Str) (from : ℕ) (index ids groups flags : List ℕ) → length ids ≡ 64 → length flags ≡ 2048
-    → size (rows (drop from s)) ≤ 44 * length groups + 43 → size (rows (drop from s)) ≤ 65536
-    → (marks : ℕ) → marks ≡ first_mark (length s) → Standing s from index ids groups flags 0 0 marks from
+    (s : Str) (from : ℕ) (index ids : List ℕ) (free : ℕ) → length ids ≡ 64 → Room free (rows (drop from s))
+    → size (rows (drop from s)) ≤ 65536 → (marks : ℕ) → marks ≡ first_mark (length s)
+    → Standing s from index ids (free, []) 0 marks from
 unfolding Filled
-standing_first s from index ids groups flags a b r m marks e = record {
+standing_first s from index ids free a r m marks e = record {
   ids_size = a;
   few = omega arith;
-  holding = record { flags-size = b; room = omega arith; flagged = flagged-none flags };
+  room = r;
   first = omega arith;
   mark-room = omega (arith, rest-fits s from (length s) (omega arith));
   node-room = omega (arith, rest-fits s from (length s) (omega arith));
@@ -104,10 +103,10 @@ nodes-no s r y (got ns us) e = never cc
 nodes-no s r y (no k us) e = record { refusal = ap (refusal_of s) e; index = λ big. tt }
 
 -- what the next node finds
-module _ (s : Str) (from : ℕ) (index ids groups flags : List ℕ) (n count marks at : ℕ)
-    (h : Standing s from index ids groups flags n count marks at) where
+module _ (s : Str) (from : ℕ) (index ids : List ℕ) (groups : ℕ × List ℕ) (count marks at : ℕ)
+    (h : Standing s from index ids groups count marks at) where
   abbrev held : Held
-  held = record { nodes = count; groups = n; marks = marks }
+  held = record { nodes = count; marks = marks }
 
   -- no node more
   pub standing_full : (y : List ℕ) → 64 ≤ count → NodesRead s (Err (misplaced_at at)) y (whole s from)
@@ -119,36 +118,34 @@ module _ (s : Str) (from : ℕ) (index ids groups flags : List ℕ) (n count mar
   module _ (l : count < 64) where
     -- a node is refused
     pub standing-no :
-        (r : RefusedRow) → RefusedAs s (read_node (take count ids) (take n groups) (rows (drop at s))) r → (z : List ℕ)
+        (r : RefusedRow) → RefusedAs s (read_node (take count ids) groups.1 (rows (drop at s))) r → (z : List ℕ)
         → NodesRead s (Err r) z (whole s from)
     standing-no r e z =
         nodes-no s r z (whole s from)
-        (go (read_node (take count ids) (take n groups) (rows (drop at s))) e
+        (go (read_node (take count ids) groups.1 (rows (drop at s))) e
         ∙ sym (ap passed
-        (h.same ∙ rw (nodes-more (64 - count) (take count ids) (take n groups) (rows (drop at s)) (omega arith)))))
+        (h.same ∙ rw (nodes-more (64 - count) (take count ids) groups.1 (rows (drop at s)) (omega arith)))))
       where
         go : (g : Reading Node) → refused_row s r ≡ passed g
             → refused_row s r ≡ passed (after h.done (g then λ m.
             at_end (got (m ∷ [])) (map_r (m ∷◌)
-            (read_nodes (64 - count - 1) (take count ids ++ unit m.id) (take n groups ++ group_ids m.fields)))))
+            (read_nodes (64 - count - 1) (take count ids ++ unit m.id) (groups.1 ++ group_ids m.fields)))))
         go (got m us) e = never cc
         go (no k us) e = e
 
     -- a node is read
-    module _ (y groups' flags' : List ℕ) (r : NodeRun)
-        (read : NodeRead s held (take n groups) index (read_node (take count ids) (take n groups) (rows
-        (drop at s))) groups' flags'
-        y r)
+    module _ (y : List ℕ) (groups' : ℕ × List ℕ) (r : NodeRun)
+        (read : NodeRead s held groups.1 index (read_node (take count ids) groups.1 (rows (drop at s))) groups' y r)
       where
         -- it is the next node
         module _ (kept : length y ≡ length index) where
           abbrev q : ℕ
           q = r.next
 
-          it : Taken r.id (take n groups) (take r.groups groups')
-              (read_node (take count ids) (take n groups) (rows (drop at s))) (rows (drop q s))
-          it = taken r.id (take n groups) (take r.groups groups')
-              (read_node (take count ids) (take n groups) (rows (drop at s))) (rows (drop q s)) read.read
+          it : Taken r.id groups.1 groups'.1
+              (read_node (take count ids) groups.1 (rows (drop at s))) (rows (drop q s))
+          it = taken r.id groups.1 groups'.1
+              (read_node (take count ids) groups.1 (rows (drop at s))) (rows (drop q s)) read.read
 
           abbrev now-done : List Node
           now-done = h.done ++ it.node ∷ []
@@ -158,11 +155,11 @@ module _ (s : Str) (from : ℕ) (index ids groups flags : List ℕ) (n count mar
 
           turn :
               whole s from ≡ after h.done (at_end (got (it.node ∷ []))
-              (map_r (it.node ∷◌) (read_nodes (64 - count - 1) (take count ids ++ unit r.id) (take r.groups groups')))
+              (map_r (it.node ∷◌) (read_nodes (64 - count - 1) (take count ids ++ unit r.id) groups'.1))
               (rows (drop q s)))
           turn =
               h.same ∙ rw (
-                nodes-more (64 - count) (take count ids) (take n groups) (rows (drop at s)) (omega arith),
+                nodes-more (64 - count) (take count ids) groups.1 (rows (drop at s)) (omega arith),
                 it.read,
                 it.id,
                 it.groups,
@@ -189,19 +186,18 @@ module _ (s : Str) (from : ℕ) (index ids groups flags : List ℕ) (n count mar
             where
               last : (us : Rows) → us ≡ []
                   → after h.done (at_end (got (it.node ∷ []))
-                  (map_r (it.node ∷◌) (read_nodes (64 - count - 1) (take count ids ++ unit r.id) (take
-                  r.groups groups'))) us)
+                  (map_r (it.node ∷◌) (read_nodes (64 - count - 1) (take count ids ++ unit r.id) groups'.1)) us)
                   ≡ got now-done us
               last [] z = refl
               last (u ∷ us) z = never cc
 
           -- others follow
           pub standing-next :
-              q < length s → Standing s from y (set ids count r.id) groups' flags' r.groups (count + 1) r.marks q
+              q < length s → Standing s from y (set ids count r.id) groups' (count + 1) r.marks q
           standing-next o = record {
             ids_size = length-set ids count r.id ∙ h.ids_size;
             few = omega arith;
-            holding = read.holding;
+            room = read.room;
             first = omega (arith, h.first, read.further);
             mark-room = read.marks;
             node-room = read.nodes;
@@ -216,12 +212,11 @@ module _ (s : Str) (from : ℕ) (index ids groups flags : List ℕ) (n count mar
 
               on : (us : Rows) → 0 < length us
                   → after h.done (at_end (got (it.node ∷ []))
-                  (map_r (it.node ∷◌) (read_nodes (64 - count - 1) (take count ids ++ unit r.id) (take
-                  r.groups groups'))) us)
+                  (map_r (it.node ∷◌) (read_nodes (64 - count - 1) (take count ids ++ unit r.id) groups'.1)) us)
                   ≡ after now-done (read_nodes (64 - (count + 1)) (take (count + 1) (set ids count r.id))
-                  (take r.groups groups') us)
+                  groups'.1 us)
               on [] z = let v : ⊥ = omega arith in absurd v
               on (u ∷ us) z =
                   let m : 64 - (count + 1) ≡ 64 - count - 1 = omega arith in
                   rw (m, ids-after) (after_one h.done it.node
-                  (read_nodes (64 - count - 1) (take count ids ++ unit r.id) (take r.groups groups') (u ∷ us)))
+                  (read_nodes (64 - count - 1) (take count ids ++ unit r.id) groups'.1 (u ∷ us)))

@@ -1,8 +1,8 @@
 -- What the steps of admission promise one another: group ids with their flags and their room, the marks of P rows, a node and its
 -- entry. Only the code needs them: what admission promises stands in Admission. Assumes nothing.
-use Rattle.std.specs.Prelude.{◌≡◌, Bool, true, List, ◌++◌, ℕ, ◌+◌, ◌-◌, ◌*◌, ◌/◌, ◌%◌, ◌≤◌, ◌<◌, eqb, ltb, length, drop, take}
+use Rattle.std.specs.Prelude.{◌≡◌, Bool, true, List, ◌++◌, ℕ, ◌+◌, ◌-◌, ◌*◌, ◌/◌, ◌%◌, ◌≤◌, ◌<◌, eqb, ltb, length, drop}
 use Rattle.std.specs.Prelude.{get_or, set, ⊤, Option, None, Some, Result, Ok, Err}
-use Rattle.text.specs.Bytes.{Str, cond, both}
+use Rattle.text.specs.Bytes.{Str, unit, cond, both}
 use Rattle.row.specs.Rows.{rows, rest_of, size, line_no}
 use Rattle.row.specs.Line.{text_at}
 use Rattle.tree.specs.Tree.{Field, Node}
@@ -15,7 +15,6 @@ use Rattle.nodes.specs.Index.{entry_at, names_of, mark_every, mark_bytes, first_
 use Rattle.nodes.specs.declared.Entry.{Entry}
 use Rattle.sheet.specs.Admission.{refusal_in, IndexOf}
 use Rattle.sheet.specs.declared.ParamsRun.{ParamsRun}
-use Rattle.sheet.specs.declared.FieldsRun.{FieldsRun}
 use Rattle.sheet.specs.declared.Held.{Held}
 use Rattle.sheet.specs.declared.NodeRun.{NodeRun}
 
@@ -43,30 +42,29 @@ groups_after seen = map_r (λ fs. seen ++ group_ids fs) (read_fields seen)
 pub record Flagged (flags ids : List ℕ) : Type 0 where
   pub set : (id : ℕ) → among id ids ≡ true → get_or flags (id % 2048) 0 ≡ 1
 
--- so many ids are held, and there is room for one more in each 44 of the bytes that are left
-abbrev pub Room : List ℕ → ℕ → ℕ → Type 0
-Room groups count left = 44 * count + left ≤ 44 * length groups + 43
+-- Group ids stand in a pair: how many more there is room for, and those that are held.
 
--- the first `count` of some group ids are held where rows rs stand, each with its flag, and there is room for those to come
-pub record Holding (groups flags : List ℕ) (count : ℕ) (rs : Rows) : Type 0 where
-  pub flags-size : length flags ≡ 2048
-  pub room : Room groups count (size rs)
-  pub flagged : Flagged flags (take count groups)
+-- room for so many more is room for the groups of rows rs: one in each 44 bytes
+abbrev pub Room : ℕ → Rows → Type 0
+Room free rs = size rs ≤ 44 * free + 43
+
+-- one more is put after those that are held
+abbrev pub with_id : ℕ × List ℕ → ℕ → ℕ × List ℕ
+with_id groups id = (groups.0 - 1, groups.1 ++ unit id)
 
 -- what a field at rows rs makes of the reading of fields, with these group ids seen: it goes on with the ids held then, over
 -- fewer rows; where there is none, no more is read
-abbrev pub Turned : Str → Rows → List ℕ → ℕ → List ℕ → List ℕ → Option FieldsRun → Type 0
-Turned s rs seen count groups flags (Some f) =
-    (groups_after seen rs ≡ groups_after (take f.groups groups) (rows (drop f.next s)))
-    × Holding groups flags f.groups (rows (drop f.next s))
-    × (length (rows (drop f.next s)) < length rs)
-Turned s rs seen count groups flags None =
-    (groups_after seen rs ≡ got (take count groups) rs) × Holding groups flags count rs
+abbrev pub Turned : Str → Rows → List ℕ → ℕ × List ℕ → Option ℕ → Type 0
+Turned s rs seen groups (Some next) =
+    (groups_after seen rs ≡ groups_after groups.1 (rows (drop next s)))
+    × Room groups.0 (rows (drop next s))
+    × (length (rows (drop next s)) < length rs)
+Turned s rs seen groups None = (groups_after seen rs ≡ got groups.1 rs) × Room groups.0 rs
 
--- what is said of the fields at rows rs, with these group ids seen
-pub record FieldsRead (s : Str) (rs : Rows) (seen groups flags : List ℕ) (f : FieldsRun) : Type 0 where
-  pub read : got (take f.groups groups) (rows (drop f.next s)) ≡ groups_after seen rs
-  pub held : Holding groups flags f.groups (rows (drop f.next s))
+-- what is said of the fields at rows rs, with these group ids seen: the ids held then, and the position after the fields
+pub record FieldsRead (s : Str) (rs : Rows) (seen : List ℕ) (groups : ℕ × List ℕ) (next : ℕ) : Type 0 where
+  pub read : got groups.1 (rows (drop next s)) ≡ groups_after seen rs
+  pub room : Room groups.0 (rows (drop next s))
 
 -- ---- the index
 
@@ -133,9 +131,9 @@ abbrev pub members_here : Str → Entry → List ℕ → Reading Node
 members_here s e seen = read_members seen (node_with e (text_at (rows (drop e.at s)))) (rows (drop e.params s))
 
 -- where a node is read, with the sheet from a position on left: not the 65th, with room for its ids, its marks and its entry
-pub record Ready (s : Str) (at : ℕ) (groups flags : List ℕ) (held : Held) : Type 0 where
+pub record Ready (s : Str) (at free : ℕ) (held : Held) : Type 0 where
   pub few : held.nodes < 64
-  pub holding : Holding groups flags held.groups (rows (drop at s))
+  pub room : Room free (rows (drop at s))
   pub first : first_mark (length s) ≤ held.marks
   pub marks : MarkRoom (length s) held.marks (size (rows (drop at s)))
   pub nodes : NodeRoom (length s) held.nodes (size (rows (drop at s)))
@@ -153,9 +151,9 @@ seen_after seen n = (n.id, seen ++ group_ids n.fields)
 -- what is said of the reading g of a node, where some are held, with these group ids seen and the index x: its id and the ids
 -- held after it; and of the index y after it, in which its entry stands after the others, its marks after the others
 pub record NodeRead
-    (s : Str) (held : Held) (seen x : List ℕ) (g : Reading Node) (groups flags y : List ℕ) (r : NodeRun) : Type 0 where
-  pub read : got (r.id, take r.groups groups) (rows (drop r.next s)) ≡ (g then λ n. got (seen_after seen n))
-  pub holding : Holding groups flags r.groups (rows (drop r.next s))
+    (s : Str) (held : Held) (seen x : List ℕ) (g : Reading Node) (groups : ℕ × List ℕ) (y : List ℕ) (r : NodeRun) : Type 0 where
+  pub read : got (r.id, groups.1) (rows (drop r.next s)) ≡ (g then λ n. got (seen_after seen n))
+  pub room : Room groups.0 (rows (drop r.next s))
   pub marks : MarkRoom (length s) r.marks (size (rows (drop r.next s)))
   pub nodes : NodeRoom (length s) (held.nodes + 1) (size (rows (drop r.next s)))
   pub further : held.marks ≤ r.marks

@@ -1,16 +1,17 @@
 // A sheet, read once: admitted, with the index of its nodes, or refused at its first bad line.
 #![tactic(auto)]
 
-ghost use Rattle.std.specs.Prelude.{◌≡◌, [], ◌+◌, ◌-◌, ◌*◌, ◌%◌, ◌^◌, ◌≤◌, ◌<◌, length, drop, take, set, MatchResult};
+ghost use Rattle.std.specs.Prelude.{◌≡◌, [], ◌-◌, ◌^◌, ◌≤◌, ◌<◌, length, drop, take, MatchResult};
 ghost use Rattle.row.specs.Rows.{rows, size};
 ghost use Rattle.tree.specs.Read.{among, read_params, read_node, read_nodes, admitted};
 ghost use Rattle.nodes.specs.Index.{index_size};
 ghost use Rattle.sheet.specs.Admission.{answer_numbers, refusal_in, IndexOf};
-ghost use Rattle.sheet.specs.Steps.{Flagged, Holding, groups_after, MarkRoom, with_mark, next_mark, RefusedAs};
+ghost use Rattle.sheet.specs.Steps.{Room, with_id, groups_after, MarkRoom, with_mark, next_mark, RefusedAs};
 ghost use Rattle.sheet.specs.Steps.{ParamsRead, Turned, FieldsRead, Ready, Begun, members_here, NodeRead, NodesRead, SheetRead};
 
 use nodes::Entry;
 use row::Line;
+use std::marker::Model;
 use terms::{Refusal, limits};
 use tree::RefusedRow;
 
@@ -33,64 +34,72 @@ struct ParamsRun {
     marks: usize,
 }
 
-// Where the row after a field or after all fields of a node stands, and how many group ids are held then.
-#[derive(Clone, Copy)]
-struct FieldsRun {
-    next: usize,
-    groups: usize,
-}
-
-// How many nodes and group ids were read, and the place of the next mark.
+// How many nodes were read, and the place of the next mark.
 #[derive(Clone, Copy)]
 struct Held {
     nodes: usize,
-    groups: usize,
     marks: usize,
 }
 
-// A node: its id, where the row after it stands, how many group ids are held then, and the place of the next mark.
+// A node: its id, where the row after it stands, and the place of the next mark.
 #[derive(Clone, Copy)]
 struct NodeRun {
     id: u64,
     next: usize,
-    groups: usize,
     marks: usize,
 }
 
-// Whether an id is one of the first `count`. They are searched 32 at a time, which the compiler writes out without a loop;
-// `contains` over all of them would look at one after the other.
-fn seen(ids: &[u64], count: usize, id: u64) -> bool
-    requires { count ≤ length ids.now }
-    ensures { result ≡ among id (take count ids.now) }
-{
-    let whole = count - count % 32;
-    let mut i = 0;
-    while i < whole {
-        if nodes::among(&ids[i..i + 32], id) {
-            return true;
-        }
-        i += 32;
-    }
-    nodes::among(&ids[i..count], id)
+// The ids of the groups that were read: the first `count` of `ids`, each with its flag, at its remainder by 2048. A clause sees
+// how many more there is room for, and these ids. The flags are lent, as an array here is copied once more, which makes
+// admission of a sheet of 1,024 bytes take 1.25 times as many instructions; and lent as a slice, as the borrow checker does not
+// cover an element of an array behind a `&mut` of `&self`.
+#[derive(Drop)]
+struct Groups<'a> {
+    ids: &'a mut [u64],
+    flags: &'a mut [u8],
+    count: usize,
 }
 
-// Whether a group id is one of the first `count`. Where its flag is 0 it is none of them, and no search is made.
-fn known(groups: &[u64], count: usize, flags: &[u8], id: u64) -> bool
-    requires { (count ≤ length groups.now) × (length flags.now ≡ 2048) × Flagged flags.now (take count groups.now) }
-    ensures { result ≡ among id (take count groups.now) }
-{
-    if flags[(id % 2048) as usize] == 0 {
-        return false;
-    }
-    seen(groups, count, id)
+impl<'a> Model for Groups<'a> {
+    ghost use Rattle.std.specs.Prelude.{◌≡◌, List, ℕ, ◌-◌, ◌≤◌, length, take};
+    ghost use Rattle.sheet.specs.Steps.{Flagged};
+
+    ghost Value = { ℕ × List ℕ };
+
+    ghost view = { λ g. (length g.ids.now - g.count, take g.count g.ids.now) };
+
+    ghost invariant = { λ g. (g.count ≤ length g.ids.now)
+        × (length g.flags.now ≡ 2048)
+        × Flagged g.flags.now (take g.count g.ids.now) };
 }
 
-// Sets the flag of a group id.
-fn flag(flags: &mut [u8], id: u64)
-    requires { length flags.old ≡ 2048 }
-    ensures { flags.new ≡ set flags.old (id % 2048) 1 }
+impl Groups<'_> {
+    // Whether an id is one of them. Where its flag is 0 it is not, and no search is made.
+    fn has(&self, id: u64) -> bool
+        ensures { result ≡ among id self.now.1 }
+    {
+        self.flags[(id % 2048) as usize] != 0 && seen(&self.ids[..self.count], id)
+    }
+
+    // Puts an id after them, with its flag.
+    fn put(&mut self, id: u64)
+        requires { 0 < self.old.0 }
+        ensures { self.new ≡ with_id self.old id }
+    {
+        self.ids[self.count] = id;
+        self.flags[(id % 2048) as usize] = 1;
+        self.count += 1;
+    }
+}
+
+// Whether an id is one of some. They are searched 32 at a time, which the compiler writes out without a loop: of a sheet of
+// 1,420 groups with random ids, admission takes 1.15 times as many instructions with `nodes::among` over all of them, and 1.88
+// times as many with `contains`; where all have one flag, 1.24 and 2.44 times as many.
+fn seen(ids: &[u64], id: u64) -> bool
+    ensures { result ≡ among id ids.now }
 {
-    flags[(id % 2048) as usize] = 1;
+    let (parts, rest) = ids.as_chunks::<32>();
+    parts.iter().any(|part| nodes::among(part, id)) || nodes::among(rest, id)
 }
 
 // Puts the mark of the P row with a number, from 0, that stands at a position: each 16th row of a node but the first has one.
@@ -116,7 +125,8 @@ fn params(s: &[u8], index: &mut [u64], from: usize, marks: usize) -> Result<Para
     let mut at = from;
     let mut count: u64 = 0;
     let mut place = marks;
-    // Where the next row stands is what the one before says, so no range counts them.
+    // Only another row ends them. A `for count in 0..` has an end of its own, after which `unreachable!()` would have to stand,
+    // and takes two instructions more for each P row: 1.6 % on a sheet of the shortest ones.
     loop {
         let row = row::next(s, at);
         let Ok(Line::Parameter) = row.line else {
@@ -133,43 +143,30 @@ fn params(s: &[u8], index: &mut [u64], from: usize, marks: usize) -> Result<Para
     }
 }
 
-// One field, or none where no F or G row stands: an F row with what belongs to it, or a G row, whose id is put after the first
-// `count` of `groups`, with its flag. A bad F or G row is refused by its fault.
-fn field(
-    s: &[u8],
-    at: usize,
-    groups: &mut [u64],
-    flags: &mut [u8],
-    count: usize,
-) -> Result<Option<FieldsRun>, RefusedRow>
-    requires { Holding groups.old flags.old count (rows (drop at s.now)) }
+// Where the row after one field stands, or none where no F or G row stands: after an F row with what belongs to it, or after a
+// G row, whose id is put after the others. A bad F or G row is refused by its fault.
+fn field(s: &[u8], at: usize, groups: &mut Groups<'_>) -> Result<Option<usize>, RefusedRow>
+    requires { Room groups.old.0 (rows (drop at s.now)) }
     ensures { MatchResult result
-        (Turned s.now (rows (drop at s.now)) (take count groups.old) count groups.new flags.new)
-        (RefusedAs s.now (groups_after (take count groups.old) (rows (drop at s.now)))) }
+        (Turned s.now (rows (drop at s.now)) groups.old.1 groups.new)
+        (RefusedAs s.now (groups_after groups.old.1 (rows (drop at s.now)))) }
 {
     let row = row::next(s, at);
     match row.line {
         Ok(Line::Field { explicit, .. }) => {
             let next = tree::slot(s, row.next, explicit)?;
-            Ok(Some(FieldsRun {
-                next,
-                groups: count,
-            }))
+            Ok(Some(next))
         }
         Ok(Line::Group { id, .. }) => {
-            if known(groups, count, flags, id) {
+            if groups.has(id) {
                 return Err(RefusedRow {
                     refusal: Refusal::SecondId,
                     column: 2,
                     at,
                 });
             }
-            groups[count] = id;
-            flag(flags, id);
-            Ok(Some(FieldsRun {
-                next: row.next,
-                groups: count + 1,
-            }))
+            groups.put(id);
+            Ok(Some(row.next))
         }
         line => {
             let end = tree::end_at(line, b'F', at)?;
@@ -179,32 +176,21 @@ fn field(
     }
 }
 
-// The fields of a node: F rows with what belongs to them, and G rows. The ids of all G rows before stand in `groups`, and
-// those of this node are put after them, with their flags. A G row has 44 bytes or more, so that there is room for all of them
-// where there is room for one in each 44 bytes.
-fn fields(
-    s: &[u8],
-    from: usize,
-    groups: &mut [u64],
-    flags: &mut [u8],
-    count: usize,
-) -> Result<FieldsRun, RefusedRow>
-    requires { Holding groups.old flags.old count (rows (drop from s.now)) }
+// Where the row after the fields of a node stands: F rows with what belongs to them, and G rows, whose ids are put after those
+// of all G rows before. A G row has 44 bytes or more, so that there is room for all of them where there is room for one in each
+// 44 bytes.
+fn fields(s: &[u8], from: usize, groups: &mut Groups<'_>) -> Result<usize, RefusedRow>
+    requires { Room groups.old.0 (rows (drop from s.now)) }
     ensures { MatchResult result
-        (FieldsRead s.now (rows (drop from s.now)) (take count groups.old) groups.new flags.new)
-        (RefusedAs s.now (groups_after (take count groups.old) (rows (drop from s.now)))) }
+        (FieldsRead s.now (rows (drop from s.now)) groups.old.1 groups.new)
+        (RefusedAs s.now (groups_after groups.old.1 (rows (drop from s.now)))) }
 {
     let mut at = from;
-    let mut held = count;
     // A field says itself where the next one begins, so no range counts them.
-    while let Some(read) = field(s, at, groups, flags, held)? {
-        at = read.next;
-        held = read.groups;
+    while let Some(next) = field(s, at, groups)? {
+        at = next;
     }
-    Ok(FieldsRun {
-        next: at,
-        groups: held,
-    })
+    Ok(at)
 }
 
 // What belongs to an N row, whose numbers `node` has: its P rows, its F and G rows. Its entry, with the count of the P rows and
@@ -212,19 +198,17 @@ fn fields(
 fn members(
     s: &[u8],
     index: &mut [u64],
-    groups: &mut [u64],
-    flags: &mut [u8],
+    groups: &mut Groups<'_>,
     held: Held,
     node: Entry,
 ) -> Result<NodeRun, RefusedRow>
-    requires { Ready s.now node.params groups.old flags.old held × Begun s.now held node }
+    requires { Ready s.now node.params groups.old.0 held × Begun s.now held node }
     ensures { MatchResult result
-        (NodeRead s.now held (take held.groups groups.old) index.old
-        (members_here s.now node (take held.groups groups.old)) groups.new flags.new index.new)
-        (RefusedAs s.now (members_here s.now node (take held.groups groups.old))) }
+        (NodeRead s.now held groups.old.1 index.old (members_here s.now node groups.old.1) groups.new index.new)
+        (RefusedAs s.now (members_here s.now node groups.old.1)) }
 {
     let listed = params(s, index, node.params, held.marks)?;
-    let read = fields(s, listed.next, groups, flags, held.groups)?;
+    let next = fields(s, listed.next, groups)?;
     let entry = Entry {
         count: listed.count,
         fields: listed.next,
@@ -233,8 +217,7 @@ fn members(
     nodes::put(index, 1 + 12 * held.nodes, entry);
     Ok(NodeRun {
         id: node.id,
-        next: read.next,
-        groups: read.groups,
+        next,
         marks: listed.marks,
     })
 }
@@ -244,18 +227,15 @@ fn node(
     s: &[u8],
     index: &mut [u64],
     at: usize,
-    ids: &[u64],
-    groups: &mut [u64],
-    flags: &mut [u8],
+    ids: &[u64; limits::NODES],
+    groups: &mut Groups<'_>,
     held: Held,
 ) -> Result<NodeRun, RefusedRow>
-    requires { (length ids.now ≡ 64) × Ready s.now at groups.old flags.old held }
+    requires { Ready s.now at groups.old.0 held }
     ensures { MatchResult result
-        (NodeRead s.now held (take held.groups groups.old) index.old
-        (read_node (take held.nodes ids.now) (take held.groups groups.old) (rows (drop at s.now)))
-        groups.new flags.new index.new)
-        (RefusedAs s.now
-        (read_node (take held.nodes ids.now) (take held.groups groups.old) (rows (drop at s.now)))) }
+        (NodeRead s.now held groups.old.1 index.old
+        (read_node (take held.nodes ids.now) groups.old.1 (rows (drop at s.now))) groups.new index.new)
+        (RefusedAs s.now (read_node (take held.nodes ids.now) groups.old.1 (rows (drop at s.now)))) }
 {
     let row = row::next(s, at);
     let Ok(
@@ -272,7 +252,7 @@ fn node(
     else {
         return Err(tree::wrong_at(row.line, b'N', at));
     };
-    if seen(ids, held.nodes, id) {
+    if seen(&ids[..held.nodes], id) {
         return Err(RefusedRow {
             refusal: Refusal::SecondId,
             column: 2,
@@ -293,34 +273,35 @@ fn node(
         marks: held.marks,
         fields: 0,
     };
-    members(s, index, groups, flags, held, node)
+    members(s, index, groups, held, node)
 }
 
 // Nodes up to the end of the sheet, 1 to 64 of them, with room for the ids of their groups. Their entries, marks and count are
 // put into the index.
 fn nodes(s: &[u8], index: &mut [u64], from: usize, groups: &mut [u64]) -> Result<(), RefusedRow>
-    requires { (size (rows (drop from s.now)) ≤ 44 * length groups.old + 43)
-        × (size (rows (drop from s.now)) ≤ 65536) }
+    requires { Room (length groups.old) (rows (drop from s.now)) × (size (rows (drop from s.now)) ≤ 65536) }
     ensures { NodesRead s.now result index.new (read_nodes 64 [] [] (rows (drop from s.now))) }
 {
     let mut ids = [0u64; limits::NODES];
     let mut flags = [0u8; 2048];
-    let mut groups_held: usize = 0;
+    let mut groups = Groups {
+        ids: groups,
+        flags: &mut flags,
+        count: 0,
+    };
     let mut marks = nodes::first_mark(s.len());
     let mut at = from;
     for count in 0..limits::NODES {
         let held = Held {
             nodes: count,
-            groups: groups_held,
             marks,
         };
-        let one = node(s, index, at, &ids, groups, &mut flags, held)?;
+        let one = node(s, index, at, &ids, &mut groups, held)?;
         ids[count] = one.id;
         if s.len() <= one.next {
             nodes::store(index, 0, count as u64 + 1);
             return Ok(());
         }
-        groups_held = one.groups;
         marks = one.marks;
         at = one.next;
     }
@@ -333,8 +314,7 @@ fn nodes(s: &[u8], index: &mut [u64], from: usize, groups: &mut [u64]) -> Result
 
 // The nodes of a sheet, with room for N group ids.
 fn nodes_with<const N: usize>(s: &[u8], index: &mut [u64], from: usize) -> Result<(), RefusedRow>
-    requires { (N < 2 ^ 60) × (size (rows (drop from s.now)) ≤ 44 * N + 43)
-        × (size (rows (drop from s.now)) ≤ 65536) }
+    requires { (N < 2 ^ 60) × Room N (rows (drop from s.now)) × (size (rows (drop from s.now)) ≤ 65536) }
     ensures { NodesRead s.now result index.new (read_nodes 64 [] [] (rows (drop from s.now))) }
 {
     let mut groups = [0u64; N];

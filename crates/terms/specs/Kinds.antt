@@ -1,5 +1,7 @@
--- The kinds of types and defaults by their numbers in T and V lines. Assumes nothing.
-use Rattle.std.specs.Prelude.{ℕ, Bool, List, [], ◌∷◌, leb, get_or}
+-- The kinds of types and defaults by their numbers in T and V lines; each other number is an unnamed kind. Assumes nothing.
+use Rattle.std.specs.Prelude.{ℕ, ◌+◌, ◌-◌, Bool, List, [], ◌∷◌, leb, get_or}
+use native.Mathlib.Omega.{arith}
+use Rattle.terms.specs.declared.kinds.Unnamed.{Unnamed}
 use Rattle.terms.specs.declared.kinds.Kind.{Kind}
 use Rattle.terms.specs.declared.kinds.Kind.TheVariants as kind
 
@@ -23,17 +25,22 @@ number_of kind.Enum = 15
 number_of kind.Struct = 16
 number_of kind.Interface = 17
 number_of kind.AnyPointer = 18
+number_of (kind.Unnamed unnamed) = unnamed.number
 
--- the kinds before the last, in the order of their numbers
+-- the kinds that have names, in the order of their numbers
 abbrev pub numbered : List Kind
 numbered =
     kind.Void ∷ kind.Bool ∷ kind.Int8 ∷ kind.Int16 ∷ kind.Int32 ∷ kind.Int64 ∷ kind.Uint8 ∷ kind.Uint16 ∷ kind.Uint32
     ∷ kind.Uint64 ∷ kind.Float32 ∷ kind.Float64 ∷ kind.Text ∷ kind.Data ∷ kind.List ∷ kind.Enum ∷ kind.Struct
-    ∷ kind.Interface ∷ []
+    ∷ kind.Interface ∷ kind.AnyPointer ∷ []
 
--- the kind with a number; one past the last counts as an AnyPointer
+-- the number so far past the first that names no kind
+abbrev pub unnamed : ℕ → Unnamed
+unnamed more = record { number = 19 + more; past = omega arith }
+
+-- the kind with a number
 unfoldable pub kind_numbered : ℕ → Kind
-kind_numbered n = get_or numbered n kind.AnyPointer
+kind_numbered n = get_or numbered n (kind.Unnamed (unnamed (n - 19)))
 
 -- the kinds of Void, Bool and the numbers
 abbrev pub is_primitive : ℕ → Bool

@@ -28,7 +28,7 @@ pub enum Refusal {
 }
 
 impl Refusal {
-    // The refusal's number.
+    // The refusal's number: a method, as a `From` would not say of what number it is.
     pub fn number(self) -> u64
         ensures { result ≡ number self }
     {

@@ -10,6 +10,10 @@ ghost use Rattle.text.specs.Text.{Wrote, state_at};
 
 // Where the next byte goes: the fill count. Past the end of the buffer bytes are counted and not written, and the count
 // stops at the largest usize.
+//
+// The buffer is no field of it. After a refusal the state of before is still there (the chain of a brand goes on from it), and
+// in a struct that holds the `&mut` each writer would owe a second clause, that the buffer is the same one. Speed says nothing
+// for either: by such a struct the texts of crate calls take 0.99 to 1.01 times as many instructions, and measured 0.99 to 1.06.
 #[derive(Clone, Copy)]
 pub struct Text {
     at: usize,

@@ -32,7 +32,7 @@ good-fault letter Parameter = refl
 good-fault letter (Field a b c d) = refl
 good-fault letter (Group a b) = refl
 good-fault letter (Typ a b c d) = refl
-good-fault letter (Scope a b c) = refl
+good-fault letter (Scope a b) = refl
 good-fault letter Unbound = refl
 good-fault letter (Value a b) = refl
 good-fault letter (Word a) = refl
@@ -61,7 +61,7 @@ module _ {A : Type 0} where
 
   pub else-scope : (l : Result Line BadLine) (y : ℕ → ℕ → ℕ → A) (z : A) → OtherThan 6 l → as_scope (line_said l) y z ≡ z
   unfolding line_said
-  else-scope (Ok l) y z h = not-scope l y z (not_scope-tag l (λ a b c i. h (ap (tag_of the_type) i)))
+  else-scope (Ok l) y z h = not-scope l y z (not_scope-tag l (λ a b i. h (ap (tag_of the_type) i)))
   else-scope (Err b) y z h = refl
 
   pub else-unbound : (l : Result Line BadLine) (y z : A) → OtherThan 7 l → as_unbound (line_said l) y z ≡ z

@@ -7,7 +7,7 @@ use Rattle.std.specs.Prelude.{Option, None, Some, Result, Ok, Err}
 use Prim.Native.Nat.{ℕ, zero, suc, ◌+◌, ◌-◌, ◌≤◌}
 use native.Mathlib.Omega.{arith}
 use native.Mathlib.Numerals.{add-one, sub-one}
-use borrow.Author.Tests.{eq-eqb, ne_eqb}
+use borrow.Author.Tests.{ne_eqb, le-ltb}
 use lib.Dec.{eqb}
 use lib.ListN.{drop}
 use Rattle.text.specs.Bytes.{Str, cond}
@@ -47,6 +47,10 @@ alone ty kind.List a b c rest l e s i = absurd (l refl)
 alone ty kind.Enum a b c rest l e s i = absurd (e refl)
 alone ty kind.Struct a b c rest l e s i = absurd (s refl)
 alone ty kind.Interface a b c rest l e s i = absurd (i refl)
+alone ty (kind.Unnamed u) a b c rest l e s i =
+    let n = u.number in
+    let past = u.past in
+    rw (le-ltb n 14 (omega arith), ne_eqb n 14 (λ z. omega arith), le-ltb n 18 (omega arith)) refl
 alone ty k a b c rest l e s i = refl
 
 with_scopes :
@@ -167,16 +171,16 @@ module _ (rs rest : Rows) (l : Result Line BadLine) (here : line_said l ≡ line
         go (Some k) = refl
         go None = passed-map _ (ty rs)
 
-    module _ (i b n : ℕ) (is : l ≡ Ok (Scope i b n)) where
-      pub scope-inherit : b ≡ 0 → got tt rest ≡ passed (read_scope ty rs)
+    module _ (i : ℕ) (bindings : Option ℕ) (is : l ≡ Ok (Scope i bindings)) where
+      pub scope-inherit : bindings ≡ None → got tt rest ≡ passed (read_scope ty rs)
       unfolding line_said read_scope
-      scope-inherit h = rw (← here, is, eq-eqb b 0 h, ← after)
+      scope-inherit h = rw (← here, is, h, ← after)
 
       pub scope-bind :
-          (w : Reading (Unit {0})) → (b ≡ 0 → ⊥) → w ≡ passed (times (read_binding ty) stop n rest)
+          (n : ℕ) (w : Reading (Unit {0})) → bindings ≡ Some n → w ≡ passed (times (read_binding ty) stop n rest)
           → w ≡ passed (read_scope ty rs)
       unfolding line_said read_scope
-      scope-bind w h e = e ∙ sym (rw (← here, is, ne_eqb b 0 h, ← after) (passed-map _ (times (read_binding ty) stop n rest)))
+      scope-bind n w h e = e ∙ sym (rw (← here, is, h, ← after) (passed-map _ (times (read_binding ty) stop n rest)))
 
     pub scope_other :
         OtherThan 6 l

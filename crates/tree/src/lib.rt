@@ -21,7 +21,8 @@ pub struct RefusedRow {
     pub at: usize,
 }
 
-// W rows that stand one after the other: how many, and where the row after them stands.
+// W rows that stand one after the other: how many, and where the row after them stands. No struct over any type serves for this
+// and `row::Got`, as the field's name says what is counted.
 #[derive(Clone, Copy)]
 pub struct Counted {
     pub count: u64,
@@ -108,12 +109,12 @@ fn scope(s: &[u8], at: usize, left: usize) -> Result<usize, RefusedRow>
     ensures { walked s.now result ≡ passed (read_scope (read_type left) (rows (drop at s.now))) }
 {
     let row = row::next(s, at);
-    let Ok(Line::Scope { bind, count, .. }) = row.line else {
+    let Ok(Line::Scope { bindings, .. }) = row.line else {
         return Err(wrong_at(row.line, b'S', at));
     };
-    if bind == 0 {
+    let Some(count) = bindings else {
         return Ok(row.next);
-    }
+    };
     binds(s, row.next, count, left)
 }
 

@@ -42,24 +42,26 @@ pub fn displayed(root: &[u8], path: &[u8], leaf: Leaf, t: Text, buf: &mut [u8]) 
 pub fn plain(root: &[u8], kind: Kind, leaf: Leaf, t: Text, buf: &mut [u8]) -> Text
     ensures { Wrote buf.old t (plain_string root.now leaf (number_of kind)) buf.new result }
 {
-    match kind {
-        Kind::Text => displayed(root, b"::text::", leaf, t, buf),
-        Kind::Data => displayed(root, b"::data::", leaf, t, buf),
-        _ => codegen_types::type_name(kind, t, buf),
-    }
+    let path: &[u8] = match kind {
+        Kind::Text => b"::text::",
+        Kind::Data => b"::data::",
+        _ => return codegen_types::type_name(kind, t, buf),
+    };
+    displayed(root, path, leaf, t, buf)
 }
 
 // The list module for an element of this kind, with its colons.
 fn list_module(kind: Kind, t: Text, buf: &mut [u8]) -> Text
     ensures { Wrote buf.old t (ascii "::" ++ list_module (number_of kind) ++ ascii "::") buf.new result }
 {
-    match kind {
-        Kind::List => t.bytes(buf, b"::list_list::"),
-        Kind::Enum => t.bytes(buf, b"::enum_list::"),
-        Kind::Struct => t.bytes(buf, b"::struct_list::"),
-        Kind::Interface => t.bytes(buf, b"::capability_list::"),
-        _ => t.bytes(buf, b"::primitive_list::"),
-    }
+    let module: &[u8] = match kind {
+        Kind::List => b"::list_list::",
+        Kind::Enum => b"::enum_list::",
+        Kind::Struct => b"::struct_list::",
+        Kind::Interface => b"::capability_list::",
+        _ => b"::primitive_list::",
+    };
+    t.bytes(buf, module)
 }
 
 // A list's text up to its element's.

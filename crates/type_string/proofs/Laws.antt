@@ -179,39 +179,43 @@ scope-bad left sheet rs o b at h =
 
 module _ (left : ℕ) (sheet : Sheet) (q ps : Rows) (own : ℕ) (count : own ≡ length (names_of ps)) (l : List ℕ) (p : Arguments)
     (l' : List ℕ) (o : Option type_string.Scope) (here : ScopeAt left sheet q o) where
-  pub own_other : (line : Result Line BadLine) → line_said line ≡ line_at q → ((i b m : ℕ) → line ≡ Ok (Scope i b m) → ⊥)
+  pub own_other : (line : Result Line BadLine) → line_said line ≡ line_at q
+      → ((i : ℕ) (n : Option ℕ) → line ≡ Ok (Scope i n) → ⊥)
       → (r : Arguments) → Listed l p (replicate own (any_owned sheet.root)) l' r
       → Lists (arguments_of sheet.root (names_of ps) o) l p l' (Ok r)
   unfolding arguments_of line_said
   own_other line at other r w = go q line at other here
     where
-      go : (q : Rows) (line : Result Line BadLine) → line_said line ≡ line_at q → ((i b m : ℕ) → line ≡ Ok (Scope i b m) → ⊥)
+      go : (q : Rows) (line : Result Line BadLine) → line_said line ≡ line_at q
+          → ((i : ℕ) (n : Option ℕ) → line ≡ Ok (Scope i n) → ⊥)
           → ScopeAt left sheet q o → Lists (arguments_of sheet.root (names_of ps) o) l p l' (Ok r)
       go [] line e other h = rw (h, map-replicate (any_owned sheet.root) (names_of ps), ← count) (all_listed w)
       go (x ∷ rs) (Ok f) e other h =
-          absurd (scope-not left sheet (x ∷ rs) o f e (not_scope-tag f (λ i b m y. other i b m (ap Ok y))) h)
+          absurd (scope-not left sheet (x ∷ rs) o f e (not_scope-tag f (λ i n y. other i n (ap Ok y))) h)
       go (x ∷ rs) (Err b) e other h = absurd (scope-bad left sheet (x ∷ rs) o b e h)
 
-  module _ (line : Result Line BadLine) (said : line_said line ≡ line_at q) (i b m : ℕ) (is : line ≡ Ok (Scope i b m)) where
-    at : good_said (Scope i b m) ≡ line_at q
+  module _ (line : Result Line BadLine) (said : line_said line ≡ line_at q) (i : ℕ) (bindings : Option ℕ)
+      (is : line ≡ Ok (Scope i bindings)) where
+    at : good_said (Scope i bindings) ≡ line_at q
     unfolding line_said
     at = rw is at said
 
-    pub own-inherit : b ≡ 0 → (r : Arguments) → Listed l p (texts_of own ps) l' r
+    pub own-inherit : bindings ≡ None → (r : Arguments) → Listed l p (texts_of own ps) l' r
         → Lists (arguments_of sheet.root (names_of ps) o) l p l' (Ok r)
     unfolding arguments_of
-    own-inherit z r w = let y : o ≡ Some type_string.inherited = scope-inherit left sheet q o (Scope i b m) i b m at refl z
-        (scope-there left sheet q o (Scope i b m) i b m at refl here) in
+    own-inherit z r w = let y : o ≡ Some type_string.inherited =
+        scope-inherit left sheet q o (Scope i bindings) i at (ap (Scope i) z)
+        (scope-there left sheet q o (Scope i bindings) i bindings at refl here) in
         rw y (all_listed (rw (texts-names own ps count) at w))
 
-    module _ (rest : Rows) (next : rest ≡ rest_of q) (z : b ≡ 0 → ⊥) where
+    module _ (rest : Rows) (next : rest ≡ rest_of q) (m : ℕ) (z : bindings ≡ Some m) where
       by-binds : (Q : Out (List Str) → Type 0) → On (times (read_binding (read_type left)) stop m rest)
           (λ bs. Q (cond (eqb m own) (all_of (bindings_of bs sheet)) (refused 8)))
           → Q (arguments_of sheet.root (names_of ps) o)
       unfolding arguments_of
       by-binds Q u = go (times (read_binding (read_type left)) stop m rest) o
-          (scope-binds left sheet q rest o (Scope i b m) i b m at refl next z
-          (scope-there left sheet q o (Scope i b m) i b m at refl here)) u
+          (scope-binds left sheet q rest o (Scope i bindings) i m at (ap (Scope i) z) next
+          (scope-there left sheet q o (Scope i bindings) i bindings at refl here)) u
           (binds-length left sheet m rest)
         where
           go : (g : Reading Binds) (o : Option type_string.Scope)

@@ -30,8 +30,8 @@ struct Brand {
     count: u64,
 }
 
-// A node of a brand's chain: where its P rows begin, how many they are, and where its scope stands; the sheet's end where it has
-// none.
+// A node of a brand's chain: where its P rows begin, how many they are, and where its scope stands; the sheet's end, as
+// `types::scopes` gives it, where it has none.
 #[derive(Clone, Copy)]
 struct Own {
     params: usize,
@@ -80,7 +80,7 @@ fn write_type(
             };
             do_branding(source, brand, left, leaf, t, buf)
         }
-        Kind::AnyPointer => {
+        Kind::AnyPointer | Kind::Unnamed(_) => {
             if row.a == 0 {
                 let path = b"::any_pointer::";
                 return Ok(type_parts::displayed(source.root, path, leaf, t, buf));
@@ -111,7 +111,7 @@ fn write_list(
     match row.kind {
         Kind::Text => Ok(type_parts::displayed(source.root, b"::text_list::", leaf, t, buf)),
         Kind::Data => Ok(type_parts::displayed(source.root, b"::data_list::", leaf, t, buf)),
-        Kind::AnyPointer => Err(Refusal::ListOfAnyPointer),
+        Kind::AnyPointer | Kind::Unnamed(_) => Err(Refusal::ListOfAnyPointer),
         _ => {
             let t = type_parts::list_head(source.root, row.kind, leaf, t, buf);
             let element = codegen_types::element_leaf(row.kind);
@@ -207,12 +207,12 @@ fn write_own(
     ensures within { WithinArguments buf.old p buf.new result }
 {
     let g = row::next(source.bytes, own.scope);
-    let Ok(Line::Scope { id: _, bind, count }) = g.line else {
+    let Ok(Line::Scope { id: _, bindings }) = g.line else {
         return Ok(type_parts::unbound(source.root, own.count, p, buf));
     };
-    if bind == 0 {
+    let Some(count) = bindings else {
         return Ok(type_parts::inherited(source.bytes, own.params, own.count, p, buf));
-    }
+    };
     if count != own.count {
         return Err(Refusal::BindingsDiffer);
     }

@@ -462,7 +462,7 @@ pub scope_other : (id n : ℕ) (rs : Rows) (found : Option Rows) (l : Line) → 
 unfolding last_scope line_said
 scope_other id zero rs found l e h = refl
 scope_other id (suc n) rs found l e h =
-    rw (← e, not-scope l _ _ (not_scope-tag l (λ i b m z. h (ap (tag_of the_type) z))))
+    rw (← e, not-scope l _ _ (not_scope-tag l (λ i n z. h (ap (tag_of the_type) z))))
 
 pub scope-bad : (id n : ℕ) (rs : Rows) (found : Option Rows) (b : BadLine) → line_said (Err b) ≡ line_at rs
     → last_scope id n rs found ≡ found

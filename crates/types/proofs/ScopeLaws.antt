@@ -179,9 +179,9 @@ placed left sheet s from n nodes places count k w h f g =
     (scopes-parts left n (rows (drop from s))) (scope_counts left (get_or nodes k 0) sheet n (rows (drop from s)))
 
 -- a scope's row stands at a place only where there is a scope
-pub scope-there : (left : ℕ) (sheet : Sheet) (q : Rows) (o : Option Scope) (l : Line) (i b m : ℕ) → good_said l ≡ line_at q
-    → l ≡ line.Scope i b m → ScopeAt left sheet q o → ScopeHere left sheet q o
+pub scope-there : (left : ℕ) (sheet : Sheet) (q : Rows) (o : Option Scope) (l : Line) (i : ℕ) (n : Option ℕ)
+    → good_said l ≡ line_at q → l ≡ line.Scope i n → ScopeAt left sheet q o → ScopeHere left sheet q o
 unfolding line_at
-scope-there left sheet [] o l i b m e is h =
+scope-there left sheet [] o l i n e is h =
     let y : ◌≡◌ {A = ℕ} 0 1 = ap (λ (l : Content). as_scope l (λ i b m. 1) 0) (sym e ∙ ap good_said is) in never y
-scope-there left sheet (r ∷ rs) o l i b m e is h = h
+scope-there left sheet (r ∷ rs) o l i n e is h = h

@@ -3,7 +3,7 @@
 use mathlib.Core.Path.{◌≡◌, refl, sym, ap, ◌∙◌, subst}
 use mathlib.Core.Bool.{Bool, true, false}
 use mathlib.Core.List.{[], ◌∷◌}
-use Rattle.std.specs.Prelude.{Option, Some, Ok, Err}
+use Rattle.std.specs.Prelude.{Option, None, Some, Ok, Err}
 use Prim.Native.Nat.{ℕ, zero, suc, ◌-◌, ◌<◌, ◌≤◌}
 use native.Mathlib.Decide.{dec_lt}
 use native.Mathlib.Omega.{arith}
@@ -30,7 +30,8 @@ use Rattle.tree.proofs.WalkLaws.{by_told}
 use Rattle.terms.specs.Kinds.{number_of, kind_numbered}
 use Rattle.terms.specs.declared.kinds.Kind.{Kind}
 use Rattle.terms.specs.declared.kinds.Kind.TheVariants as kinds
-use Rattle.terms.proofs.KindLaws.{number-most, as-kind}
+use Rattle.terms.proofs.KindLaws.{number-back}
+use Rattle.row.proofs.PartLaws.{named-kind}
 use Rattle.codegen_types.specs.Out.{Out, ok, refused}
 use Rattle.codegen_types.specs.TypeString as type_string
 use Rattle.codegen_types.specs.TypeString.{type_string, scopes_of, bindings_of, any_owned, get_qualified_module, list_string}
@@ -46,12 +47,6 @@ use Rattle.types.proofs.Laws.{on-map, on-type, on_one, on-two, on-all, as_unboun
 pub type-zero : (left : ℕ) (rs : Rows) (P : Ty → Type 0) → left ≡ 0 → On (read_type left rs) P
 unfolding read_type
 type-zero left rs P z = rw z (on-type P rs (λ k a b c rest. no (fault 4 1) rs) (λ k a b c e. tt))
-
--- what belongs to a T row is said of its kind
-type_kind : (ty : Reader Ty) (k a b c : ℕ) → type_from ty k a b c ≡ type_from ty (number_of (kind_numbered k)) a b c
-unfolding type_from
-type_kind ty k a b c = as-kind (λ (n : ℕ). type_from ty n a b c)
-    (λ n h. rw (le-ltb n 14 (omega arith), ne_eqb n 14 (λ z. omega arith), le-ltb n 18 h) refl) k
 
 -- a type whose row was read, with what belongs to it
 pub type_row_lem : (s : Str) (at : ℕ) (r : TypeRow) (left : ℕ) (P : Ty → Type 0) → TypeRowAt s at r → (left ≡ 0 → ⊥)
@@ -72,7 +67,7 @@ type_row_lem s at r (suc l) P w z h =
           ap (λ (q : TypeRow). q.b) e,
           ap (λ (q : TypeRow). q.c) e,
           w.next,
-          ← type_kind (read_type l) k a b c,
+          number-back k,
         ) at h
 
 -- another line as a T row, or a bad one
@@ -105,7 +100,7 @@ module _ (rs : Rows) where
 
   pub kind-here : (k : Kind) (a b c : ℕ) → line_said (Ok (line.Typ k a b c)) ≡ line_at rs → number_of k ≡ kind_at rs
   unfolding line_said
-  kind-here k a b c e = rw (← e) (go (number_of k) (number-most k))
+  kind-here k a b c e = rw (← e) (go (number_of k) (named-kind rs _ a b c (sym e)))
     where
       go : (n : ℕ) → n ≤ 18 → n ≡ cond (ltb n 18) n 18
       go n m = by-order (dec_lt n 18)
@@ -312,22 +307,21 @@ scope_of-more : (ty : Reader Ty) (rs : Rows) (i b m : ℕ) → line_at rs ≡ Sc
 unfolding read.read_scope
 scope_of-more ty rs i b m e = rw e
 
-pub scope-inherit : (left : ℕ) (sheet : Sheet) (rs : Rows) (o : Option type_string.Scope) (l : Line) (i b m : ℕ)
-    → good_said l ≡ line_at rs → l ≡ line.Scope i b m → b ≡ 0
+pub scope-inherit : (left : ℕ) (sheet : Sheet) (rs : Rows) (o : Option type_string.Scope) (l : Line) (i : ℕ)
+    → good_said l ≡ line_at rs → l ≡ line.Scope i None
     → ScopeHere left sheet rs o → o ≡ Some type_string.inherited
 unfolding ScopeHere scopes_of
-scope-inherit left sheet rs o l i b m at is z h =
-    rw (scope_of-more (read_type left) rs i b m (sym at ∙ ap good_said is), eq-eqb b 0 z) at h
+scope-inherit left sheet rs o l i at is h =
+    rw (scope_of-more (read_type left) rs i 0 0 (sym at ∙ ap good_said is)) at h
 
-pub scope-binds : (left : ℕ) (sheet : Sheet) (rs rest : Rows) (o : Option type_string.Scope) (l : Line) (i b m : ℕ)
-    → good_said l ≡ line_at rs → l ≡ line.Scope i b m → rest ≡ rest_of rs → (b ≡ 0 → ⊥)
+pub scope-binds : (left : ℕ) (sheet : Sheet) (rs rest : Rows) (o : Option type_string.Scope) (l : Line) (i m : ℕ)
+    → good_said l ≡ line_at rs → l ≡ line.Scope i (Some m) → rest ≡ rest_of rs
     → ScopeHere left sheet rs o → Has (times (read_binding (read_type left)) stop m rest)
     (λ bs. o ≡ Some (type_string.binds (bindings_of bs sheet)))
 unfolding ScopeHere scopes_of
-scope-binds left sheet rs rest o l i b m at is next z h =
+scope-binds left sheet rs rest o l i m at is next h =
     go (times (read_binding (read_type left)) stop m rest) (rw (
-      scope_of-more (read_type left) rs i b m (sym at ∙ ap good_said is),
-      ne_eqb b 0 z,
+      scope_of-more (read_type left) rs i 1 m (sym at ∙ ap good_said is),
       ← next,
     ) at h)
   where

@@ -91,8 +91,9 @@ pub fn past(s: &[u8], from: usize, count: u64) -> usize
 }
 
 // The chain of a node's parents, innermost first: the ids of its nodes, where their P rows begin, how many these are, and the
-// refusal at its end. The ids have an array of their own since they are handed on as a slice, and the refusal stands beside the
-// nodes since those met before it count too.
+// refusal at its end. There is no heap, so how many nodes there are stands beside the arrays. Each array is its own, since the
+// ids go to `climb` and `scopes` as a slice, and the positions to the definition of a chain (`before`) as a list. The refusal
+// stands beside the nodes since those met before it count too.
 #[derive(Clone, Copy)]
 pub struct Links {
     pub ids: [u64; 16],
@@ -158,8 +159,8 @@ fn note(ids: &[u64], places: &mut [usize; 16], id: u64, at: usize)
     }
 }
 
-// The positions of the last of so many scopes with each of at most 16 ids; the sheet's end where there is none. What belongs to
-// a scope is passed over.
+// The positions of the last of so many scopes with each of at most 16 ids; the sheet's end where there is none, since no S row
+// stands there, which whoever reads one tests: an Option would be a second test. What belongs to a scope is passed over.
 pub fn scopes(s: &[u8], from: usize, count: u64, ids: &[u64]) -> [usize; 16]
     ensures { LastScopes s.now from count ids.now result }
 {
@@ -167,21 +168,14 @@ pub fn scopes(s: &[u8], from: usize, count: u64, ids: &[u64]) -> [usize; 16]
     let mut at = from;
     for k in 0..count {
         let got = row::next(s, at);
-        let Ok(
-            Line::Scope {
-                id,
-                count: bindings,
-                ..
-            },
-        ) = got.line
-        else {
+        let Ok(Line::Scope { id, bindings }) = got.line else {
             return places;
         };
         note(ids, &mut places, id, at);
         if k + 1 == count {
             return places;
         }
-        at = past(s, got.next, bindings);
+        at = past(s, got.next, bindings.unwrap_or(0));
     }
     places
 }

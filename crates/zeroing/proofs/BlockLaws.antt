@@ -1,20 +1,22 @@
 -- Laws of the search by blocks of places. A place whose offset is neither the line's nor 0 is no stop, so that a search from the
--- end of a block without such an offset goes on from the block's start. By induction on the places of the block, from the last
--- down. Assumes nothing.
+-- end of a block without such an offset goes on from the block's start; one that finds nothing in a block goes on from there too.
+-- By induction on the places of the block, from the last down. Assumes nothing.
 use mathlib.Core.Path.{◌≡◌, refl, sym, ap, ◌∙◌}
 use mathlib.Core.Bool.{Bool, true, false}
 use mathlib.Core.List.{List, [], ◌∷◌}
-use Prim.Native.Nat.{ℕ, zero, suc, ◌+◌, ◌*◌, ◌-◌, ◌/◌, ◌%◌, ◌≤◌, ◌<◌}
+use Prim.Native.Nat.{ℕ, zero, suc, ◌+◌, ◌*◌, ◌-◌, ◌≤◌, ◌<◌}
 use native.Mathlib.Nat.{add-zero, add-suc}
 use native.Mathlib.Omega.{arith}
 use lib.Dec.{eqb}
 use lib.ListN.{length, get_or, take, drop, length-drop}
 use lib.Seq.{take-suc, get_or-drop}
 use Rattle.std.proofs.lemmas.Bool.Decides.{nat_tests}
-use Rattle.text.specs.Bytes.{cond, either}
+use Rattle.text.specs.Bytes.{either}
 use Rattle.tree.specs.Read.{among}
 use Rattle.tree.proofs.AmongLaws.{among_append}
-use Rattle.zeroing.specs.Table.{table_size, block_size, may_stop, place_below, blocks_left}
+use Rattle.std.specs.Prelude.{None, Some}
+use Rattle.zeroing.specs.Table.{table_size, block_size, stops, may_stop, place_below, FoundIn, IsPlace}
+use Rattle.zeroing.proofs.TableLaws.{place_here}
 use Rattle.zeroing.proofs.SlotLaws.{either-false}
 
 -- ---- a search down the places
@@ -44,60 +46,42 @@ module _ (xs ys : List ℕ) (c o none : ℕ) where
       let free = none_of 0 xs from k h n.1 in
       rw (add-suc from k, own.1, free.1) (places-passed from k (omega arith) (rw (own.0, free.0) refl))
 
-  -- a search from the end of the blocks that are left
-  blocks-passed : (n : ℕ) → n * block_size ≤ length xs
-      → place_below xs ys c o none (blocks_left xs o n * block_size) ≡ place_below xs ys c o none (n * block_size)
-  unfolding blocks_left
-  blocks-passed zero h = refl
-  blocks-passed (suc n) h =
-      let next : suc n * block_size ≡ n * block_size + block_size = omega arith in
-      let ih = blocks-passed n (omega arith) in
-      let here = places-passed (n * block_size) block_size (omega arith) in
-      rw next (grind (arith, nat_tests))
+-- ---- a search among the places from one on and below another
 
--- ---- the blocks that are left
+module _ (xs ys : List ℕ) (c o from to i : ℕ)
+    (passed : place_below xs ys c o table_size i ≡ place_below xs ys c o table_size to) where
+  -- none of them, or the one below i
+  pub in-none : from ≤ i → i ≤ from → FoundIn xs ys c o from to None
+  in-none f g = let e : i ≡ from = omega arith in
+      record { found = sym passed ∙ ap (place_below xs ys c o table_size) e; inside = λ j n. cc }
 
-blocks_fewer : (xs : List ℕ) (o n : ℕ) → blocks_left xs o n ≤ n
-unfolding blocks_left
-blocks_fewer xs o zero = omega arith
-blocks_fewer xs o (suc n) = grind (arith, nat_tests, blocks_fewer xs o n)
+  pub in-here : 0 < i → i ≤ table_size → (b : Bool) → b ≡ stops xs ys c o (i - 1) → b ≡ true
+      → FoundIn xs ys c o from to (Some (i - 1))
+  in-here more most b is e = record {
+    found = sym (place_here xs ys c o i _ passed more b is e);
+    inside = λ j n. let m : i - 1 ≡ j = cc in omega arith;
+  }
 
--- one turn down them: q blocks are left in the end
-module _ (xs : List ℕ) (o n q : ℕ) (left : blocks_left xs o n ≡ q) where
-  pub blocks_none : n ≤ 0 → 0 ≡ q
-  unfolding blocks_left
-  blocks_none h = let e : n ≡ 0 = omega arith in rw e at left
+pub ruleset in_steps = (in-none, in-here)
 
-  module _ (more : 0 < n) (b : Bool)
-      (is : b
-      ≡ may_stop (take ((n - 1) * block_size + block_size - (n - 1) * block_size) (drop ((n - 1) * block_size) xs)) o) where
-    turn : blocks_left xs o n ≡ cond b n (blocks_left xs o (n - 1))
-    unfolding blocks_left
-    turn =
-        let size : (n - 1) * block_size + block_size - (n - 1) * block_size ≡ block_size = omega arith in
-        let e : n ≡ suc (n - 1) = omega arith in
-        ap (blocks_left xs o) e ∙ rw (← rw size at is, ← e) refl
+-- q is the last place below the end: it is found among these, or it lies below them
+module _ {xs ys : List ℕ} {c o from to : ℕ} {q : ℕ} (end : place_below xs ys c o table_size to ≡ q) where
+  pub found-in : {i : ℕ} → FoundIn xs ys c o from to (Some i) → IsPlace (Some i) q
+  found-in f = (sym f.found ∙ end, f.inside _ refl)
 
-    pub blocks-here : b ≡ true → n ≡ q
-    blocks-here e = rw (turn, e) at left
+  pub none-in : FoundIn xs ys c o from to None → place_below xs ys c o table_size from ≡ q
+  none-in f = sym f.found ∙ end
 
-    pub blocks-next : b ≡ false → blocks_left xs o (n - 1) ≡ q
-    blocks-next e = rw (turn, e) at left
+-- or below the last of n blocks, which cannot stop it
+pub block-passed :
+    (xs ys : List ℕ) (c o n q : ℕ) → place_below xs ys c o table_size (n * block_size) ≡ q → 0 < n
+    → n * block_size ≤ length xs
+    → may_stop (take ((n - 1) * block_size + block_size - (n - 1) * block_size) (drop ((n - 1) * block_size) xs)) o ≡ false
+    → place_below xs ys c o table_size ((n - 1) * block_size) ≡ q
+block-passed xs ys c o n q end more h stop =
+    let from : (n - 1) * block_size + block_size ≡ n * block_size = omega arith in
+    let size : (n - 1) * block_size + block_size - (n - 1) * block_size ≡ block_size = omega arith in
+    let passed = places-passed xs ys c o table_size ((n - 1) * block_size) block_size (omega arith) (rw size at stop) in
+    sym passed ∙ rw (← from) at end
 
-pub ruleset block_steps = (blocks_none, blocks-here, blocks-next)
-
--- ---- a search that goes on below the blocks that it passes over
-
--- it goes on no higher
-pub blocks_down : (xs : List ℕ) (o i n : ℕ) → n ≡ blocks_left xs o (i / block_size) → n * block_size ≤ i
-blocks_down xs o i n left = let h = blocks_fewer xs o (i / block_size) in omega arith
-
--- and it finds the same place, from the end i of a block on
-pub blocks_on :
-    (xs ys : List ℕ) (c o i q : ℕ) → place_below xs ys c o table_size i ≡ q → i % block_size ≡ 0 → (n : ℕ)
-    → n ≡ blocks_left xs o (i / block_size) → i ≤ length xs → place_below xs ys c o table_size (n * block_size) ≡ q
-blocks_on xs ys c o i q found whole n left h =
-    let there : i / block_size * block_size ≡ i = omega arith in
-    rw left (blocks-passed xs ys c o table_size (i / block_size) (omega arith) ∙ rw there found)
-
-pub ruleset below_steps = (blocks_down, blocks_on)
+pub ruleset below_steps = (found-in, none-in, block-passed)

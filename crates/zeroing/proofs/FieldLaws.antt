@@ -13,7 +13,7 @@ use Rattle.row.proofs.Laws.{rows-length}
 use Rattle.tree.specs.Tree.{Arm, slot, group, Field}
 use Rattle.tree.specs.Tree as tree
 use Rattle.tree.specs.Fields.{FieldsHere}
-use Rattle.field.specs.Field.{SlotIn, GroupIn, FieldIs, next_of, ReadsFirst, Fewer}
+use Rattle.field.specs.Field.{SlotIn, GroupIn, FieldIs, next_of, ReadsFirst}
 use Rattle.field.specs.declared.Slot.{Slot}
 use Rattle.field.specs.declared.Group.{Group}
 use Rattle.field.specs.declared.Field as code
@@ -46,14 +46,6 @@ module _ (s : Str) where
   pub ended_here : (fs : List Field) → ReadsFirst s None fs → fs ≡ []
   ended_here [] h = refl
   ended_here (f ∷ fs) h = absurd h
-
--- a field that was read leaves fewer rows
-module _ (s : Str) (at : ℕ) {r : code.Field} (fewer : Fewer s at (Some r)) where
-  pub slot-fewer : {sl : Slot} → r ≡ read.Slot sl → length (rows (drop sl.next s)) < length (rows (drop at s))
-  slot-fewer e = rw e at fewer
-
-  pub group-fewer : {g : Group} → r ≡ read.Group g → length (rows (drop g.next s)) < length (rows (drop at s))
-  group-fewer e = rw e at fewer
 
 -- the fields passed are never more than the rows, so that their number fits
 module _ (s : Str) (first k : ℕ) {n m : ℕ} (room : k + n ≤ length (rows (drop first s))) (fewer : m < n) where

@@ -1,4 +1,5 @@
 pub mod LineLaws
+pub mod TypeLaws
 pub mod SlotLaws
 pub mod FieldLaws
 pub mod TableLaws

@@ -43,6 +43,25 @@ head : (c o n m : ℕ) → n ≡ suc m → (f : Field) (fs : List Field)
 unfolding repeats
 head c o n m more f fs = rw more refl
 
+-- a slot is the first of them
+slot-head :
+    (c o n m : ℕ) → n ≡ suc m → (s : Str) (r : code.Field) (fs : List Field) → ReadsFirst s (Some r) fs → (sl : Slot)
+    → r ≡ read.Slot sl → (b : Bool) → b ≡ (eqb sl.offset o && eqb (line_type (number_of sl.kind)) c)
+    → repeats c o (take n fs) ≡ either b (repeats c o (take m (drop 1 fs)))
+unfolding has_line
+slot-head c o n m more s r fs first sl is b has =
+    let t = turn s r 0 fs first in
+    let w = says_slot s r t.field sl is t.said in
+    rw (
+      t.first,
+      head c o n m more t.field (drop 1 fs),
+      w.is,
+      w.offset_is,
+      w.kind_is,
+      ← and-both (eqb sl.offset o) (eqb (line_type (number_of sl.kind)) c),
+      ← has,
+    ) refl
+
 module _ {c o : ℕ} {rs : Rows} {n : ℕ} where
   pub tells_none : n ≤ 0 → Tells c o rs n false
   unfolding repeats
@@ -59,40 +78,14 @@ module _ {c o : ℕ} {rs : Rows} {n : ℕ} where
       module _ {sl : Slot} (is : r ≡ read.Slot sl) {b : Bool}
           (has : b ≡ (eqb sl.offset o && eqb (line_type (number_of sl.kind)) c)) where
         pub tells-here : b ≡ true → Tells c o rs n true
-        unfolding has_line
-        tells-here y = record {
-          tells = λ fs h.
-              let t = turn s r 0 fs (first fs h) in
-              let w = says_slot s r t.field sl is t.said in
-              rw (
-                t.first,
-                head c o n m more t.field (drop 1 fs),
-                w.is,
-                w.offset_is,
-                w.kind_is,
-                ← and-both (eqb sl.offset o) (eqb (line_type (number_of sl.kind)) c),
-                ← has,
-                y,
-              ) refl;
-        }
+        tells-here y = record { tells = λ fs h. rw (slot-head c o n m more s r fs (first fs h) sl is b has, y) refl }
 
         pub tells_more : b ≡ false → {x : Bool} → Tells c o (rows (drop sl.next s)) m x → Tells c o rs n x
-        unfolding has_line
         tells_more y {x} later = record {
           tells = λ fs h.
               let after : Tells c o (rows (drop (next_of r) s)) m x = rw is later in
-              let t = turn s r 0 fs (first fs h) in
-              let w = says_slot s r t.field sl is t.said in
-              rw (
-                t.first,
-                head c o n m more t.field (drop 1 fs),
-                w.is,
-                w.offset_is,
-                w.kind_is,
-                ← and-both (eqb sl.offset o) (eqb (line_type (number_of sl.kind)) c),
-                ← has,
-                y,
-              ) (after.tells (drop 1 fs) t.next);
+              rw (slot-head c o n m more s r fs (first fs h) sl is b has, y)
+              (after.tells (drop 1 fs) (turn s r 0 fs (first fs h)).next);
         }
 
       pub tells-group : {g : Group} → r ≡ read.Group g → {x : Bool} → Tells c o (rows (drop g.next s)) m x

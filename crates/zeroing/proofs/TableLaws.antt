@@ -3,7 +3,7 @@
 -- nothing.
 use mathlib.Core.Path.{◌≡◌, refl, sym, ap, ◌∙◌}
 use mathlib.Core.Bool.{Bool, true, false}
-use mathlib.Core.List.{List, [], ◌∷◌}
+use mathlib.Core.List.{List, []}
 use Prim.Native.Nat.{ℕ, zero, suc, ◌+◌, ◌-◌, ◌^◌, ◌≤◌, ◌<◌}
 use native.Mathlib.Numerals.{add-one}
 use native.Mathlib.Omega.{arith}
@@ -61,29 +61,16 @@ module _ (xs ys : List ℕ) (c o : ℕ) where
     pub own-here : b ≡ true → p ≡ table_place xs ys c o
     own-here e = rw (← own, place_at from_last p, ← is, e) refl
 
-    pub own-passed : b ≡ false → place_below xs ys c o from_last p ≡ table_place xs ys c o
+    own-passed : b ≡ false → place_below xs ys c o from_last p ≡ table_place xs ys c o
     own-passed e = rw (← own, place_at from_last p, ← is, e) refl
 
-  -- what is left of the search for the place after k of its two parts: from the own place p down, and from the last place down
-  abbrev pub left_after : ℕ → ℕ → ℕ
-  left_after p zero = place_below xs ys c o from_last p
-  left_after p (suc zero) = from_last
-  left_after p (suc (suc k)) = table_size
+    -- a place is found below the own one, or none is
+    module _ (passed : b ≡ false) (most : p ≤ table_size) where
+      pub own-below : (i : ℕ) → i ≡ place_below xs ys c o table_size p → i < table_size → i ≡ table_place xs ys c o
+      own-below i below h = rw (place-or from_last p most, ← below, lt-ltb i table_size h) at (own-passed passed)
 
-  -- one part: a place is found, or none is
-  pub part-found : (p k : ℕ) → p ≤ table_size → k < 2 → left_after p k ≡ table_place xs ys c o → (i : ℕ)
-      → i ≡ place_below xs ys c o table_size (get_or (p ∷ table_size ∷ []) k 0) → i < table_size
-      → i ≡ table_place xs ys c o
-  part-found p zero most two left i is h = rw (place-or from_last p most, ← is, lt-ltb i table_size h) at left
-  part-found p (suc zero) most two left i is h = is ∙ left
-  part-found p (suc (suc k)) most two left i is h = let z : ⊥ = omega arith in absurd z
-
-  pub part-none : (p k : ℕ) → p ≤ table_size → k < 2 → left_after p k ≡ table_place xs ys c o
-      → table_size ≡ place_below xs ys c o table_size (get_or (p ∷ table_size ∷ []) k 0)
-      → left_after p (k + 1) ≡ table_place xs ys c o
-  part-none p zero most two left none = rw (place-or from_last p most, ← none) at left
-  part-none p (suc zero) most two left none = none ∙ left
-  part-none p (suc (suc k)) most two left none = let z : ⊥ = omega arith in absurd z
+      pub own-none : table_size ≡ place_below xs ys c o table_size p → from_last ≡ table_place xs ys c o
+      own-none none = rw (place-or from_last p most, ← none) at (own-passed passed)
 
   -- a place that is found has the line or is free
   place-stops : (r i : ℕ) → (r < table_size → stops xs ys c o r ≡ true) → place_below xs ys c o r i < table_size
@@ -107,7 +94,7 @@ module _ (xs ys : List ℕ) (c o : ℕ) where
 -- the steps of the search for a place, and of the search for a line's place, for their tactics
 pub ruleset place_steps = (place_none, place_here, place-next)
 
-pub ruleset own_steps = (own-here, own-passed, part-none)
+pub ruleset own_steps = (own-here, own-below, own-none)
 
 -- ---- one more line at a free place
 

@@ -1,4 +1,5 @@
 pub mod Lines
+pub mod Types
 pub mod Table
 pub mod Added
 pub mod Path

@@ -1,8 +1,9 @@
 -- The table of a group's lines so far, by type and offset: two lists of 307 places, of which one with type 0 and offset 0 is
 -- free. A line is sought from its own place down, and then from the last, up to a place that has it or is free. Assumes
 -- nothing.
-use Rattle.std.specs.Prelude.{◌≡◌, Bool, true, false, List, ℕ, zero, suc, ◌+◌, ◌*◌, ◌%◌, ◌^◌, ◌<◌, eqb, get_or, take, drop}
+use Rattle.std.specs.Prelude.{◌≡◌, Bool, true, false, List, ℕ, zero, suc, ◌+◌, ◌*◌, ◌%◌, ◌^◌, ◌<◌, eqb, get_or}
 use Rattle.std.specs.Prelude.{Option, None, Some}
+use Rattle.std.specs.Option.{unwrap_or}
 use Rattle.text.specs.Bytes.{cond, both, either}
 use Rattle.tree.specs.Tree.{Field}
 use Rattle.tree.specs.Read.{among}
@@ -31,6 +32,12 @@ abbrev pub IsPlace : Option ℕ → ℕ → Type 0
 IsPlace (Some i) p = (i ≡ p) × (i < table_size)
 IsPlace None p = table_size ≡ p
 
+-- what a search from one place on and below another found: the last place below the other, unless it lies below the one
+pub record FoundIn (offsets types : List ℕ) (type offset from to : ℕ) (r : Option ℕ) : Type 0 where
+  pub found : place_below offsets types type offset table_size to
+      ≡ unwrap_or r (place_below offsets types type offset table_size from)
+  pub inside : (i : ℕ) → r ≡ Some i → i < table_size
+
 -- how many places are a block, which a long search looks at in one turn
 abbrev pub block_size : ℕ
 block_size = 8
@@ -38,12 +45,6 @@ block_size = 8
 -- whether some places may stop a search for a line at an offset, by their offsets alone: a free place has offset 0
 abbrev pub may_stop : List ℕ → ℕ → Bool
 may_stop offsets offset = either (among offset offsets) (among 0 offsets)
-
--- how many of the first n blocks are left to a search down them: up to the last that may stop it
-unfoldable pub blocks_left : List ℕ → ℕ → ℕ → ℕ
-blocks_left offsets offset zero = zero
-blocks_left offsets offset (suc n) =
-    cond (may_stop (take block_size (drop (n * block_size) offsets)) offset) (suc n) (blocks_left offsets offset n)
 
 -- a line's own place: the lines of one type at offsets in a row stand 13 apart, and those of the twelve types beside each other
 abbrev pub own_place : ℕ → ℕ → ℕ

@@ -11,8 +11,9 @@ ghost use Rattle.tree.specs.Fields.{FieldsHere};
 ghost use Rattle.nodes.specs.Index.{ForAll};
 ghost use Rattle.codegen.specs.Zeroing.{zero_fields_of_group};
 ghost use Rattle.zeroing.specs.Lines.{line_type, zero_text, repeats, slot_lines, tag_lines};
+ghost use Rattle.zeroing.specs.Types.{type_number, type_numbers};
 ghost use Rattle.zeroing.specs.Table.{table_size, has_both, stops, place_below, table_place, Knows, KeptLines, with_line};
-ghost use Rattle.zeroing.specs.Table.{block_size, may_stop, blocks_left, IsPlace};
+ghost use Rattle.zeroing.specs.Table.{may_stop, FoundIn, IsPlace};
 ghost use Rattle.zeroing.specs.Added.{Added, AddedSlot, Adds, AddsWithin};
 ghost use Rattle.zeroing.specs.Path.{Leads, inner_levels};
 ghost use Rattle.zeroing.specs.Told.{Zeroes, ZeroedWithin};
@@ -28,17 +29,24 @@ const SIZE: usize = 307;
 // How many places of the table a long search looks at in one turn.
 const BLOCK: usize = 8;
 
-// The types of lines: none of a Void slot; a Bool's; a number's, up to the last, with an enum's being a Uint16's; a pointer's.
-// They are numbers, since the table holds one as a byte beside each offset, and a number's line is written by it as by its kind.
-const NO_LINE: u8 = 0;
-
-const BOOL_LINE: u8 = 1;
-
-const UINT16_LINE: u8 = 7;
-
-const LAST_NUMBER_LINE: u8 = 11;
-
-const POINTER_LINE: u8 = 12;
+// The type of a slot's line: Void where a slot has none, and at a free place of the table, where an Option would take two bytes;
+// a Bool's; a number's, with an enum's being a Uint16's; a pointer's.
+#[derive(Clone, Copy, PartialEq, Eq)]
+enum LineType {
+    Void,
+    Bool,
+    Int8,
+    Int16,
+    Int32,
+    Int64,
+    Uint8,
+    Uint16,
+    Uint32,
+    Uint64,
+    Float32,
+    Float64,
+    Pointer,
+}
 
 // The lines so far: the text state after them, whether one clears a pointer, and whether there is one.
 #[derive(Clone, Copy)]
@@ -59,14 +67,14 @@ pub struct Zeroed {
 #[derive(Clone, Copy, PartialEq, Eq)]
 struct ZeroLine {
     offset: u64,
-    typ: u8,
+    typ: LineType,
 }
 
 // A line as the table keeps it: its offset has 32 bits.
 #[derive(Clone, Copy)]
 struct KeptLine {
     offset: u32,
-    typ: u8,
+    typ: LineType,
 }
 
 // The fields of a group that are passed: so many, the first of them at a position of the sheet.
@@ -87,50 +95,66 @@ struct Visit {
     start: u64,
 }
 
-// The type of a slot's line by its kind.
-fn line_type(kind: Kind) -> u8
-    ensures { result ≡ line_type (number_of kind) }
-{
-    match kind {
-        Kind::Enum => UINT16_LINE,
-        kind if kind.is_primitive() => kind as u8,
-        _ => POINTER_LINE,
+impl LineType {
+    // The type of a slot's line by its kind.
+    #[tactic(auto, unfolding(crate::specs::Lines::line_type))]
+    fn of(kind: Kind) -> LineType
+        ensures { type_number result ≡ line_type (number_of kind) }
+    {
+        match kind {
+            Kind::Void => LineType::Void,
+            Kind::Bool => LineType::Bool,
+            Kind::Int8 => LineType::Int8,
+            Kind::Int16 => LineType::Int16,
+            Kind::Int32 => LineType::Int32,
+            Kind::Int64 => LineType::Int64,
+            Kind::Uint8 => LineType::Uint8,
+            Kind::Uint16 | Kind::Enum => LineType::Uint16,
+            Kind::Uint32 => LineType::Uint32,
+            Kind::Uint64 => LineType::Uint64,
+            Kind::Float32 => LineType::Float32,
+            Kind::Float64 => LineType::Float64,
+            _ => LineType::Pointer,
+        }
+    }
+
+    // Its number: that of its kind, but for a pointer's.
+    fn number(self) -> u64
+        ensures { result ≡ type_number self }
+    {
+        self as u64
     }
 }
 
 impl ZeroLine {
-    // A slot's line: of no type for Void.
+    // A slot's line.
     fn of(slot: Slot) -> ZeroLine
-        ensures { result ≡ record { offset = slot.offset; typ = line_type (number_of slot.kind) } }
+        ensures offset { result.offset ≡ slot.offset }
+        ensures typ { type_number result.typ ≡ line_type (number_of slot.kind) }
     {
         ZeroLine {
             offset: slot.offset,
-            typ: line_type(slot.kind),
+            typ: LineType::of(slot.kind),
         }
     }
 
     // Whether a line clears a pointer, once there is this one too.
     fn clears(self, before: bool) -> bool
-        ensures { result ≡ either before (eqb self.typ 12) }
+        ensures { result ≡ either before (eqb (type_number self.typ) 12) }
     {
-        before || self.typ == POINTER_LINE
+        before || self.typ == LineType::Pointer
     }
 
     // Its text.
     #[tactic(auto, unfolding(crate::specs::Lines::zero_text))]
     fn write(self, t: Text, buf: &mut [u8]) -> Text
-        ensures { Wrote buf.old t (zero_text self.typ self.offset) buf.new result }
+        ensures { Wrote buf.old t (zero_text (type_number self.typ) self.offset) buf.new result }
     {
         let ZeroLine { offset, typ } = self;
         match typ {
-            BOOL_LINE => calls::zero_bool(offset, t, buf),
-            0..=LAST_NUMBER_LINE => codegen::zero_number(
-                Kind::from(u64::from(typ)),
-                offset,
-                t,
-                buf,
-            ),
-            _ => calls::clear_pointer(offset, t, buf),
+            LineType::Bool => calls::zero_bool(offset, t, buf),
+            LineType::Pointer => calls::clear_pointer(offset, t, buf),
+            _ => codegen::zero_number(Kind::from(typ.number()), offset, t, buf),
         }
     }
 }
@@ -139,25 +163,19 @@ impl Fields<'_> {
     // Whether one of them has a line: they are read again.
     fn is_repeat(&self, line: ZeroLine) -> bool
         ensures { (fs : List tree.Field) → FieldsHere (rows (drop self.now.first self.now.s.now)) fs
-            → result ≡ repeats line.typ line.offset (take self.now.count fs) }
+            → result ≡ repeats (type_number line.typ) line.offset (take self.now.count fs) }
     {
         let mut at = self.first;
         for _ in 0..self.count {
-            // Each arm goes on by itself: what it has read is not known where the arms meet.
-            match field::read(self.s, at) {
-                Some(Field::Slot(slot)) => {
-                    if ZeroLine::of(slot) == line {
-                        return true;
-                    }
-                    at = slot.next;
-                    continue;
+            let Some(field) = field::read(self.s, at) else {
+                return false;
+            };
+            if let Field::Slot(slot) = field {
+                if ZeroLine::of(slot) == line {
+                    return true;
                 }
-                Some(Field::Group(group)) => {
-                    at = group.next;
-                    continue;
-                }
-                None => return false,
             }
+            at = field.next();
         }
         false
     }
@@ -170,25 +188,25 @@ fn may_stop(offsets: &[u32], offset: u32) -> bool
     nodes::among(offsets, offset) | nodes::among(offsets, 0)
 }
 
-// The lines of a group so far by type and offset, each at a place of its own. A place with type 0 and offset 0 is free. There
+// The lines of a group so far by type and offset, each at a place of its own. A place with type Void and offset 0 is free. There
 // are two arrays, since a place of both would take eight bytes for five, and sixteen tables stand on a small stack.
 #[derive(Drop)]
 struct Table {
     offsets: [u32; SIZE],
-    types: [u8; SIZE],
+    types: [LineType; SIZE],
 }
 
 impl Table {
     // What stands at a free place.
     const FREE: KeptLine = KeptLine {
         offset: 0,
-        typ: NO_LINE,
+        typ: LineType::Void,
     };
 
     // Whether a place has a line's offset and type. Most places are passed over by their offset alone.
     fn has_both(&self, i: usize, line: KeptLine) -> bool
         requires { i < table_size }
-        ensures { result ≡ has_both self.now.offsets self.now.types line.typ line.offset i }
+        ensures { result ≡ has_both self.now.offsets (type_numbers self.now.types) (type_number line.typ) line.offset i }
     {
         self.offsets[i] == line.offset && self.types[i] == line.typ
     }
@@ -196,91 +214,88 @@ impl Table {
     // Whether a place has a line, or is free.
     fn is_stop(&self, i: usize, line: KeptLine) -> bool
         requires { i < table_size }
-        ensures { result ≡ stops self.now.offsets self.now.types line.typ line.offset i }
+        ensures { result ≡ stops self.now.offsets (type_numbers self.now.types) (type_number line.typ) line.offset i }
     {
         self.has_both(i, line) || self.has_both(i, Table::FREE)
     }
 
-    // How many of the first `count` blocks are left to a search down them, up to the last that may stop it.
-    #[tactic(auto, using(crate::proofs::BlockLaws::block_steps))]
-    fn blocks_left(&self, count: usize, offset: u32) -> usize
-        requires { count * block_size ≤ table_size }
-        ensures { result ≡ blocks_left self.now.offsets offset count }
+    // The last place that is free or has a line from one on and below another, if there is one.
+    #[tactic(auto, using(crate::proofs::TableLaws::place_steps, crate::proofs::BlockLaws::in_steps))]
+    fn place_in(&self, from: usize, to: usize, line: KeptLine) -> Option<usize>
+        requires { (from ≤ to) × (to ≤ table_size) }
+        ensures { FoundIn self.now.offsets (type_numbers self.now.types) (type_number line.typ) line.offset
+            from to result }
     {
-        for block in (0..count).rev() {
-            let from = block * BLOCK;
-            if may_stop(&self.offsets[from..from + BLOCK], offset) {
-                return block + 1;
-            }
-        }
-        0
-    }
-
-    // The last place below one that is free or has a line, if there is one. Below the block that it begins in, the search passes
-    // over the blocks that cannot stop it, so that the end is looked for once a block.
-    #[tactic(auto, using(crate::proofs::TableLaws::place_steps, crate::proofs::BlockLaws::below_steps))]
-    fn place_below(&self, end: usize, line: KeptLine) -> Option<usize>
-        requires { end ≤ table_size }
-        ensures { IsPlace result (place_below self.now.offsets self.now.types line.typ line.offset table_size end) }
-    {
-        if end == 0 {
-            return None;
-        }
-        let mut i = end;
-        loop {
-            i -= 1;
+        for i in (from..to).rev() {
             if self.is_stop(i, line) {
-                return Some(i);
-            }
-            if i % BLOCK != 0 {
-                continue;
-            }
-            i = self.blocks_left(i / BLOCK, line.offset) * BLOCK;
-            if i == 0 {
-                return None;
-            }
-        }
-    }
-
-    // The place of a line: its own, or the first one from there down that has the line or is free; where there is none, the last
-    // of all, if there is any. The search is called at one place of the code, so that it is compiled in place and a line at its
-    // own place pays for no call.
-    #[tactic(auto, using(crate::proofs::TableLaws::own_steps))]
-    fn place(&self, line: KeptLine) -> Option<usize>
-        ensures { IsPlace result (table_place self.now.offsets self.now.types line.typ line.offset) }
-    {
-        let own = ((line.offset % 65536) as usize * 13 + line.typ as usize) % SIZE;
-        if self.is_stop(own, line) {
-            return Some(own);
-        }
-        for end in [own, SIZE] {
-            if let Some(i) = self.place_below(end, line) {
                 return Some(i);
             }
         }
         None
     }
 
+    // The last place below one that is free or has a line, if there is one. Below those that are no whole block the search passes
+    // over the blocks that cannot stop it: place by place, a request for the zeroing of 298 lines that all have one place takes
+    // 1.21 times as many instructions, and 2.38 times those for half of them, where bench/run allows 2.3.
+    #[tactic(auto, using(crate::proofs::TableLaws::place_none, crate::proofs::BlockLaws::below_steps))]
+    fn place_below(&self, end: usize, line: KeptLine) -> Option<usize>
+        requires { end ≤ table_size }
+        ensures { IsPlace result (place_below self.now.offsets (type_numbers self.now.types)
+            (type_number line.typ) line.offset table_size end) }
+    {
+        let whole = end / BLOCK;
+        if let Some(i) = self.place_in(whole * BLOCK, end, line) {
+            return Some(i);
+        }
+        for block in (0..whole).rev() {
+            let from = block * BLOCK;
+            let to = from + BLOCK;
+            if !may_stop(&self.offsets[from..to], line.offset) {
+                continue;
+            }
+            if let Some(i) = self.place_in(from, to, line) {
+                return Some(i);
+            }
+        }
+        None
+    }
+
+    // The place of a line: its own, or the first one from there down that has the line or is free; where there is none, the last
+    // of all, if there is any.
+    #[tactic(auto, using(crate::proofs::TableLaws::own_steps))]
+    fn place(&self, line: KeptLine) -> Option<usize>
+        ensures { IsPlace result (table_place self.now.offsets (type_numbers self.now.types) (type_number line.typ) line.offset) }
+    {
+        let own = ((line.offset % 65536) as usize * 13 + line.typ as usize) % SIZE;
+        if self.is_stop(own, line) {
+            return Some(own);
+        }
+        if let Some(i) = self.place_below(own, line) {
+            return Some(i);
+        }
+        self.place_below(SIZE, line)
+    }
+
     // Whether one of the fields passed has a line already. If not, the table keeps it. A line that has no place there, or whose
     // offset has more than 32 bits, is sought by reading the fields again.
     fn is_known(&mut self, fields: &Fields<'_>, line: ZeroLine) -> bool
-        requires { line.typ ≡ 0 → ⊥ }
+        requires { type_number line.typ ≡ 0 → ⊥ }
         ensures { (fs : List tree.Field) → FieldsHere (rows (drop fields.now.first fields.now.s.now)) fs
-            → KeptLines self.old.offsets self.old.types (λ c o. repeats c o (take fields.now.count fs))
-            → Knows line.typ line.offset (take fields.now.count fs) result self.new.offsets self.new.types }
+            → KeptLines self.old.offsets (type_numbers self.old.types) (λ c o. repeats c o (take fields.now.count fs))
+            → Knows (type_number line.typ) line.offset (take fields.now.count fs)
+            result self.new.offsets (type_numbers self.new.types) }
     {
-        // A test and a cast: `u32::try_from` costs four instructions more for each line.
-        if 0xffff_ffff < line.offset {
+        let Ok(offset) = u32::try_from(line.offset) else {
             return fields.is_repeat(line);
-        }
+        };
         let kept = KeptLine {
-            offset: line.offset as u32,
+            offset,
             typ: line.typ,
         };
         let Some(i) = self.place(kept) else {
             return fields.is_repeat(line);
         };
-        if self.types[i] != NO_LINE {
+        if self.types[i] != LineType::Void {
             return true;
         }
         self.types[i] = kept.typ;
@@ -291,8 +306,9 @@ impl Table {
 
 // A line after the lines so far: none where it is one of them.
 fn next_line(line: ZeroLine, again: bool, before: Lines, buf: &mut [u8]) -> Lines
-    requires { line.typ ≡ 0 → ⊥ }
-    ensures { Added (slot_lines line.typ line.offset again) (eqb line.typ 12) buf.old before buf.new result }
+    requires { type_number line.typ ≡ 0 → ⊥ }
+    ensures { Added (slot_lines (type_number line.typ) line.offset again) (eqb (type_number line.typ) 12)
+        buf.old before buf.new result }
 {
     let clear = line.clears(before.clear);
     if again {
@@ -316,14 +332,14 @@ fn zero_slot(
     buf: &mut [u8],
 ) -> Lines
     ensures lines { (fs : List tree.Field) → FieldsHere (rows (drop fields.now.first fields.now.s.now)) fs
-        → KeptLines table.old.offsets table.old.types (λ c o. repeats c o (take fields.now.count fs))
+        → KeptLines table.old.offsets (type_numbers table.old.types) (λ c o. repeats c o (take fields.now.count fs))
         → AddedSlot (line_type (number_of slot.kind)) slot.offset (take fields.now.count fs) buf.old before buf.new result
-        × KeptLines table.new.offsets table.new.types
+        × KeptLines table.new.offsets (type_numbers table.new.types)
         (with_line (line_type (number_of slot.kind)) slot.offset (take fields.now.count fs)) }
     ensures some { WroteSome buf.old before.text buf.new result.text }
 {
     let line = ZeroLine::of(slot);
-    if line.typ == NO_LINE {
+    if line.typ == LineType::Void {
         return before;
     }
     let again = table.is_known(fields, line);
@@ -382,7 +398,7 @@ fn zero_fields_of_group(
     }
     let mut table = Table {
         offsets: [0; SIZE],
-        types: [0; SIZE],
+        types: [LineType::Void; SIZE],
     };
     let mut lines = tag_line(node.tag_count, node.tag_offset, before, buf);
     let s = source.bytes;
@@ -391,22 +407,17 @@ fn zero_fields_of_group(
     let mut count = 0;
     // Where the next field stands is what the one before says, so no range counts them.
     while let Some(field) = field::read(s, at) {
-        // As in `is_repeat`, each arm goes on by itself.
-        match field {
+        lines = match field {
             Field::Slot(slot) => {
                 let fields = Fields { s, first, count };
-                lines = zero_slot(&fields, &mut table, slot, lines, buf);
-                at = slot.next;
-                count += 1;
-                continue;
+                zero_slot(&fields, &mut table, slot, lines, buf)
             }
             Field::Group(inner) => {
-                lines = zero_fields_of_group(source, group.inner(inner.id), lines, buf)?;
-                at = inner.next;
-                count += 1;
-                continue;
+                zero_fields_of_group(source, group.inner(inner.id), lines, buf)?
             }
-        }
+        };
+        at = field.next();
+        count += 1;
     }
     Ok(lines)
 }

@@ -15,21 +15,13 @@ pub returns-in-Void : goal.returns-in-Void
 unfolding prim_default
 returns-in-Void c = rw c.in-Void.is refl
 
-pub returns-then-zero : goal.returns-then-zero
+pub returns-in-Float32 : goal.returns-in-Float32
 unfolding prim_default
-returns-then-zero c = rw (c.in-Float32.is, ← c.is_float_zero-zero.ensures, c.if-zero.true) refl
+returns-in-Float32 c = rw c.in-Float32.is (ap ok c.float_mask.ensures)
 
-pub returns-else-zero : goal.returns-else-zero
+pub returns-in-Float64 : goal.returns-in-Float64
 unfolding prim_default
-returns-else-zero c = rw (c.in-Float32.is, ← c.is_float_zero-zero.ensures, c.if-zero.false) refl
-
-pub returns-then-zero-2 : goal.returns-then-zero-2
-unfolding prim_default
-returns-then-zero-2 c = rw (c.in-Float64.is, ← c.is_float_zero-zero-in-Float64.ensures, c.if-zero-2.true) refl
-
-pub returns-else-zero-2 : goal.returns-else-zero-2
-unfolding prim_default
-returns-else-zero-2 c = rw (c.in-Float64.is, ← c.is_float_zero-zero-in-Float64.ensures, c.if-zero-2.false) refl
+returns-in-Float64 c = rw c.in-Float64.is (ap ok c.float_mask-in-Float64.ensures)
 
 pub returns-in_default : goal.returns-in_default
 returns-in_default c =

@@ -5,11 +5,11 @@ use Rattle.text.specs.Text.{put, adv}
 use Rattle.text.proofs.Laws.{◌⨾◌}
 use Rattle.codegen.proofs.tag_test_line.Goals as goal
 
-pub returns-then-discriminant-eq65535 : goal.returns-then-discriminant-eq65535
+pub returns-then-discriminant-eq-NO_DISCRIMINANT : goal.returns-then-discriminant-eq-NO_DISCRIMINANT
 unfolding put adv
-returns-then-discriminant-eq65535 c =
-    rw (eq-eqb _ _ c.if-discriminant-eq65535.true) record { bytes = refl; state = refl }
+returns-then-discriminant-eq-NO_DISCRIMINANT c =
+    rw (eq-eqb _ _ c.if-discriminant-eq-NO_DISCRIMINANT.true) record { bytes = refl; state = refl }
 
 pub returns : goal.returns
 returns c =
-    rw (ne_eqb _ _ c.if-discriminant-eq65535.false) (c.bytes-t.ensures ⨾ c.tag_test-t.ensures ⨾ c.bytes.ensures)
+    rw (ne_eqb _ _ c.if-discriminant-eq-NO_DISCRIMINANT.false) (c.bytes-t.ensures ⨾ c.tag_test-t.ensures ⨾ c.bytes.ensures)

@@ -3,7 +3,7 @@ use mathlib.Core.Path.{ap, ◌∙◌}
 use native.Mathlib.Omega.{arith}
 use Rattle.terms.specs.Kinds.{number_of}
 use Rattle.terms.specs.declared.kinds.Kind.TheVariants as kinds
-use Rattle.terms.proofs.KindLaws.{number-most, number-own}
+use Rattle.terms.proofs.KindLaws.{number-own, plain-below}
 use Rattle.getter_code.proofs.Laws.{kind_by, parameter_by, fragment-number, fragment-pointer}
 use Rattle.getter_code.proofs.fragment.Goals as goal
 
@@ -43,14 +43,9 @@ returns-in_default c =
     let a = c.args in
     let d = c.in_default in
     let k = a.slot.kind in
-    let most = number-most k in
+    let below = plain-below k d.not-List d.not-Enum d.not-Struct d.not-Interface d.not-AnyPointer d.not-Unnamed in
     let n0 = number-own k kinds.Void d.not-Void in
     let n1 = number-own k kinds.Bool d.not-Bool in
     let n12 = number-own k kinds.Text d.not-Text in
     let n13 = number-own k kinds.Data d.not-Data in
-    let n14 = number-own k kinds.List d.not-List in
-    let n15 = number-own k kinds.Enum d.not-Enum in
-    let n16 = number-own k kinds.Struct d.not-Struct in
-    let n17 = number-own k kinds.Interface d.not-Interface in
-    let n18 = number-own k kinds.AnyPointer d.not-AnyPointer in
     rw (← fragment-number a.root.now a.name.now a.slot a.is_reader a.is_fn n0 n1 (omega arith)) c.get_number.ensures

@@ -1,11 +1,7 @@
-use lib.ListN.{length}
-use Rattle.parts.specs.Program.{parts_from}
+use Rattle.std.proofs.Common.{drop}
 use Rattle.parts.proofs.PartLaws.{PartsLeft}
 use Rattle.parts.proofs.write_parts.Given as goal
 
-abbrev pub invariant-loop-n : goal.invariant-loop-n
-invariant-loop-n l =
-    PartsLeft l.source l.tag l.field l.name l.initial.part l.initial.out l.out l.n (parts_from l.part)
-
-abbrev pub decreases-loop-n : goal.decreases-loop-n
-decreases-loop-n l = length (parts_from l.part)
+abbrev pub invariant-loop-part : goal.invariant-loop-part
+invariant-loop-part l =
+    PartsLeft l.source l.located.tag l.located.field l.name l.parts l.initial.out l.out l.n (drop l.part-index l.parts)

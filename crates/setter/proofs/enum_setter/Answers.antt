@@ -45,7 +45,7 @@ returns c =
     let a = c.args in
     let source = a.source.now in
     let x = a.target.now in
-    let behind = c.bytes-t.ensures ⨾ c.tag_line-t.ensures ⨾ c.bytes-t-2.ensures ⨾ c.set_data_field-t.ensures ⨾ c.bytes.ensures in
+    let behind = c.start-t.ensures ⨾ c.set_data_field-t.ensures ⨾ c.bytes.ensures in
     record {
       text = λ ns ix f h k. enum-here source.bytes.now x.slot f h (sheet_of source.root.now ns) x.tag (name_of x.name)
           (mask_text c.in_ok-mask.mask) (ap number_of k) c.in_ok-mask.ensures c.set_open-t.ensures

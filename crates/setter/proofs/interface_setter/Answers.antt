@@ -32,7 +32,7 @@ returns c =
     let source = a.source.now in
     let x = a.target.now in
     let behind = retext (capability-line (ascii ")  {\n" ++ tag_line x.tag x.slot.discriminant) x.slot.offset)
-    (c.bytes-t.ensures ⨾ c.tag_line-t.ensures ⨾ c.bytes-t-2.ensures ⨾ c.number-t.ensures ⨾ c.bytes.ensures) in
+    (c.start-t.ensures ⨾ c.bytes-t.ensures ⨾ c.number-t.ensures ⨾ c.bytes.ensures) in
     record {
       text = λ ns ix f h k. interface-here source.bytes.now x.slot f h (sheet_of source.root.now ns) x.tag (name_of x.name)
           (ap number_of k)

@@ -5,8 +5,10 @@ use Rattle.text.proofs.Laws.{◌⨾◌, some-text, ◌⨟◌}
 use Rattle.row.specs.Rows.{rows}
 use Rattle.tree.specs.Read.{read_type}
 use Rattle.nodes.specs.Index.{sheet_of}
+use Rattle.codegen_types.specs.declared.Leaf.TheVariants.{Owned}
 use Rattle.codegen_types.proofs.WrittenLaws.{kept-behind}
-use Rattle.setter.proofs.ArmLaws.{on-input}
+use Rattle.codegen.specs.Setter.{setter_input}
+use Rattle.setter.proofs.ArmLaws.{on-made}
 use Rattle.setter.proofs.setter_input.Goals as goal
 
 pub returns-in_err-t-clause-within : goal.returns-in_err-t-clause-within
@@ -16,8 +18,8 @@ returns-in_err-t-clause-within c =
 
 pub returns : goal.returns
 returns c = record {
-  text = λ ns ix. on-input (read_type 16 (rows (drop c.args.at c.args.source.now.bytes.now)))
-      (sheet_of c.args.source.now.root.now ns) (c.in_ok-t.ensures.text ns ix)
+  text = λ ns ix. on-made (read_type 16 (rows (drop c.args.at c.args.source.now.bytes.now)))
+      (sheet_of c.args.source.now.root.now ns) Owned (setter_input c.args.source.now.root.now) (c.in_ok-t.ensures.text ns ix)
       (λ w x. c.bytes-t.ensures ⨾ c.bytes-t-2.ensures ⨾ c.bytes-t-3.ensures ⨾ x ⨾ c.bytes.ensures);
   within = some-text (c.bytes-t.ensures ⨾ c.bytes-t-2.ensures ⨾ c.bytes-t-3.ensures) ⨟ c.in_ok-t.ensures.within
       ⨟ some-text c.bytes.ensures;

@@ -1,21 +1,15 @@
--- `sheet::field` meets its contract: each return is one law of FieldsLaws for the row's line, and an id that was put after the
--- others has its flag. Assumes nothing.
+-- `sheet::field` meets its contract: each return is one law of FieldsLaws for the row's line. Assumes nothing.
 use mathlib.Core.Path.{◌≡◌, sym, ◌∙◌, ap}
-use mathlib.Core.List.{List}
-use Prim.Native.Nat.{ℕ, ◌%◌, ◌≤◌}
+use Prim.Native.Nat.{◌≤◌}
 use native.Mathlib.Omega.{arith}
-use lib.ListN.{take, drop, length-set}
 use denote.Enum.Declared.{tag_of}
 use Rattle.std.specs.Prelude.{Ok}
 use Rattle.std.proofs.lemmas.Result.{err_from_is_err_and}
 use Rattle.row.specs.contracts.Line.{the_type}
-use Rattle.row.specs.Rows.{rows}
 use Rattle.row.specs.declared.Line.{Line}
 use Rattle.tree.proofs.ElseLaws.{OtherThan, other-than}
-use Rattle.sheet.proofs.FieldsLaws.{group-less, group-fits, pushed, groups-slot, groups-slot-no, slot-less}
+use Rattle.sheet.proofs.FieldsLaws.{group-less, group-fits, groups-slot, groups-slot-no, slot-less}
 use Rattle.sheet.proofs.FieldsLaws.{slot-room, groups-double, groups-group, field-refused, group-refused, fields-end}
-use Rattle.sheet.proofs.FlagsLaws.{flagged-more, held-fewer}
-use Rattle.sheet.specs.Steps.{groups_after}
 use Rattle.sheet.proofs.field.Goals as goal
 use Rattle.sheet.proofs.field.Goals.{After-end_at}
 
@@ -39,19 +33,19 @@ returns-in_err-next-in-Ok-Field c =
     (groups-slot-no _ _ _ g.line_value g.s_value _ _ _ _ (w.is ∙ ap Ok f) _ c.args.s.now _
     (rw c.in_err-next-in-Ok-Field.was at (c.slot.ensures w.field-0-0 w.field-0-3)))
 
-pub returns-then-known : goal.returns-then-known
-returns-then-known c =
+pub returns-then-has : goal.returns-then-has
+returns-then-has c =
     let g = c.next-row.ensures in
     let w = c.in-Ok-Group in
     let f = rw w.is at w.field-0-is in
-    groups-double _ _ _ g.line_value g.s_value _ _ (w.is ∙ ap Ok f) _ _ c.known.ensures c.if-known.true
+    groups-double _ _ _ g.line_value g.s_value _ _ (w.is ∙ ap Ok f) _ _ c.has.ensures c.if-has.true
 
-pub bounds-groups-count : goal.bounds-groups-count
-bounds-groups-count c =
+pub put-requires : goal.put-requires
+put-requires c =
     let g = c.next-row.ensures in
     let w = c.in-Ok-Group in
     let f = rw w.is at w.field-0-is in
-    omega (arith, c.requires.room, group-fits _ _ _ g.line_value g.s_value _ _ (w.is ∙ ap Ok f))
+    omega (arith, c.requires, group-fits _ _ _ g.line_value g.s_value _ _ (w.is ∙ ap Ok f))
 
 pub returns-in_err-end-in_default : goal.returns-in_err-end-in_default
 returns-in_err-end-in_default c =
@@ -80,27 +74,19 @@ returns-in_ok-next-in-Ok-Field c =
     let is = w.is ∙ ap Ok f in
     let past = rw c.in_ok-next-in-Ok-Field.was at (c.slot.ensures w.field-0-0 w.field-0-3) in (
       groups-slot _ _ _ g.line_value g.s_value _ _ _ _ is _ _ past,
-      held-fewer _ _ _ _ _ c.requires (slot-room _ _ _ g.line_value g.s_value _ _ _ _ is _ past),
+      omega (arith, c.requires, slot-room _ _ _ g.line_value g.s_value _ _ _ _ is _ past),
       slot-less _ _ _ g.line_value g.s_value _ _ _ _ is _ past,
     )
 
-pub returns-else-known : goal.returns-else-known
-returns-else-known c =
-    let a = c.args in
-    let h = c.requires in
+pub returns-else-has : goal.returns-else-has
+returns-else-has c =
     let g = c.next-row.ensures in
     let w = c.in-Ok-Group in
     let f = rw w.is at w.field-0-is in
     let is = w.is ∙ ap Ok f in
-    let fits = group-fits _ _ _ g.line_value g.s_value _ _ is in
-    let put = pushed a.groups.now a.count w.id (omega (arith, h.room)) in (
-      groups-group _ _ _ g.line_value g.s_value _ _ is _ _ c.known.ensures c.if-known.false
-          ∙ ap (λ (x : List ℕ). groups_after x (rows (drop c.next-row.result.next a.s.now))) (sym put),
-      record {
-        flags-size = rw c.flag.ensures (length-set a.flags.now (w.id % 2048) 1 ∙ h.flags-size);
-        room = omega (arith, h.room, length-set a.groups.now a.count w.id);
-        flagged = rw (put, c.flag.ensures) (flagged-more a.flags.now (take a.count a.groups.now) w.id h.flags-size h.flagged);
-      },
+    rw c.put.ensures (
+      groups-group _ _ _ g.line_value g.s_value _ _ is _ _ c.has.ensures c.if-has.false,
+      omega (arith, c.requires, group-fits _ _ _ g.line_value g.s_value _ _ is),
       group-less _ _ _ g.line_value g.s_value _ _ is,
     )
 

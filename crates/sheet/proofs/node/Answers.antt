@@ -25,8 +25,8 @@ members-requires c =
     let g = c.next-row.ensures in
     let w = c.in-Ok-Node in
     let f = rw w.is at w.field-0-is in (
-      ready_after _ _ _ _ _ _ c.requires.1 g.s_value,
-      node-begun _ _ _ _ g.line_value g.s_value _ _ _ _ _ _ _ (w.is ∙ ap Ok f) _ c.requires.1.nodes,
+      ready_after _ _ _ _ _ c.requires g.s_value,
+      node-begun _ _ _ _ g.line_value g.s_value _ _ _ _ _ _ _ (w.is ∙ ap Ok f) _ c.requires.nodes,
     )
 
 pub returns : goal.returns

@@ -98,19 +98,19 @@ scope-returns-in_default t c =
     (walked_wrong a.s.now 83 a.at c.next-row.result.line
     ∙ scope_other _ _ _ g.line_value g.s_value _ (other-than 6 c.next-row.result.line (λ f e h. grind arith)))
 
-pub scope-returns-then-bind-eq0 : goal.scope-returns-then-bind-eq0
-scope-returns-then-bind-eq0 t c =
+pub scope-returns-in_default-bindings : goal.scope-returns-in_default-bindings
+scope-returns-in_default-bindings t c =
     let g = c.next-row.ensures in
     let w = c.in-Ok-Scope in
     let f = rw w.is at w.field-0-is in
-    scope-inherit _ _ _ g.line_value g.s_value _ _ _ _ (w.is ∙ ap Ok f) c.if-bind-eq0.true
+    scope-inherit _ _ _ g.line_value g.s_value _ _ _ (w.is ∙ ap Ok f) c.in_default-bindings.is
 
 pub scope-returns : goal.scope-returns
 scope-returns t c =
     let g = c.next-row.ensures in
     let w = c.in-Ok-Scope in
     let f = rw w.is at w.field-0-is in
-    scope-bind _ _ _ g.line_value g.s_value _ _ _ _ (w.is ∙ ap Ok f) _ c.if-bind-eq0.false c.binds.ensures
+    scope-bind _ _ _ g.line_value g.s_value _ _ _ (w.is ∙ ap Ok f) _ _ c.in-Some.is c.binds.ensures
 
 pub binding-returns : goal.binding-returns
 binding-returns t c =

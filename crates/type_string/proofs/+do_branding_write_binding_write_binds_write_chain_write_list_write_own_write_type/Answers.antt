@@ -12,7 +12,7 @@ use Rattle.nodes.specs.Index.{sheet_of}
 use Rattle.terms.specs.Kinds.{number_of}
 use Rattle.terms.specs.declared.kinds.Kind.TheVariants as kind
 use Rattle.terms.specs.declared.refusals.Refusal.TheVariants.{ListOfAnyPointer}
-use Rattle.terms.proofs.KindLaws.{number-own, below-last, plain-below, branded-between}
+use Rattle.terms.proofs.KindLaws.{number-own, last-past, below-last, plain-below, branded-between}
 use Rattle.codegen_types.specs.Out.{Out}
 use Rattle.codegen_types.specs.TypeString.{type_string}
 use Rattle.codegen_types.specs.Written.{Writes}
@@ -208,7 +208,7 @@ write_list-returns-in_err-t-in_default-clause-text t c =
     let k = c.type_row-row.result.kind in
     rw (p.1, p.2) (λ ns x. read-law.type_row_lem c.args.source.now.bytes.now _ _ _ _ c.type_row-row.ensures c.if-left-eq0.false
     (law.list-refused (sheet_of c.args.source.now.root.now ns) c.args.leaf _ _ _ _ _ _ _ (number-own k kind.Text d.not-Text)
-    (number-own k kind.Data d.not-Data) (below-last k d.not-AnyPointer) c.element_leaf-element.ensures _ _ _ _ _ _
+    (number-own k kind.Data d.not-Data) (below-last k d.not-AnyPointer d.not-Unnamed) c.element_leaf-element.ensures _ _ _ _ _ _
     (c.in_err-t-in_default.ensures.text ns x)))
 
 pub write_list-returns-in_err-t-in_default-clause-within : goal.write_list-returns-in_err-t-in_default-clause-within
@@ -234,8 +234,8 @@ write_list-returns-in_ok-t-in_default-clause-text t c =
     let k = c.type_row-row.result.kind in
     λ ns x. read-law.type_row_lem c.args.source.now.bytes.now _ _ _ _ c.type_row-row.ensures c.if-left-eq0.false
     (law.list-inner (sheet_of c.args.source.now.root.now ns) c.args.leaf _ _ _ _ _ _ _ (number-own k kind.Text d.not-Text)
-    (number-own k kind.Data d.not-Data) (below-last k d.not-AnyPointer) c.element_leaf-element.ensures _ _ _ _ _ _ _ _
-    c.list_head-t.ensures c.byte.ensures (c.in_ok-t-in_default.ensures.text ns x))
+    (number-own k kind.Data d.not-Data) (below-last k d.not-AnyPointer d.not-Unnamed) c.element_leaf-element.ensures
+    _ _ _ _ _ _ _ _ c.list_head-t.ensures c.byte.ensures (c.in_ok-t-in_default.ensures.text ns x))
 
 pub write_list-returns-in_ok-t-in_default-clause-within : goal.write_list-returns-in_ok-t-in_default-clause-within
 write_list-returns-in_ok-t-in_default-clause-within t c =
@@ -246,21 +246,21 @@ write_list-returns-in-AnyPointer-clause-text t c =
     λ ns x. read-law.type_row_lem c.args.source.now.bytes.now _ _ _ _ c.type_row-row.ensures c.if-left-eq0.false
     (read-law.list_of_any (sheet_of c.args.source.now.root.now ns) c.args.leaf _ _ _ _ _ _
     (λ (o : Out Str). Writes o c.args.buf.now c.args.t c.args.buf.now (Err ListOfAnyPointer))
-    (let k = ap number_of c.in-AnyPointer.is in omega arith) (refused-text refl))
+    (last-past _ c.in-AnyPointer.is) (refused-text refl))
 
 -- ---- write_own
 
 pub write_own-returns-in_default-clause-text : goal.write_own-returns-in_default-clause-text
 write_own-returns-in_default-clause-text t c =
     λ ns x o h count. law.own_other c.args.left (sheet_of c.args.source.now.root.now ns) _ _ _ count _ _ _ o h _
-    c.next-g.ensures.line_value (λ i b m e. grind arith) _ c.unbound.ensures
+    c.next-g.ensures.line_value (λ i n e. grind arith) _ c.unbound.ensures
 
-pub write_own-returns-then-bind-eq0-clause-text : goal.write_own-returns-then-bind-eq0-clause-text
-write_own-returns-then-bind-eq0-clause-text t c =
+pub write_own-returns-in_default-bindings-clause-text : goal.write_own-returns-in_default-bindings-clause-text
+write_own-returns-in_default-bindings-clause-text t c =
     let w = c.in-Ok-Scope in
     let f = rw w.is at w.field-0-is in
     λ ns x o h count. law.own-inherit c.args.left (sheet_of c.args.source.now.root.now ns) _ _ _ count _ _ _ o h _
-    c.next-g.ensures.line_value _ _ _ (w.is ∙ ap Ok f) c.if-bind-eq0.true _ c.inherited.ensures
+    c.next-g.ensures.line_value _ _ (w.is ∙ ap Ok f) c.in_default-bindings.is _ c.inherited.ensures
 
 pub write_own-returns-then-count-own-clause-text : goal.write_own-returns-then-count-own-clause-text
 write_own-returns-then-count-own-clause-text t c =
@@ -268,7 +268,7 @@ write_own-returns-then-count-own-clause-text t c =
     let f = rw w.is at w.field-0-is in
     let g = c.next-g.ensures in
     λ ns x o h count. law.own-8 c.args.left (sheet_of c.args.source.now.root.now ns) _ _ _ count _ _ _ o h _ g.line_value
-    _ _ _ (w.is ∙ ap Ok f) _ g.s_value c.if-bind-eq0.false c.if-count-own.true
+    _ _ (w.is ∙ ap Ok f) _ g.s_value _ c.in-Some.is c.if-count-own.true
 
 pub write_own-returns-clause-text : goal.write_own-returns-clause-text
 write_own-returns-clause-text t c =
@@ -276,7 +276,7 @@ write_own-returns-clause-text t c =
     let f = rw w.is at w.field-0-is in
     let g = c.next-g.ensures in
     λ ns x o h count. law.own-binds c.args.left (sheet_of c.args.source.now.root.now ns) _ _ _ count _ _ _ o h _ g.line_value
-    _ _ _ (w.is ∙ ap Ok f) _ g.s_value c.if-bind-eq0.false c.if-count-own.false _ (c.write_binds.ensures.text ns x)
+    _ _ (w.is ∙ ap Ok f) _ g.s_value _ c.in-Some.is c.if-count-own.false _ (c.write_binds.ensures.text ns x)
 
 -- ---- write_type
 
@@ -285,7 +285,7 @@ unfolding type_string
 write_type-returns-then-row-eq0-clause-text t c =
     λ ns x. read-law.type-any (sheet_of c.args.source.now.root.now ns) c.args.leaf _ _ _ _ _ _
     (λ (o : Out Str). Writes o c.args.buf.now c.args.t c.displayed.new.buf (Ok c.displayed.result))
-    (let k = ap number_of c.in-AnyPointer.is in omega arith) c.if-row-eq0.true (whole c.displayed.ensures)
+    (last-past _ c.in-AnyPointer.is) c.if-row-eq0.true (whole c.displayed.ensures)
 
 pub write_type-returns-in-List-clause-text : goal.write_type-returns-in-List-clause-text
 write_type-returns-in-List-clause-text t c =
@@ -306,7 +306,8 @@ write_type-returns-in_default-clause-text t c =
     let d = c.in_default in
     λ ns x. read-law.type-plain _ _ _ _ _ _ (λ ty. Writes (type_string ty (sheet_of c.args.source.now.root.now ns) c.args.leaf)
     c.args.buf.now c.args.t c.plain.new.buf (Ok c.plain.result))
-    (plain-below c.args.row.kind d.not-List d.not-Enum d.not-Struct d.not-Interface d.not-AnyPointer) (whole c.plain.ensures)
+    (plain-below c.args.row.kind d.not-List d.not-Enum d.not-Struct d.not-Interface d.not-AnyPointer d.not-Unnamed)
+    (whole c.plain.ensures)
 
 pub write_type-returns-in-Struct-clause-text : goal.write_type-returns-in-Struct-clause-text
 write_type-returns-in-Struct-clause-text t c =
@@ -319,4 +320,4 @@ pub write_type-returns-else-row-eq0-clause-text : goal.write_type-returns-else-r
 write_type-returns-else-row-eq0-clause-text t c =
     λ ns x. read-law.type-parameter (sheet_of c.args.source.now.root.now ns) c.args.leaf _ _ _ _ _ _
     (λ (o : Out Str). Writes o c.args.buf.now c.args.t c.parameter.new.buf c.parameter.result)
-    (let k = ap number_of c.in-AnyPointer.is in omega arith) c.if-row-eq0.false (c.parameter.ensures.text ns x)
+    (last-past _ c.in-AnyPointer.is) c.if-row-eq0.false (c.parameter.ensures.text ns x)

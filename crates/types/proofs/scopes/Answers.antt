@@ -3,9 +3,10 @@ use mathlib.Core.Path.{◌≡◌, sym, ap, ◌∙◌}
 use Prim.Native.Nat.{◌+◌, ◌-◌}
 use native.Mathlib.Omega.{arith}
 use Rattle.std.specs.Prelude.{Ok}
+use Rattle.std.specs.Option.{unwrap_or}
 use lib.ListN.{drop}
 use Rattle.row.specs.Rows.{rows}
-use Rattle.row.specs.Line.{Scope, line_said, line_at}
+use Rattle.row.specs.Line.{Scope, bind_of, line_said, line_at}
 use Rattle.types.proofs.Laws.{scope_other, scope-bad}
 use Rattle.types.proofs.ScopeLaws.{pass_start, pass-none, pass-other, pass-last, pass-next}
 use Rattle.types.proofs.scopes.Goals as goal
@@ -27,7 +28,7 @@ returns-in_default-2 c =
 -- the scope's row, in its own line's words
 here : (c : After-note)
     → line_at (rows (drop c.loop-k.at c.args.s.now))
-    ≡ Scope c.in-Ok-Scope.id c.in-Ok-Scope.field-0-1 c.in-Ok-Scope.bindings
+    ≡ Scope c.in-Ok-Scope.id (bind_of c.in-Ok-Scope.bindings) (unwrap_or c.in-Ok-Scope.bindings 0)
 unfolding line_said
 here c =
     let w = c.in-Ok-Scope in
@@ -42,7 +43,7 @@ pub loop-k-preserved : goal.loop-k-preserved
 loop-k-preserved c =
     let z : c.args.count - c.loop-k.k - 1 ≡ c.args.count - (c.loop-k.k + 1) = omega arith in
     rw (← z) (pass-next _ _ _ _ _ _ _ c.loop-k.invariant (omega arith) _ _ _ (here (goal.at.loop-k-preserved c).After-note) _
-    c.note.ensures _ _ c.next-got.ensures.s_value c.past-at.ensures.rows)
+    c.note.ensures _ _ c.next-got.ensures.s_value (rw c.unwrap_or.ensures at c.past-at.ensures.rows))
 
 pub returns : goal.returns
 returns c = pass-none _ _ _ _ _ _ _ c.loop-k.invariant (omega arith)

@@ -8,11 +8,13 @@ use Rattle.std.proofs.lemmas.Result.{err_from_is_err_and}
 use Rattle.nodes.specs.Index.{sheet_of}
 use Rattle.text.proofs.Laws.{some-text, no_text, ◌⨟◌}
 use Rattle.codegen_types.proofs.WrittenLaws.{kept-behind}
+use Rattle.zeroing.proofs.TypeLaws.{numbers-none}
 use Rattle.zeroing.proofs.TurnLaws.{going_first, going_end, going-slot, going_back, going-group, going-stop}
 use Rattle.zeroing.proofs.PathLaws.{inner-adds}
 use Rattle.zeroing.proofs.GroupLaws.{none_left, sought, group_missing, no-struct, group-adds}
-use Rattle.zeroing.proofs.FieldLaws.{slot-fewer, group-fewer, count_fits, count-more}
+use Rattle.zeroing.proofs.FieldLaws.{count_fits, count-more}
 use Rattle.zeroing.proofs.+zero_fields_of_group.Goals as goal
+use Rattle.zeroing.proofs.+zero_fields_of_group.Goals.{in-Slot, in-Group+in_ok-lines-in-Group}
 
 pub returns-then-group-eq0-clause-lines : goal.returns-then-group-eq0-clause-lines
 returns-then-group-eq0-clause-lines t c =
@@ -31,27 +33,15 @@ returns-then-node-ne1-clause-lines t c =
 pub loop-field-init : goal.loop-field-init
 loop-field-init t c = record {
   passed = omega arith;
-  going = λ root ns x lead tags offset. going_first 307;
+  going = λ root ns x lead tags offset. rw (numbers-none 307) (going_first 307);
   some = no_text;
 }
 
 pub overflow_add-count : goal.overflow_add-count
 overflow_add-count t c =
     let s = c.args.source.now.bytes.now in
-    let fewer = slot-fewer s c.loop-field.at c.in-Some-read.ensures.fewer c.in-Slot.is in
-    omega (arith, count_fits s c.in-Some.node.fields c.loop-field.count c.loop-field.invariant.passed fewer)
-
-pub loop-field-preserved-in-Slot : goal.loop-field-preserved-in-Slot
-loop-field-preserved-in-Slot t c =
-    let s = c.args.source.now.bytes.now in
-    let fewer = slot-fewer s c.loop-field.at c.in-Some-read.ensures.fewer c.in-Slot.is in
-    record {
-      passed = count-more s c.in-Some.node.fields c.loop-field.count c.loop-field.invariant.passed fewer;
-      going = λ root ns x lead tags offset.
-          going-slot (c.loop-field.invariant.going root ns x lead tags offset) s _ c.in-Some-read.ensures.first c.in-Slot.is
-          c.zero_slot-lines.ensures.lines;
-      some = c.loop-field.invariant.some ⨟ c.zero_slot-lines.ensures.some;
-    }
+    let passed = c.loop-field.invariant.passed in
+    omega (arith, count_fits s c.in-Some.node.fields c.loop-field.count passed c.in-Some-read.ensures.fewer)
 
 pub returns-in_err-lines-in-Group-clause-lines : goal.returns-in_err-lines-in-Group-clause-lines
 returns-in_err-lines-in-Group-clause-lines t c =
@@ -73,27 +63,30 @@ returns-in_err-lines-in-Group-clause-within t c =
     (kept-behind (some-text c.tag_line-lines.ensures.text ⨟ c.loop-field.invariant.some)
     c.in_err-lines-in-Group.ensures.within)
 
-pub overflow_add-count-in-Group : goal.overflow_add-count-in-Group
-overflow_add-count-in-Group t c =
-    let s = c.args.source.now.bytes.now in
-    let fewer = group-fewer s c.loop-field.at c.in-Some-read.ensures.fewer c.in-Group.is in
-    omega (arith, count_fits s c.in-Some.node.fields c.loop-field.count c.loop-field.invariant.passed fewer)
-
 pub loop-field-preserved : goal.loop-field-preserved
 loop-field-preserved t c =
     let s = c.args.source.now.bytes.now in
-    let fewer = group-fewer s c.loop-field.at c.in-Some-read.ensures.fewer c.in-Group.is in
-    record {
-      passed = count-more s c.in-Some.node.fields c.loop-field.count c.loop-field.invariant.passed fewer;
-      going = λ root ns x lead tags offset.
-          let first = c.in-Some-read.ensures.first in
-          let here = sought (sheet_of root ns) c.if-group-eq0.false c.find.ensures x c.in-Some.is in
-          let going = c.loop-field.invariant.going root ns x lead tags offset in
-          let inner = rw c.inner.ensures at (c.in_ok-lines-in-Group.ensures.lines root ns x) in
-          going-group going s _ first c.in-Group.is
-          (inner-adds here c.if-node-ne1.false lead (going_back going s _ first c.in-Group.is) _ _ _ _ inner);
-      some = c.loop-field.invariant.some ⨟ c.in_ok-lines-in-Group.ensures.within;
-    }
+    let first = c.in-Some-read.ensures.first in
+    let more = count-more s c.in-Some.node.fields c.loop-field.count c.loop-field.invariant.passed c.in-Some-read.ensures.fewer in
+    elim c.match-field.branch [
+      | in-Slot w ↦ rw (c.next-at.ensures, w.field-is, w.buf-is, w.table-is, w.lines-is) (record {
+        passed = rw w.in-Slot.is at more;
+        going = λ root ns x lead tags offset.
+            going-slot (c.loop-field.invariant.going root ns x lead tags offset) s _ first w.in-Slot.is
+            w.zero_slot-lines.ensures.lines;
+        some = c.loop-field.invariant.some ⨟ w.zero_slot-lines.ensures.some;
+      })
+      | in-Group+in_ok-lines-in-Group w ↦ rw (c.next-at.ensures, w.field-is, w.buf-is, w.table-is, w.lines-is) (record {
+        passed = rw w.in-Group.is at more;
+        going = λ root ns x lead tags offset.
+            let here = sought (sheet_of root ns) c.if-group-eq0.false c.find.ensures x c.in-Some.is in
+            let going = c.loop-field.invariant.going root ns x lead tags offset in
+            let inner = rw w.inner.ensures at (w.in_ok-lines-in-Group.ensures.lines root ns x) in
+            going-group going s _ first w.in-Group.is
+            (inner-adds here c.if-node-ne1.false lead (going_back going s _ first w.in-Group.is) _ _ _ _ inner);
+        some = c.loop-field.invariant.some ⨟ w.in_ok-lines-in-Group.ensures.within;
+      })
+    ]
 
 pub returns-clause-lines : goal.returns-clause-lines
 returns-clause-lines t c =

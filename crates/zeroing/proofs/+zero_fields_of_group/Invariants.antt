@@ -7,6 +7,7 @@ use Rattle.tree.specs.Tree.{Node}
 use Rattle.row.specs.Rows.{rows}
 use Rattle.text.specs.Bytes.{Str}
 use Rattle.text.specs.Text.{WroteSome}
+use Rattle.zeroing.specs.Types.{type_numbers}
 use Rattle.zeroing.specs.Path.{Leads}
 use Rattle.zeroing.proofs.TurnLaws.{Going}
 use Rattle.zeroing.proofs.+zero_fields_of_group.Given as goal
@@ -20,7 +21,7 @@ invariant-loop-field l = record {
   going : (root : Str) (ns : List Node) → Indexed l.s ns l.source.index.now
       → Leads (sheet_of root ns) l.group.start l.group.left l.group.id → (tags offset : ℕ)
       → Going (zero_fields_of_group (sheet_of root ns) (l.group.left - 1)) tags offset (rows (drop l.first l.s))
-      l.initial.buf l.initial.lines (rows (drop l.at l.s)) l.count l.table.offsets l.table.types l.buf l.lines;
+      l.initial.buf l.initial.lines (rows (drop l.at l.s)) l.count l.table.offsets (type_numbers l.table.types) l.buf l.lines;
   some : WroteSome l.initial.buf l.initial.lines.text l.buf l.lines.text;
 }
 

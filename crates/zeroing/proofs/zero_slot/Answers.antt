@@ -3,12 +3,13 @@ use lib.ListN.{take}
 use Rattle.text.proofs.Laws.{no_text}
 use Rattle.zeroing.specs.Lines.{repeats}
 use Rattle.zeroing.proofs.GroupLaws.{line-void}
+use Rattle.zeroing.proofs.TypeLaws.{void-is}
 use Rattle.zeroing.proofs.TableLaws.{kept-void}
 use Rattle.zeroing.proofs.zero_slot.Goals as goal
 
-pub returns-then-line-eq-NO_LINE : goal.returns-then-line-eq-NO_LINE
-returns-then-line-eq-NO_LINE c =
-    let void = rw c.of-line.ensures at c.if-line-eq-NO_LINE.true in
+pub returns-then-eq : goal.returns-then-eq
+returns-then-eq c =
+    let void = rw c.of-line.ensures.typ at (void-is c.of-line.result.typ _ c.eq.ensures c.if-eq.true) in
     record {
       lines = λ fs h k. (
         line-void c.args.slot.offset (repeats _ c.args.slot.offset (take c.args.fields.now.count fs)) void,
@@ -16,3 +17,9 @@ returns-then-line-eq-NO_LINE c =
       );
       some = no_text;
     }
+
+pub returns-clause-lines : goal.returns-clause-lines
+returns-clause-lines c =
+    λ fs h k. let line = c.of-line.ensures in
+    let known = rw (line.typ, line.offset) at (c.is_known-again.ensures fs h k) in
+    (rw (line.typ, line.offset, known.again) at c.next_line.ensures, known.kept)

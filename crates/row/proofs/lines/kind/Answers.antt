@@ -1,4 +1,4 @@
--- `row::lines::kind` meets its contract: a number up to 18 is the number of its kind. Assumes nothing.
+-- `row::lines::kind` meets its contract: a number is the number of its kind. Assumes nothing.
 use mathlib.Core.Path.{ap, sym, ◌∙◌}
 use Prim.Native.Nat.{ℕ}
 use Rattle.std.specs.Prelude.{Result}
@@ -16,4 +16,4 @@ returns c = λ f.
     ap (λ (k : Kind). f (number_of k)) c.from.ensures
     ∙ ap (λ (r : Result ℕ BadLine). said_with r g) (sym c.in_ok-n.was)
     ∙ c.number.ensures g
-    ∙ number-bounded c.args.t.now 1 18 g f (λ n h. ap f (number-back n h))
+    ∙ number-bounded c.args.t.now 1 18 g f (λ n h. ap f (number-back n))

@@ -7,7 +7,7 @@ use Rattle.calls.specs.Calls.{set_bool_field}
 use Rattle.codegen.specs.Default.{value, prim_default}
 use Rattle.codegen.specs.Mask.{mask_or}
 use Rattle.setter_code.specs.Parts.{tag_line}
-use Rattle.setter_code.proofs.Laws.{only-text, bool_open, retext}
+use Rattle.setter_code.proofs.Laws.{only-text, bool_open, begun, retext}
 use Rattle.setter_code.proofs.Target.boolean.Goals as goal
 
 pub returns : goal.returns
@@ -17,5 +17,5 @@ returns c =
     (set_bool_field slot.offset (ascii "value") (mask_or (prim_default (value (number_of slot.default) slot.bits))))
     (ascii "bool"))
     (retext (bool_open (name_of c.args.self.now.name) (tag_line c.args.self.now.tag slot.discriminant))
-    (c.set_open-t.ensures ⨾ c.bytes-t.ensures ⨾ c.tag_line-t.ensures ⨾ c.bytes-t-2.ensures)
+    (begun c.args.self.now (ascii "bool)  {\n") c.set_open-t.ensures c.start-t.ensures)
     ⨾ c.set_bool-t.ensures ⨾ c.bytes.ensures)

@@ -1,15 +1,21 @@
 -- `setter_code::Target::init_open` meets its contract: its parts, one after the other. Assumes nothing.
+use Rattle.std.specs.Prelude.{◌≡◌}
+use mathlib.Core.List.{◌++◌}
+use Rattle.text.specs.Bytes.{ascii}
 use Rattle.names.specs.Names.{name_of}
-use Rattle.setter_code.proofs.Laws.{retext, init_sized, init_plain}
-use Rattle.text.proofs.Laws.{◌⨾◌}
+use Rattle.setter_code.specs.Parts.{size_param}
+use Rattle.setter_code.proofs.Laws.{retext, init_opened}
 use Rattle.setter_code.proofs.Target.init_open.Goals as goal
+use Rattle.setter_code.proofs.Target.init_open.Goals.{Joined-sized, then-sized, else-sized}
 
-pub returns-then-sized : goal.returns-then-sized
-returns-then-sized c =
-    rw c.if-sized.true (retext (init_sized (name_of c.args.self.now.name))
-    (c.bytes-t.ensures ⨾ c.write-t.ensures ⨾ c.bytes.ensures))
+behind : (c : Joined-sized) → c.if-sized.after.now ≡ ascii "(self, " ++ size_param c.args.sized ++ ascii ") -> "
+behind c =
+    elim c.if-sized.branch [
+      | then-sized w ↦ rw (w.after-is, w.if-sized.true)
+      | else-sized w ↦ rw (w.after-is, w.if-sized.false)
+    ]
 
 pub returns : goal.returns
 returns c =
-    rw c.if-sized.false (retext (init_plain (name_of c.args.self.now.name))
-    (c.bytes-t.ensures ⨾ c.write-t.ensures ⨾ c.bytes-2.ensures))
+    retext (init_opened (name_of c.args.self.now.name) c.args.sized)
+    (rw (← behind (goal.at.returns c).Joined-sized) c.named.ensures)

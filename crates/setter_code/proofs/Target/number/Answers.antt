@@ -7,7 +7,7 @@ use Rattle.calls.specs.Calls.{set_data_field}
 use Rattle.codegen_types.specs.Primitive.{primitive_text}
 use Rattle.codegen.specs.Default.{value, prim_default}
 use Rattle.codegen.specs.Mask.{mask_or}
-use Rattle.setter_code.proofs.Laws.{only-text, retext}
+use Rattle.setter_code.proofs.Laws.{only-text, begun, retext}
 use Rattle.setter_code.proofs.Target.number.Goals as goal
 
 pub returns : goal.returns
@@ -16,5 +16,5 @@ returns c =
     λ root. retext (only-text root c.args.self.now.tag (name_of c.args.self.now.name) slot.discriminant
     (set_data_field (primitive_text (number_of slot.kind)) slot.offset (ascii "value")
     (mask_or (prim_default (value (number_of slot.default) slot.bits)))) (primitive_text (number_of slot.kind)))
-    (c.set_open-t.ensures ⨾ c.type_name-t.ensures ⨾ c.bytes-t.ensures ⨾ c.tag_line-t.ensures ⨾ c.bytes-t-2.ensures
+    (begun c.args.self.now (ascii ")  {\n") (c.set_open-t.ensures ⨾ c.type_name-t.ensures) c.start-t.ensures
     ⨾ c.set_number-t.ensures ⨾ c.bytes.ensures)

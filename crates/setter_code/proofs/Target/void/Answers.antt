@@ -8,5 +8,5 @@ use Rattle.setter_code.proofs.Target.void.Goals as goal
 pub returns : goal.returns
 returns c =
     let self = c.args.self.now in
-    λ root. retext (void-text root self.tag (name_of self.name) self.slot.discriminant) (c.bytes-t.ensures
-    ⨾ c.write-t.ensures ⨾ c.bytes-t-2.ensures ⨾ c.tag_line-t.ensures ⨾ c.bytes.ensures)
+    λ root. retext (void-text root self.tag (name_of self.name) self.slot.discriminant) (c.named-t.ensures
+    ⨾ c.tag_line-t.ensures ⨾ c.bytes.ensures)

@@ -3,28 +3,35 @@
 use mathlib.Core.Bool.{true, false}
 use Prim.Native.Nat.{◌+◌, ◌-◌}
 use native.Mathlib.Omega.{arith}
+use Rattle.zeroing.proofs.TypeLaws.{same-type}
 use Rattle.zeroing.proofs.RepeatLaws.{tells_none, tells-end, tells-here, tells_more, tells-group}
 use Rattle.zeroing.proofs.Fields.is_repeat.Goals as goal
+use Rattle.zeroing.proofs.Fields.is_repeat.Goals.{in-Slot+else-eq, in_default-field}
+
+pub returns-in_default : goal.returns-in_default
+returns-in_default c = (c.loop.invariant false (tells-end c.args.self.now.s.now c.in_default.ensures.first)).tells
 
 pub returns-then-eq : goal.returns-then-eq
 returns-then-eq c =
     (c.loop.invariant true
-    (tells-here c.args.self.now.s.now c.in-Some-Slot.ensures.first (c.args.self.now.count - (c.loop.counter + 1)) (omega arith)
-    c.in-Some-Slot.field-0-is (rw c.of.ensures at c.eq.ensures) c.if-eq.true)).tells
-
-pub loop-preserved-in-Some-Slot : goal.loop-preserved-in-Some-Slot
-loop-preserved-in-Some-Slot c =
-    λ r x. c.loop.invariant r
-    (tells_more c.args.self.now.s.now c.in-Some-Slot.ensures.first _ (omega arith) c.in-Some-Slot.field-0-is
-    (rw c.of.ensures at c.eq.ensures) c.if-eq.false x)
+    (tells-here c.args.self.now.s.now c.in-Some.ensures.first (c.args.self.now.count - (c.loop.counter + 1)) (omega arith)
+    c.in-Slot.is
+    (rw (same-type c.of.result.typ c.args.line.typ, c.of.ensures.offset, c.of.ensures.typ) at c.eq.ensures) c.if-eq.true)).tells
 
 pub loop-preserved : goal.loop-preserved
 loop-preserved c =
-    λ r x. c.loop.invariant r
-    (tells-group c.args.self.now.s.now c.in-Some-Group.ensures.first _ (omega arith) c.in-Some-Group.field-0-is x)
-
-pub returns-in-None : goal.returns-in-None
-returns-in-None c = (c.loop.invariant false (tells-end c.args.self.now.s.now c.in-None.ensures.first)).tells
+    λ r x. let s = c.args.self.now.s.now in
+    let first = c.in-Some.ensures.first in
+    let later = rw c.next-at.ensures at x in
+    c.loop.invariant r
+    (elim c.match-field.branch [
+      | in-Slot+else-eq w ↦
+          tells_more s first _ (omega arith) w.in-Slot.is
+          (rw (same-type w.of.result.typ c.args.line.typ, w.of.ensures.offset, w.of.ensures.typ) at w.eq.ensures) w.if-eq.false
+          (rw w.field-is at later)
+      | in_default-field w ↦
+          tells-group s first _ (omega arith) w.in_default-field.is (rw (w.field-is, w.in_default-field.is) at later)
+    ])
 
 pub returns : goal.returns
 returns c = (c.loop.invariant false (tells_none (omega arith))).tells
