@@ -66,7 +66,7 @@ impl Leaf {
         Texts { display, list }
     }
 
-    // Display for Leaf.
+    // Display for Leaf. It is none of std's, as the text goes into a lent buffer at a fill count.
     pub fn display(self, t: Text, buf: &mut [u8]) -> Text
         ensures { Wrote buf.old t (display self) buf.new result }
     {

@@ -37,7 +37,7 @@ const GROUP_SIZE: usize = 5;
 // The most words of a slot.
 const WORDS: u64 = 255;
 
-// A slot. The numbers of its F row:
+// A slot. The numbers of its F row, its flags among them, as a caller may lend any number:
 #[derive(Clone, Copy)]
 pub struct Slot {
     pub offset: u64,

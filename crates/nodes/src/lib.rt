@@ -31,7 +31,7 @@ const NODE_BYTES: usize = 151;
 const SHEET_BYTES: usize = 65536;
 
 // What the index holds of a node: the numbers of its N row, where that row stands, where its P rows begin, how many they are,
-// where in the index their marks begin, and where its fields begin.
+// where in the index their marks begin, and where its fields begin. Its flags are numbers, as the index and C hold them.
 #[derive(Clone, Copy)]
 pub struct Entry {
     pub id: u64,
@@ -71,7 +71,7 @@ pub fn index_size(size: usize) -> usize
 }
 
 impl Entry {
-    // The entry with these numbers.
+    // The entry with these numbers. As of a slot's, no `From`, which would be public.
     fn from_numbers(numbers: &[u64; ENTRY_SIZE]) -> Entry
         ensures { result ≡ entry_at numbers.now 0 }
     {

@@ -23,7 +23,7 @@ use terms::{Kind, Refusal};
 // Two U rows.
 const TWO_UNBOUND: [u8; 4] = *b"U\nU\n";
 
-// What a row says.
+// What a row says. Its flags are numbers, as C and the index hold them.
 #[derive(Clone, Copy)]
 pub enum Line {
     // R: the root stands as its text.

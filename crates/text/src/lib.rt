@@ -146,7 +146,7 @@ impl Text {
         self.byte(buf, b'\n')
     }
 
-    // `stringify` of no lines
+    // `stringify` of no lines: the same byte, but of another clause, and C has both
     pub fn no_lines(self, buf: &mut [u8]) -> Text
         ensures { Wrote buf.old self (stringify (Branch none)) buf.new result }
     {
