@@ -13,7 +13,8 @@ ghost use Rattle.text.specs.Text.{Wrote, state_at};
 //
 // The buffer is no field of it. After a refusal the state of before is still there (the chain of a brand goes on from it), and
 // in a struct that holds the `&mut` each writer would owe a second clause, that the buffer is the same one. Speed says nothing
-// for either: by such a struct the texts of crate calls take 0.99 to 1.01 times as many instructions, and measured 0.99 to 1.06.
+// for either: by such a struct the texts of crate calls take 0.99 to 1.01 times as many instructions, and 0.99 to 1.06 over an
+// empty buffer, by which a text is measured.
 #[derive(Clone, Copy)]
 pub struct Text {
     at: usize,
