@@ -1,5 +1,5 @@
--- Laws of the P rows of a node: their names are what the reader of P rows reads, and after k rows stands the name with the
--- number k. By induction on the rows and the count. Assumes nothing.
+-- Laws of the P rows of a node: their names are what the reader of P rows reads, after k rows stands the name with the number k,
+-- and each row has three bytes more than its name. By induction on the rows and the count. Assumes nothing.
 use mathlib.Core.Path.{◌≡◌, refl, sym, ap, ◌∙◌}
 use mathlib.Core.Bool.{true, false}
 use mathlib.Core.List.{List, [], ◌∷◌}
@@ -7,13 +7,16 @@ use Rattle.std.specs.Prelude.{Option, None, Some}
 use Prim.Native.Nat.{ℕ, zero, suc, ◌+◌, ◌-◌, ◌<◌, ◌≤◌}
 use native.Mathlib.Nat.{zero-add, suc-add}
 use native.Mathlib.Omega.{arith}
-use lib.ListN.{length, drop, length-drop}
-use Rattle.text.specs.Bytes.{Str}
-use Rattle.row.specs.Rows.{rest_of}
+use lib.ListN.{length, drop, length-append, length-drop}
+use Rattle.text.specs.Bytes.{Str, unit}
+use Rattle.row.specs.Rows.{rest_of, size}
+use Rattle.row.specs.Print.{columns, row_text}
+use Rattle.row.proofs.ReadLaws.{printed-line}
 use Rattle.row.specs.Line.{Fault, Content, line_of, line_at, text_of, text_at, as_parameter, fault_of}
 use Rattle.row.specs.Line.{Root, Node, Parameter, Field, Group, Typ, Scope, Unbound, Value, Word, Bad}
 use Rattle.tree.specs.Reader.{Rows, Reading, got, no, Reader, ◌then◌, told, or_fault, On}
 use Rattle.tree.specs.Read.{read_params}
+use Rattle.tree.specs.Walked.{passed}
 use Rattle.tree.proofs.OtherLines.{never}
 use Rattle.nodes.specs.Index.{names_of, nth, rows_after}
 
@@ -80,12 +83,53 @@ params-names (r ∷ rs) = go (line_of r) (read_params rs) (params-names rs)
     go (Word x) g ih = other
     go (Bad x k) g ih = other
 
+-- what they leave are the rows after as many as there are names
+pub params-rest : (rs us : Rows) → got tt us ≡ passed (read_params rs) → us ≡ rows_after (length (names_of rs)) rs
+unfolding read_params names_of line_at rest_of rows_after
+params-rest [] us h = cc
+params-rest (r ∷ rs) us h = go (line_of r) (read_params rs) (params-rest rs us) h
+  where
+    other : (o : Option Fault) → got tt us ≡ passed {A = List Str} (told o (got []) (r ∷ rs)) → us ≡ r ∷ rs
+    other (Some k) h = never cc
+    other None h = cc
+
+    go : (l : Content) (g : Reading (List Str)) → (got tt us ≡ passed g → us ≡ rows_after (length (names_of rs)) rs)
+        → got tt us ≡ passed (as_parameter {A = Reader (List Str)} l (λ q. g then λ ps. got (text_at q ∷ ps))
+        (or_fault 80 (got [])) (r ∷ rs))
+        → us ≡ rows_after (length (as_parameter l (text_of r ∷ names_of rs) [])) (r ∷ rs)
+    go Parameter (got ps vs) ih h = ih h
+    go Parameter (no k vs) ih h = never cc
+    go Root g ih h = other (fault_of 80 (line_of r)) h
+    go (Node i q k x y c o) g ih h = other (fault_of 80 (line_of r)) h
+    go (Field o d e q) g ih h = other (fault_of 80 (line_of r)) h
+    go (Group i d) g ih h = other (fault_of 80 (line_of r)) h
+    go (Typ k a b c) g ih h = other (fault_of 80 (line_of r)) h
+    go (Scope i b c) g ih h = other (fault_of 80 (line_of r)) h
+    go Unbound g ih h = other (fault_of 80 (line_of r)) h
+    go (Value k b) g ih h = other (fault_of 80 (line_of r)) h
+    go (Word x) g ih h = other (fault_of 80 (line_of r)) h
+    go (Bad x k) g ih h = other (fault_of 80 (line_of r)) h
+
 -- where there is a name, a P row stands first
 pub names-first : (rs : Rows) → 0 < length (names_of rs) → names_of rs ≡ text_at rs ∷ names_of (rest_of rs)
 unfolding text_at rest_of
 names-first [] h = let z : ⊥ = omega (arith, ap length no_names) in absurd z
 names-first (r ∷ rs) h =
     names_by (λ l. 0 < length l → l ≡ text_of r ∷ names_of rs) r rs (λ e t. refl) (λ t. let z : ⊥ = omega arith in absurd z) h
+
+-- a row whose name stands first has three bytes more than that: its letter, a space and byte 10
+parameter-size : (r : Str) → line_of r ≡ Parameter → length r ≡ 3 + length (text_of r)
+unfolding row_text columns
+parameter-size r e =
+    let p = printed-line r Parameter tt e in
+    omega (arith, ap length p.whole, length-append (text_of r) (unit 10))
+
+pub name-size : (rs : Rows) → 0 < length (names_of rs) → size rs ≡ 3 + length (text_at rs) + size (rest_of rs)
+unfolding text_at rest_of size
+name-size [] h = let z : ⊥ = omega (arith, ap length no_names) in absurd z
+name-size (r ∷ rs) h =
+    names_by (λ l. 0 < length l → length r + size rs ≡ 3 + length (text_of r) + size rs) r rs
+    (λ e t. omega (arith, parameter-size r e)) (λ t. let z : ⊥ = omega arith in absurd z) h
 
 -- the text of the row after k rows is the name with the number k
 pub name-after : (k : ℕ) (rs : Rows) → k < length (names_of rs) → nth k (names_of rs) ≡ Some (text_at (rows_after k rs))

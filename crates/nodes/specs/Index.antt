@@ -105,7 +105,7 @@ pub record Marked (s : Str) (index : List ℕ) (marks : ℕ) (names : List Str) 
       → (marks + j < length index) × (names_of (rows (drop (get_or index (marks + j) 0) s)) ≡ drop (mark_every * suc j) names)
 
 -- an entry says of a node what its N line says, where that line stands, where its P lines begin and how many they are, and
--- where its fields begin
+-- where its fields begin, which is where its P lines end
 pub record EntryIs (s : Str) (index : List ℕ) (e : Entry) (n : Node) : Type 0 where
   pub id : e.id ≡ n.id
   pub parent : e.parent ≡ n.parent
@@ -120,6 +120,7 @@ pub record EntryIs (s : Str) (index : List ℕ) (e : Entry) (n : Node) : Type 0 
   pub count : e.count ≡ length n.params
   pub marks : Marked s index e.marks n.params
   pub fields : FieldsHere (rows (drop e.fields s)) n.fields
+  pub end : rows (drop e.fields s) ≡ rows_after e.count (rows (drop e.params s))
 
 -- the entries of nodes, one after the other from a place of the index on
 unfoldable pub Entries : Str → List ℕ → ℕ → List Node → Type 0

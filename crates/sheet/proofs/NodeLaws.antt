@@ -24,7 +24,7 @@ use Rattle.tree.proofs.WalkLaws.{fault_or, told_wrong}
 use Rattle.tree.proofs.TailLaws.{tail_rest, tail_size}
 use Rattle.nodes.specs.Index.{entry_at, with_entry, names_of, first_mark, index_size, Marked}
 use Rattle.nodes.specs.declared.Entry.{Entry}
-use Rattle.nodes.proofs.NameLaws.{params-names}
+use Rattle.nodes.proofs.NameLaws.{params-names, params-rest}
 use Rattle.nodes.proofs.PutLaws.{entry-put, length-put, before-put, after-put}
 use Rattle.sheet.specs.Steps.{groups_after, FieldsRead, RefusedAs, SameBetween, ParamsRead, Placed}
 use Rattle.sheet.specs.Steps.{node_with}
@@ -234,6 +234,7 @@ module _ (s : Str) (held : Held) (seen x y : List ℕ) (n : Entry) (p : ParamsRu
             count = params.count ∙ ap length (sym d);
             marks = rw (begun.marks, d) marked;
             fields = x;
+            end = rw params.count (params-rest (rows (drop n.params s)) ts params.walk);
           };
           first = omega (arith, begun.marks);
           last = omega (arith, begun.marks, params.next, params.count, ap length d);

@@ -67,6 +67,7 @@ placed_same s x y end end' e n m l h p = record {
     count = p.is.count;
     marks = marked-same s x y (first_mark (length s)) end e.marks n.params m l p.first p.last p.is.marks;
     fields = p.is.fields;
+    end = p.is.end;
   };
   first = p.first;
   last = omega (arith, p.last);

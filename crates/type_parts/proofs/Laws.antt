@@ -2,7 +2,7 @@
 use mathlib.Core.Path.{◌≡◌, refl, sym, ap, ◌∙◌, subst}
 use mathlib.Core.List.{List, [], ◌∷◌, ◌++◌, append_assoc, append-nil, map}
 use Rattle.std.specs.Prelude.{Option, None, Some, Result, Ok, Err}
-use Prim.Native.Nat.{ℕ, zero, suc, ◌-◌, ◌<◌, ◌≤◌}
+use Prim.Native.Nat.{ℕ, zero, suc, ◌-◌, ◌<◌}
 use native.Mathlib.Numerals.{sub-one}
 use native.Mathlib.Omega.{arith}
 use lib.ListN.{length, drop, replicate}
@@ -11,11 +11,9 @@ use Rattle.text.specs.Lines.{join}
 use Rattle.text.specs.Text.{put, adv, Wrote}
 use Rattle.text.specs.declared.Text.{Text}
 use Rattle.text.proofs.Laws.{◌⨾◌}
-use Rattle.row.specs.Rows.{rows, rest_of}
-use Rattle.row.specs.Line as line
-use Rattle.row.specs.Line.{Content, line_of, text_of, text_at, as_parameter}
+use Rattle.row.specs.Rows.{rows}
+use Rattle.row.specs.Line.{text_at}
 use Rattle.tree.specs.Tree.{Node, Sheet, parameter}
-use Rattle.tree.specs.Reader.{Rows}
 use Rattle.codegen_types.specs.TypeString.{type_string, get_qualified_module, parameter_name, parameter_string, angled}
 use Rattle.codegen_types.specs.Leaf.{bare_name, maybe_colons, leaf_arguments}
 use Rattle.codegen_types.specs.declared.Leaf.{Leaf}
@@ -27,9 +25,9 @@ use Rattle.terms.specs.declared.refusals.Refusal.{Refusal}
 use Rattle.codegen_types.specs.Out.{Out, ok, refused, or_refused, ◌then◌}
 use Rattle.codegen_types.proofs.WrittenLaws.{ok-one, not-ok}
 use Rattle.codegen_types.proofs.NodeLaws.{node_missing, node-there, parameter-named}
-use Rattle.nodes.specs.Index.{names_of, nth, lookup, Indexed, EntryIs, NameAt}
+use Rattle.nodes.specs.Index.{nth, lookup, Indexed, EntryIs, NameAt}
 use Rattle.nodes.specs.declared.Entry.{Entry}
-use Rattle.type_parts.specs.Parts.{listed, sep_after, closer, texts_of, Listed, Lists, Opened}
+use Rattle.type_parts.specs.Parts.{listed, sep_after, closer, Listed, Lists, Opened}
 use Rattle.type_parts.specs.declared.Arguments.{Arguments}
 
 -- ---- texts in other groupings
@@ -133,50 +131,6 @@ not_listed n = record { refusal = ap Some n; listed = λ ws q e. absurd (not-ok 
 pub listed_of : {l : List ℕ} {p : Arguments} {ws : List Str} {l' : List ℕ} {q : Arguments} → Lists (ok ws) l p l' (Ok q)
     → Listed l p ws l' q
 listed_of h = h.listed _ _ refl refl
-
--- the name of the first P row, where there is one
-pub names-on : (rs : Rows) → 0 < length (names_of rs) → names_of rs ≡ text_at rs ∷ names_of (rest_of rs)
-unfolding names_of text_at rest_of
-names-on [] h = let z : ⊥ = omega arith in absurd z
-names-on (r ∷ rs) h = go (line_of r) h
-  where
-    go : (l : Content) → 0 < length (as_parameter l (text_of r ∷ names_of rs) [])
-        → as_parameter l (text_of r ∷ names_of rs) [] ≡ text_of r ∷ names_of rs
-    go line.Parameter h = refl
-    go line.Root h = let z : ⊥ = omega arith in absurd z
-    go (line.Node i q k x y c o) h = let z : ⊥ = omega arith in absurd z
-    go (line.Field o d e q) h = let z : ⊥ = omega arith in absurd z
-    go (line.Group i d) h = let z : ⊥ = omega arith in absurd z
-    go (line.Typ k a b c) h = let z : ⊥ = omega arith in absurd z
-    go (line.Scope i b c) h = let z : ⊥ = omega arith in absurd z
-    go line.Unbound h = let z : ⊥ = omega arith in absurd z
-    go (line.Value k b) h = let z : ⊥ = omega arith in absurd z
-    go (line.Word x) h = let z : ⊥ = omega arith in absurd z
-    go (line.Bad x k) h = let z : ⊥ = omega arith in absurd z
-
--- rows' texts, one after the other; they are a node's names where they are as many
-pub texts-none : (n : ℕ) (rs : Rows) → n ≤ 0 → texts_of n rs ≡ []
-unfolding texts_of
-texts-none zero rs h = refl
-texts-none (suc n) rs h = let z : ⊥ = omega arith in absurd z
-
-pub texts-on : (n : ℕ) (rs rest : Rows) (name : Str) → 0 < n → rest ≡ rest_of rs → name ≡ text_at rs
-    → texts_of n rs ≡ name ∷ texts_of (n - 1) rest
-unfolding texts_of
-texts-on zero rs rest name h e f = let z : ⊥ = omega arith in absurd z
-texts-on (suc n) rs rest name h e f = rw (e, f, sub-one (suc n)) refl
-
-no_names : (ws : List Str) → 0 ≡ length ws → ws ≡ []
-no_names [] h = refl
-no_names (w ∷ ws) h = let z : ⊥ = omega arith in absurd z
-
-pub texts-names : (n : ℕ) (rs : Rows) → n ≡ length (names_of rs) → texts_of n rs ≡ names_of rs
-unfolding texts_of
-texts-names zero rs h = sym (no_names (names_of rs) h)
-texts-names (suc n) rs h =
-    let on = names-on rs (omega arith) in
-    let z : suc n ≡ suc (length (names_of (rest_of rs))) = h ∙ ap (λ (ws : List Str). length ws) on in
-    rw on (ap (λ (ws : List Str). text_at rs ∷ ws) (texts-names n (rest_of rs) (omega arith)))
 
 -- one more of the same
 pub replicate-on : (w : Str) (n : ℕ) → 0 < n → replicate n w ≡ w ∷ replicate (n - 1) w

@@ -1,17 +1,24 @@
 -- Laws of arguments past the end of the buffer, where they are counted and not written: the state after a text depends on the
--- text's length alone, so that over an empty buffer the order of arguments does not show, and so that arguments of known lengths
--- are counted at once. Assumes nothing.
-use mathlib.Core.Path.{◌≡◌, refl, sym, ◌∙◌}
+-- text's length alone, so that over an empty buffer the order of arguments does not show, and so that arguments of known lengths,
+-- or names whose rows' length is known, are counted at once. Assumes nothing.
+use mathlib.Core.Path.{◌≡◌, refl, sym, ap, ◌∙◌}
 use mathlib.Core.List.{List, [], ◌∷◌, ◌++◌}
 use Prim.Native.Nat.{ℕ, zero, suc, ◌+◌, ◌-◌, ◌*◌, ◌^◌, ◌<◌, ◌≤◌, min}
 use native.Mathlib.Nat.{suc-mul, zero-mul}
 use native.Mathlib.Omega.{arith}
-use lib.ListN.{length, replicate, length-append, length-replicate}
+use lib.ListN.{length, drop, replicate, length-append, length-drop, length-replicate}
 use Rattle.text.specs.Bytes.{Str, ascii, unit}
 use Rattle.text.specs.Text.{next, put, adv, state_at, WroteSome}
 use Rattle.text.specs.declared.Text.{Text}
 use Rattle.text.proofs.Places.{counted}
+use Rattle.text.proofs.Laws.{some-text}
+use Rattle.row.specs.Rows.{rows, rest_of, size}
+use Rattle.row.proofs.Laws.{size-rows}
+use Rattle.tree.specs.Reader.{Rows}
+use Rattle.nodes.specs.Index.{names_of, rows_after}
+use Rattle.nodes.proofs.NameLaws.{names-first, name-size}
 use Rattle.codegen_types.specs.TypeString.{any_owned}
+use Rattle.types.specs.Find.{ParamsAt}
 use Rattle.type_parts.specs.Parts.{listed, sep_after, Listed}
 use Rattle.type_parts.specs.declared.Arguments.{Arguments}
 
@@ -88,11 +95,53 @@ taken-same zero w = sym (zero-mul (1 + length w))
 taken-same (suc n) w = omega (arith, taken-same n w, suc-mul n (1 + length w))
 
 -- parameters that are not bound
-pub unbound-counted : (root l : List ℕ) (p : Arguments) (n : ℕ) (t : Text) → length l ≤ p.text.at → p.text.at ≤ 2 ^ 64 - 1
-    → 0 < n → t ≡ state_at (min (p.text.at + n * (1 + length root + 20)) (2 ^ 64 - 1))
+pub unbound-counted : (root l : List ℕ) (p : Arguments) (n bytes : ℕ) (t : Text) → length l ≤ p.text.at
+    → p.text.at ≤ 2 ^ 64 - 1 → 0 < n → bytes ≡ min ((1 + length root + 20) * n) (2 ^ 64 - 1)
+    → t ≡ state_at (min (p.text.at + bytes) (2 ^ 64 - 1))
     → Listed l p (replicate n (any_owned root)) l (record { text = t; sep = 44 })
-unbound-counted root l p n t h b m e =
+unbound-counted root l p n bytes t h b m f e =
     let z : 1 + length root + 20 ≡ 1 + length (any_owned root) = omega
     (arith, length-append root (ascii "::any_pointer::Owned")) in
     at_once l p h b (n * (1 + length root + 20)) t (replicate n (any_owned root)) (rw (length-replicate n (any_owned root)) m)
-    (rw z (sym (taken-same n (any_owned root)))) e
+    (rw z (sym (taken-same n (any_owned root)))) (e ∙ ap state_at (omega (arith, f)))
+
+-- names of P rows: each has three bytes fewer than its row, and takes one more
+names-taken : (n : ℕ) (rs : Rows) → n ≡ length (names_of rs) → size rs ≡ 2 * n + taken (names_of rs) + size (rows_after n rs)
+unfolding taken rows_after
+names-taken zero rs h = rw (no-name (names_of rs) h) (omega arith)
+  where
+    no-name : (ws : List Str) → 0 ≡ length ws → taken ws ≡ 0
+    no-name [] h = refl
+    no-name (w ∷ ws) h = let z : ⊥ = omega arith in absurd z
+names-taken (suc n) rs h =
+    let e = names-first rs (omega arith) in
+    omega (
+      arith,
+      name-size rs (omega arith),
+      names-taken n (rest_of rs) (omega (arith, ap length e)),
+      ap taken e,
+    )
+
+pub names-counted : (s : Str) (at n end : ℕ) (l : List ℕ) (p : Arguments) (t : Text) → length l ≤ p.text.at
+    → p.text.at ≤ 2 ^ 64 - 1 → ParamsAt s at n end → 0 < n
+    → t ≡ state_at (min (p.text.at + (min end (length s) - at - 2 * n)) (2 ^ 64 - 1))
+    → Listed l p (names_of (rows (drop at s))) l (record { text = t; sep = 44 })
+names-counted s at n end l p t h b w m e =
+    let fits : min end (length s) - at - 2 * n ≡ taken (names_of (rows (drop at s))) = omega (
+      arith,
+      names-taken n (rows (drop at s)) w.names,
+      ap size w.after,
+      size-rows (drop at s),
+      size-rows (drop end s),
+      length-drop at s,
+      length-drop end s,
+    ) in
+    at_once l p h b (min end (length s) - at - 2 * n) t (names_of (rows (drop at s))) (omega (arith, w.names)) fits e
+
+-- whatever is counted, it is some text of so many bytes
+pub some-counted : (l : List ℕ) (t : Text) (n : ℕ) (u : Text) → length l ≤ t.at → t.at ≤ 2 ^ 64 - 1
+    → u ≡ state_at (min (t.at + n) (2 ^ 64 - 1)) → WroteSome l t l u
+some-counted l t n u h b e =
+    let text : List ℕ = replicate n 0 in
+    let long : length text ≡ n = length-replicate n 0 in
+    rw (e, ← long) (some-text (counted l t text h b))

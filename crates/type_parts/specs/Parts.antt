@@ -1,10 +1,8 @@
 -- What the writers of a brand leave: its arguments, each after `<` or a comma, or their refusal. Assumes nothing.
-use Rattle.std.specs.Prelude.{◌≡◌, List, [], ◌∷◌, ◌++◌, ℕ, zero, suc, eqb, Result, Ok, Err}
+use Rattle.std.specs.Prelude.{◌≡◌, List, [], ◌∷◌, ◌++◌, ℕ, eqb, Result, Ok, Err}
 use Rattle.text.specs.Bytes.{Str, ascii, unit, cond}
 use Rattle.text.specs.Text.{Wrote, WroteSome}
 use Rattle.text.specs.declared.Text.{Text}
-use Rattle.row.specs.Rows.{rest_of}
-use Rattle.row.specs.Line.{text_at}
 use Rattle.codegen_types.specs.Out.{Out, ok, refusal_of}
 use Rattle.terms.specs.declared.refusals.Refusal.{Refusal}
 use Rattle.codegen_types.specs.Written.{refusal_number, Kept}
@@ -25,11 +23,6 @@ sep_after b (w ∷ ws) = 44
 -- what ends the arguments: nothing where there are none
 abbrev pub closer : ℕ → Str
 closer b = cond (eqb b 44) (ascii ">") []
-
--- the texts of the first n rows
-unfoldable pub texts_of : ℕ → List Str → List Str
-texts_of zero rs = []
-texts_of (suc n) rs = text_at rs ∷ texts_of n (rest_of rs)
 
 -- the arguments ws, written after those of p into l
 pub record Listed (l : List ℕ) (p : Arguments) (ws : List Str) (l' : List ℕ) (p' : Arguments) : Type 0 where

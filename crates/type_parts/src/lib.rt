@@ -1,18 +1,19 @@
 // The parts of a type's text that lie outside the cycle of `type_string` and `do_branding`.
 #![tactic(auto)]
 
-ghost use Rattle.std.specs.Prelude.{◌≡◌, ◌++◌, ◌+◌, ◌-◌, ◌*◌, ◌^◌, min, drop, replicate};
+ghost use Rattle.std.specs.Prelude.{◌≡◌, ◌++◌, ◌+◌, ◌-◌, ◌*◌, ◌^◌, min, length, drop, replicate};
 ghost use Rattle.terms.specs.Kinds.{number_of};
 ghost use Rattle.text.specs.Bytes.{Str, ascii};
-ghost use Rattle.text.specs.Text.{Wrote, state_at};
+ghost use Rattle.text.specs.Text.{Wrote, WroteSome, state_at};
 ghost use Rattle.row.specs.Rows.{rows};
 ghost use Rattle.tree.specs.Tree.{parameter};
-ghost use Rattle.nodes.specs.Index.{ForAll, InSource};
+ghost use Rattle.nodes.specs.Index.{names_of, ForAll, InSource};
 ghost use Rattle.codegen_types.specs.Written.{Writes, Within};
 ghost use Rattle.codegen_types.specs.Leaf.{display, bare_name, lifetime_comma};
 ghost use Rattle.codegen_types.specs.TypeString.{plain_string, list_module};
 ghost use Rattle.codegen_types.specs.TypeString.{any_owned, parameter_string, get_qualified_module, type_string};
-ghost use Rattle.type_parts.specs.Parts.{Listed, Opened, closer, texts_of};
+ghost use Rattle.types.specs.Find.{ParamsAt};
+ghost use Rattle.type_parts.specs.Parts.{Listed, Opened, closer};
 
 use codegen_types::{Leaf, Lifetime};
 use nodes::Source;
@@ -153,13 +154,42 @@ pub fn qualified_module(
     Ok(t.bytes(buf, source.module(node)))
 }
 
-// So many texts of the rows from a position on: the own names of a node's parameters, where the position is that of its P rows.
-pub fn inherited(s: &[u8], from: usize, count: u64, first: Arguments, buf: &mut [u8]) -> Arguments
-    ensures { Listed buf.old first (texts_of count (rows (drop from s.now))) buf.new result }
+// The state after so many bytes, all of them past the end of the buffer: they are counted at once.
+fn counted(bytes: usize, t: Text) -> Text
+    ensures { result ≡ state_at (min (t.at + bytes) (2 ^ 64 - 1)) }
+{
+    Text::at(t.fill().saturating_add(bytes))
+}
+
+// How many bytes the names of so many P rows have, with a byte before each: two a row fewer than the rows, in which a letter, a
+// space and byte 10 stand beside a name. Where the rows end is known, so none of them is looked at.
+fn names_size(s: &[u8], from: usize, count: u64, end: usize) -> usize
+    ensures { result ≡ min end (length s.now) - from - 2 * count }
+{
+    let bytes = end.min(s.len()).saturating_sub(from);
+    bytes.saturating_sub((count as usize).saturating_mul(2))
+}
+
+// The own names of a node's parameters, whose P rows stand between two positions. Past the end of the buffer the names that are
+// left are counted at once. Whatever the positions and the count are, some text is written.
+pub fn inherited(
+    s: &[u8],
+    from: usize,
+    count: u64,
+    end: usize,
+    first: Arguments,
+    buf: &mut [u8],
+) -> Arguments
+    ensures text { ParamsAt s.now from count end → Listed buf.old first (names_of (rows (drop from s.now))) buf.new result }
+    ensures within { WroteSome buf.old first.text buf.new result.text }
 {
     let mut at = from;
     let mut p = first;
-    for _ in 0..count {
+    for done in 0..count {
+        if buf.len() <= p.text.fill() {
+            let t = counted(names_size(s, at, count - done, end), p.text);
+            return Arguments { text: t, sep: b',' };
+        }
         let g = row::next(s, at);
         let name = row::text_before(s, at, g.next);
         let t = p.text.byte(buf, p.sep);
@@ -170,14 +200,6 @@ pub fn inherited(s: &[u8], from: usize, count: u64, first: Arguments, buf: &mut 
     p
 }
 
-// The state after so many texts of so many bytes each, all of them past the end of the buffer: they are counted at once.
-fn counted(count: u64, size: usize, t: Text) -> Text
-    ensures { result ≡ state_at (min (t.at + count * size) (2 ^ 64 - 1)) }
-{
-    let bytes = size.saturating_mul(count as usize);
-    Text::at(t.fill().saturating_add(bytes))
-}
-
 // So many parameters that are not bound. Past the end of the buffer all that are left have one size and are not looked at.
 pub fn unbound(root: &[u8], count: u64, first: Arguments, buf: &mut [u8]) -> Arguments
     ensures { Listed buf.old first (replicate count (any_owned root.now)) buf.new result }
@@ -185,7 +207,8 @@ pub fn unbound(root: &[u8], count: u64, first: Arguments, buf: &mut [u8]) -> Arg
     let mut p = first;
     for done in 0..count {
         if buf.len() <= p.text.fill() {
-            let t = counted(count - done, 1 + root.len() + ANY_OWNED_BYTES, p.text);
+            let each = 1 + root.len() + ANY_OWNED_BYTES;
+            let t = counted(each.saturating_mul((count - done) as usize), p.text);
             return Arguments { text: t, sep: b',' };
         }
         let t = p.text.byte(buf, p.sep);

@@ -42,6 +42,7 @@ abbrev pub field_own : Links → List ℕ → ℕ → Own
 field_own c places k = record {
   params = get_or c.params k 0;
   count = get_or c.counts k 0;
+  end = get_or c.ends k 0;
   scope = get_or places k 0;
 }
 

@@ -42,10 +42,10 @@ use Rattle.types.proofs.ScopeLaws.{scope-there}
 use Rattle.types.proofs.Laws.{on-map, on_one, on-all}
 use Rattle.types.proofs.TypeLaws as read-law
 use Rattle.types.proofs.TypeLaws.{list_of, times_none, binds-more, binds-length, scope-inherit, scope-binds, scope-not}
-use Rattle.type_parts.specs.Parts.{Lists, Listed, Opened, closer, texts_of}
+use Rattle.type_parts.specs.Parts.{Lists, Listed, Opened, closer}
 use Rattle.type_parts.specs.declared.Arguments.{Arguments}
 use Rattle.type_parts.proofs.Laws as parts
-use Rattle.type_parts.proofs.Laws.{listed-none, listed_cons, all_listed, not_listed, map-replicate, texts-names}
+use Rattle.type_parts.proofs.Laws.{listed-none, listed_cons, all_listed, not_listed, map-replicate}
 use Rattle.type_string.specs.Told.{outward, only_of}
 
 -- a refusal and none at once
@@ -200,13 +200,13 @@ module _ (left : ℕ) (sheet : Sheet) (q ps : Rows) (own : ℕ) (count : own ≡
     unfolding line_said
     at = rw is at said
 
-    pub own-inherit : bindings ≡ None → (r : Arguments) → Listed l p (texts_of own ps) l' r
+    pub own-inherit : bindings ≡ None → (r : Arguments) → Listed l p (names_of ps) l' r
         → Lists (arguments_of sheet.root (names_of ps) o) l p l' (Ok r)
     unfolding arguments_of
     own-inherit z r w = let y : o ≡ Some type_string.inherited =
         scope-inherit left sheet q o (Scope i bindings) i at (ap (Scope i) z)
         (scope-there left sheet q o (Scope i bindings) i bindings at refl here) in
-        rw y (all_listed (rw (texts-names own ps count) at w))
+        rw y (all_listed w)
 
     module _ (rest : Rows) (next : rest ≡ rest_of q) (m : ℕ) (z : bindings ≡ Some m) where
       by-binds : (Q : Out (List Str) → Type 0) → On (times (read_binding (read_type left)) stop m rest)

@@ -1,6 +1,6 @@
 -- What the writers of types and brands tell: the text or the refusal that `type_string` gives for whatever type is read at a
 -- position, in every sheet whose nodes the index has. Assumes nothing.
-use Rattle.std.specs.Prelude.{◌≡◌, List, [], ◌∷◌, ℕ, drop, length}
+use Rattle.std.specs.Prelude.{List, [], ◌∷◌, ℕ, drop}
 use Rattle.std.specs.Prelude.{Option, Result}
 use Rattle.text.specs.Bytes.{Str}
 use Rattle.text.specs.declared.Text.{Text}
@@ -18,7 +18,7 @@ use Rattle.codegen_types.specs.TypeString.{type_string, Scope, scopes_of, bindin
 use Rattle.codegen_types.specs.TypeString.{outermost_first}
 use Rattle.codegen_types.specs.Written.{Writes}
 use Rattle.codegen_types.specs.declared.Leaf.{Leaf}
-use Rattle.types.specs.Find.{ScopeAt}
+use Rattle.types.specs.Find.{ScopeAt, ParamsAt}
 use Rattle.types.specs.declared.TypeRow.{TypeRow}
 use Rattle.type_parts.specs.Parts.{Lists}
 use Rattle.type_parts.specs.declared.Arguments.{Arguments}
@@ -61,11 +61,12 @@ module _ (x : Source) where
       InSource x (λ sheet. On (scopes_at left b)
       (λ ss. Lists (outward (accumulate sheet (scopes_of ss sheet) 16 b.id)) l p l' r))
 
-  -- of a node whose parameters' number is known, with the scope that stands at its place, or none
+  -- of a node whose P rows are known, how many they are and where they begin and end, with the scope that stands at its place, or
+  -- none
   abbrev pub OwnTold : Own → ℕ → List ℕ → Arguments → List ℕ → Result Arguments Refusal → Type 0
   OwnTold w left l p l' r =
       InSource x (λ sheet. (o : Option Scope) → ScopeAt left sheet (rows (drop w.scope x.bytes.now)) o
-      → w.count ≡ length (names_of (rows (drop w.params x.bytes.now)))
+      → ParamsAt x.bytes.now w.params w.count w.end
       → Lists (arguments_of x.root.now (names_of (rows (drop w.params x.bytes.now))) o) l p l' r)
 
   abbrev pub BindsTold : ℕ → ℕ → ℕ → List ℕ → Arguments → List ℕ → Result Arguments Refusal → Type 0

@@ -30,12 +30,13 @@ struct Brand {
     count: u64,
 }
 
-// A node of a brand's chain: where its P rows begin, how many they are, and where its scope stands; the sheet's end, as
-// `types::scopes` gives it, where it has none.
+// A node of a brand's chain: where its P rows begin, how many they are, where they end, and where its scope stands; the sheet's
+// end, as `types::scopes` gives it, where it has none.
 #[derive(Clone, Copy)]
 struct Own {
     params: usize,
     count: u64,
+    end: usize,
     scope: usize,
 }
 
@@ -175,6 +176,7 @@ fn write_chain(
         let own = Own {
             params: chain.params[k],
             count: chain.counts[k],
+            end: chain.ends[k],
             scope: scopes[k],
         };
         match write_own(source, own, left, p, buf) {
@@ -211,7 +213,7 @@ fn write_own(
         return Ok(type_parts::unbound(source.root, own.count, p, buf));
     };
     let Some(count) = bindings else {
-        return Ok(type_parts::inherited(source.bytes, own.params, own.count, p, buf));
+        return Ok(type_parts::inherited(source.bytes, own.params, own.count, own.end, p, buf));
     };
     if count != own.count {
         return Err(Refusal::BindingsDiffer);

@@ -27,7 +27,7 @@ use Rattle.tree.proofs.OtherLines.{never}
 use Rattle.nodes.specs.Index.{Indexed, EntryIs, lookup, names_of, sheet_of}
 use Rattle.nodes.specs.declared.Entry.{Entry}
 use Rattle.codegen_types.proofs.NodeLaws.{node_missing, node-there}
-use Rattle.types.specs.Find.{before, end_of, step_of, or_five, ChainOf}
+use Rattle.types.specs.Find.{before, end_of, step_of, or_five, ParamsAt, ChainOf}
 use Rattle.types.specs.declared.Links.{Links}
 
 -- ---- the chain
@@ -208,46 +208,51 @@ new-id id (j ∷ ids) h (suc i) x e = go (eqb j id) h (new-id id ids)
     go false h ih = ih h i (omega arith) e
 
 -- k nodes are noted, each the parent of the one before, and what `accumulate` does from the current node on is left
-pub record Climbed (index : List ℕ) (id : ℕ) (ids params counts : List ℕ) (k current : ℕ) : Type 0 where
+pub record Climbed (index : List ℕ) (id : ℕ) (ids params counts ends : List ℕ) (k current : ℕ) : Type 0 where
   pub few : k ≤ 16
   pub ids_size : length ids ≡ 16
   pub params-size : length params ≡ 16
   pub counts_size : length counts ≡ 16
+  pub ends_size : length ends ≡ 16
   pub once : (i j : ℕ) → i < j → j < k → get_or ids i 0 ≡ get_or ids j 0 → ⊥
   pub each : (s : Str) (ns : List Node) → Indexed s ns index → (j : ℕ) → j < k
-      → get_or counts j 0 ≡ length (names_of (rows (drop (get_or params j 0) s)))
+      → ParamsAt s (get_or params j 0) (get_or counts j 0) (get_or ends j 0)
   pub path : (s : Str) (ns : List Node) → Indexed s ns index → Path s ns (take k ids) (take k params) current
   pub all : (s root : Str) (ns : List Node) → Indexed s ns index → (scopes : List (ℕ × Scope))
       → accumulate (sheet_of root ns) scopes 16 id
       ≡ before root s scopes (take k ids) (take k params) (accumulate (sheet_of root ns) scopes (16 - k) current)
 
-abbrev pub chain_of : List ℕ → List ℕ → List ℕ → ℕ → Option Refusal → Links
-chain_of ids params counts k r = record { ids = ids; params = params; counts = counts; count = k; refusal = r }
+abbrev pub chain_of : List ℕ → List ℕ → List ℕ → List ℕ → ℕ → Option Refusal → Links
+chain_of ids params counts ends k r =
+    record { ids = ids; params = params; counts = counts; ends = ends; count = k; refusal = r }
 
-module _ (index : List ℕ) (id : ℕ) (ids params counts : List ℕ) where
-  pub climb-start : length ids ≡ 16 → length params ≡ 16 → length counts ≡ 16 → Climbed index id ids params counts 0 id
+module _ (index : List ℕ) (id : ℕ) (ids params counts ends : List ℕ) where
+  pub climb-start : length ids ≡ 16 → length params ≡ 16 → length counts ≡ 16 → length ends ≡ 16
+      → Climbed index id ids params counts ends 0 id
   unfolding before
-  climb-start h g f = record {
+  climb-start h g f w = record {
     few = omega arith;
     ids_size = h;
     params-size = g;
     counts_size = f;
+    ends_size = w;
     once = λ i j x y e. let z : ⊥ = omega arith in absurd z;
     each = λ s ns x j y. let z : ⊥ = omega arith in absurd z;
     path = λ s ns x. tt;
     all = λ s root ns x scopes. refl;
   }
 
-  module _ (k current : ℕ) (c : Climbed index id ids params counts k current) where
+  module _ (k current : ℕ) (c : Climbed index id ids params counts ends k current) where
     ended : (r : Option Refusal) → ((s root : Str) (ns : List Node) → Indexed s ns index → (scopes : List (ℕ × Scope))
         → before root s scopes (take k ids) (take k params) (accumulate (sheet_of root ns) scopes (16 - k) current)
         ≡ before root s scopes (take k ids) (take k params) (end_of r))
-        → (s : Str) → ChainOf s index id (chain_of ids params counts k r)
+        → (s : Str) → ChainOf s index id (chain_of ids params counts ends k r)
     ended r law s = record {
       few = c.few;
       ids_size = c.ids_size;
       params-size = c.params-size;
       counts_size = c.counts_size;
+      ends_size = c.ends_size;
       once = c.once;
       each = c.each s;
       all = λ root ns x scopes. c.all s root ns x scopes ∙ law s root ns x scopes;
@@ -255,7 +260,7 @@ module _ (index : List ℕ) (id : ℕ) (ids params counts : List ℕ) where
 
     -- the current node is refused: there are 16 already, it is among those before, or it is not there
     pub climb-end : (r : Refusal) → Err r ≡ step_of index (take k ids) current
-        → (s : Str) → ChainOf s index id (chain_of ids params counts k (Some r))
+        → (s : Str) → ChainOf s index id (chain_of ids params counts ends k (Some r))
     climb-end r e = go (ltb (length (take k ids)) 16) (among current (take k ids)) (lookup index current) refl refl refl e
       where
         full : length (take k ids) ≡ k
@@ -263,7 +268,7 @@ module _ (index : List ℕ) (id : ℕ) (ids params counts : List ℕ) where
 
         go : (few seen : Bool) (f : Option Entry) → ltb (length (take k ids)) 16 ≡ few → among current (take k ids) ≡ seen
             → f ≡ lookup index current → Err r ≡ cond few (cond seen (Err TooDeep) (or_five f)) (Err TooDeep)
-            → (s : Str) → ChainOf s index id (chain_of ids params counts k (Some r))
+            → (s : Str) → ChainOf s index id (chain_of ids params counts ends k (Some r))
         go false seen f y z w e =
             let h = ltb-false (length (take k ids)) 16 y in
             let q : r ≡ TooDeep = cc in
@@ -303,6 +308,9 @@ module _ (index : List ℕ) (id : ℕ) (ids params counts : List ℕ) where
 
       abbrev counts' : List ℕ
       counts' = set counts k n.count
+
+      abbrev ends' : List ℕ
+      ends' = set ends k n.fields
 
       -- what is known of the node
       known : (s : Str) (ns : List Node) → Indexed s ns index → (Q : Out Node → Type 0)
@@ -373,41 +381,47 @@ module _ (index : List ℕ) (id : ℕ) (ids params counts : List ℕ) where
           go (no w) = c.once i j x (omega arith) (old ∙ get_or-set_other ids k j current 0 w)
 
       each_more : (s : Str) (ns : List Node) → Indexed s ns index → (j : ℕ) → j < k + 1
-          → get_or counts' j 0 ≡ length (names_of (rows (drop (get_or params' j 0) s)))
+          → ParamsAt s (get_or params' j 0) (get_or counts' j 0) (get_or ends' j 0)
       each_more s ns x j y = go (ℕ_discrete j k)
         where
-          go : Dec (j ≡ k) → get_or counts' j 0 ≡ length (names_of (rows (drop (get_or params' j 0) s)))
+          go : Dec (j ≡ k) → ParamsAt s (get_or params' j 0) (get_or counts' j 0) (get_or ends' j 0)
           go (yes z) =
               rw (
                 z,
                 get_or-set_same counts k n.count 0 (omega (arith, c.counts_size)),
-                get_or-set_same params k n.params 0
-                    (omega (arith, c.params-size)),
+                get_or-set_same params k n.params 0 (omega (arith, c.params-size)),
+                get_or-set_same ends k n.fields 0 (omega (arith, c.ends_size)),
               )
-              (known s ns x (λ m. n.count ≡ length (names_of (rows (drop n.params s))))
-              (λ m u w. rw w.params w.count))
+              (known s ns x (λ m. ParamsAt s n.params n.count n.fields)
+              (λ m u w. record { names = rw w.params w.count; after = w.end }))
           go (no z) =
-              rw (get_or-set_other counts k j n.count 0 z, get_or-set_other params k j n.params 0 z)
+              rw (
+                get_or-set_other counts k j n.count 0 z,
+                get_or-set_other params k j n.params 0 z,
+                get_or-set_other ends k j n.fields 0 z,
+              )
               (c.each s ns x j (omega arith))
 
       pub climb-top : n.parent ≡ 0 → (r : Option Refusal) → r ≡ None
-          → (s : Str) → ChainOf s index id (chain_of ids' params' counts' (k + 1) r)
+          → (s : Str) → ChainOf s index id (chain_of ids' params' counts' ends' (k + 1) r)
       climb-top z r none s = rw none record {
         few = omega arith;
         ids_size = length-set ids k current ∙ c.ids_size;
         params-size = length-set params k n.params ∙ c.params-size;
         counts_size = length-set counts k n.count ∙ c.counts_size;
+        ends_size = length-set ends k n.fields ∙ c.ends_size;
         once = once_more;
         each = each_more s;
         all = turn (λ sheet scopes. ok []) (λ sheet scopes a. rw (eq-eqb n.parent 0 z) refl) s;
       }
 
-      pub climb-next : (n.parent ≡ 0 → ⊥) → Climbed index id ids' params' counts' (k + 1) n.parent
+      pub climb-next : (n.parent ≡ 0 → ⊥) → Climbed index id ids' params' counts' ends' (k + 1) n.parent
       climb-next z = record {
         few = omega arith;
         ids_size = length-set ids k current ∙ c.ids_size;
         params-size = length-set params k n.params ∙ c.params-size;
         counts_size = length-set counts k n.count ∙ c.counts_size;
+        ends_size = length-set ends k n.fields ∙ c.ends_size;
         once = once_more;
         each = each_more;
         path = λ s ns x. rw (ids_more, params_more) (path_snoc s ns (take k ids) (take k params) current n.params n.parent

@@ -12,6 +12,7 @@ use Rattle.tree.specs.Read as read
 pub use Rattle.nodes.specs.Index.{Indexed, lookup}
 pub use Rattle.nodes.specs.Index.{sheet_of}
 unfoldable pub use Rattle.nodes.specs.Index.{names_of}
+use Rattle.nodes.specs.Index.{rows_after}
 use Rattle.terms.specs.Kinds.{kind_numbered}
 use Rattle.terms.specs.Refusals.{number}
 use Rattle.terms.specs.declared.refusals.Refusal.{Refusal}
@@ -117,16 +118,22 @@ abbrev pub step_of : List ℕ → List ℕ → ℕ → Result Entry Refusal
 step_of index ids id =
     cond (ltb (length ids) 16) (cond (read.among id ids) (Err TooDeep) (or_five (lookup index id))) (Err TooDeep)
 
+-- so many P rows, and no more, stand from a position on, and the rows after them from another
+pub record ParamsAt (s : Str) (from count end : ℕ) : Type 0 where
+  pub names : count ≡ length (names_of (rows (drop from s)))
+  pub after : rows (drop end s) ≡ rows_after count (rows (drop from s))
+
 -- a chain of at most 16 nodes, none of them twice, has the nodes that `accumulate` visits, and its refusal, whatever the scopes
--- of the brand are; and how many parameters each node has
+-- of the brand are; and how many parameters each node has, and where their P rows begin and end
 pub record ChainOf (s index : List ℕ) (id : ℕ) (c : Links) : Type 0 where
   pub few : c.count ≤ 16
   pub ids_size : length c.ids ≡ 16
   pub params-size : length c.params ≡ 16
   pub counts_size : length c.counts ≡ 16
+  pub ends_size : length c.ends ≡ 16
   pub once : (j k : ℕ) → j < k → k < c.count → get_or c.ids j 0 ≡ get_or c.ids k 0 → ⊥
   pub each : (ns : List Node) → Indexed s ns index → (k : ℕ) → k < c.count
-      → get_or c.counts k 0 ≡ length (names_of (rows (drop (get_or c.params k 0) s)))
+      → ParamsAt s (get_or c.params k 0) (get_or c.counts k 0) (get_or c.ends k 0)
   pub all : (root : Str) (ns : List Node) → Indexed s ns index → (scopes : List (ℕ × Scope))
       → accumulate (sheet_of root ns) scopes 16 id
       ≡ before root s scopes (take c.count c.ids) (take c.count c.params) (end_of c.refusal)

@@ -90,15 +90,16 @@ pub fn past(s: &[u8], from: usize, count: u64) -> usize
     at
 }
 
-// The chain of a node's parents, innermost first: the ids of its nodes, where their P rows begin, how many these are, and the
-// refusal at its end. There is no heap, so how many nodes there are stands beside the arrays. Each array is its own, since the
-// ids go to `climb` and `scopes` as a slice, and the positions to the definition of a chain (`before`) as a list. The refusal
-// stands beside the nodes since those met before it count too.
+// The chain of a node's parents, innermost first: the ids of its nodes, where their P rows begin, how many these are, where they
+// end, and the refusal at its end. There is no heap, so how many nodes there are stands beside the arrays. Each array is its
+// own, since the ids go to `climb` and `scopes` as a slice, and the positions to the definition of a chain (`before`) as a list.
+// The refusal stands beside the nodes since those met before it count too.
 #[derive(Clone, Copy)]
 pub struct Links {
     pub ids: [u64; 16],
     pub params: [usize; 16],
     pub counts: [u64; 16],
+    pub ends: [usize; 16],
     pub count: usize,
     pub refusal: Option<Refusal>,
 }
@@ -122,6 +123,7 @@ pub fn chain(source: &Source<'_>, id: u64) -> Links
         ids: [0; 16],
         params: [0; 16],
         counts: [0; 16],
+        ends: [0; 16],
         count: 0,
         refusal: None,
     };
@@ -133,6 +135,7 @@ pub fn chain(source: &Source<'_>, id: u64) -> Links
                 links.ids[links.count] = current;
                 links.params[links.count] = node.params;
                 links.counts[links.count] = node.count;
+                links.ends[links.count] = node.fields;
                 links.count += 1;
                 if node.parent == 0 {
                     return links;

@@ -144,6 +144,7 @@ write_chain-loop-done-init t c =
       few = h.few;
       params_size = h.params-size;
       counts_size = h.counts_size;
+      ends_size = h.ends_size;
       going = chain-law.going-start;
       along = chain-law.along-start _ _ _ _ _ h c.scopes-scopes.ensures _ _ _ (λ e. grind arith);
     }
@@ -163,6 +164,7 @@ write_chain-loop-done-preserved t c =
         few = i.few;
         params_size = i.params_size;
         counts_size = i.counts_size;
+        ends_size = i.ends_size;
         going = chain-law.going-on i.going w.in-Ok.ensures.within;
         along = chain-law.along-next _ _ _ _ _ h c.scopes-scopes.ensures _ _ _ _ _ _ _ c.loop-done-test.true _ _
             c.turn-k.ensures.is _ w.in-Ok.ensures.text w.in-Ok.ensures.within i.along;
@@ -171,6 +173,7 @@ write_chain-loop-done-preserved t c =
         few = i.few;
         params_size = i.params_size;
         counts_size = i.counts_size;
+        ends_size = i.ends_size;
         going = chain-law.going-refused i.going w.in-Err.ensures.within;
         along = chain-law.along-refused _ _ _ _ _ h c.scopes-scopes.ensures _ _ _ _ c.loop-done.met _ _ c.loop-done-test.true _ _
             w.in-Err.ensures.text _ c.turn-k.ensures.is w.if-inward.false;
@@ -252,22 +255,22 @@ write_list-returns-in-AnyPointer-clause-text t c =
 
 pub write_own-returns-in_default-clause-text : goal.write_own-returns-in_default-clause-text
 write_own-returns-in_default-clause-text t c =
-    λ ns x o h count. law.own_other c.args.left (sheet_of c.args.source.now.root.now ns) _ _ _ count _ _ _ o h _
+    λ ns x o h at. law.own_other c.args.left (sheet_of c.args.source.now.root.now ns) _ _ _ at.names _ _ _ o h _
     c.next-g.ensures.line_value (λ i n e. grind arith) _ c.unbound.ensures
 
 pub write_own-returns-in_default-bindings-clause-text : goal.write_own-returns-in_default-bindings-clause-text
 write_own-returns-in_default-bindings-clause-text t c =
     let w = c.in-Ok-Scope in
     let f = rw w.is at w.field-0-is in
-    λ ns x o h count. law.own-inherit c.args.left (sheet_of c.args.source.now.root.now ns) _ _ _ count _ _ _ o h _
-    c.next-g.ensures.line_value _ _ (w.is ∙ ap Ok f) c.in_default-bindings.is _ c.inherited.ensures
+    λ ns x o h at. law.own-inherit c.args.left (sheet_of c.args.source.now.root.now ns) _ _ _ at.names _ _ _ o h _
+    c.next-g.ensures.line_value _ _ (w.is ∙ ap Ok f) c.in_default-bindings.is _ (c.inherited.ensures.text at)
 
 pub write_own-returns-then-count-own-clause-text : goal.write_own-returns-then-count-own-clause-text
 write_own-returns-then-count-own-clause-text t c =
     let w = c.in-Ok-Scope in
     let f = rw w.is at w.field-0-is in
     let g = c.next-g.ensures in
-    λ ns x o h count. law.own-8 c.args.left (sheet_of c.args.source.now.root.now ns) _ _ _ count _ _ _ o h _ g.line_value
+    λ ns x o h at. law.own-8 c.args.left (sheet_of c.args.source.now.root.now ns) _ _ _ at.names _ _ _ o h _ g.line_value
     _ _ (w.is ∙ ap Ok f) _ g.s_value _ c.in-Some.is c.if-count-own.true
 
 pub write_own-returns-clause-text : goal.write_own-returns-clause-text
@@ -275,7 +278,7 @@ write_own-returns-clause-text t c =
     let w = c.in-Ok-Scope in
     let f = rw w.is at w.field-0-is in
     let g = c.next-g.ensures in
-    λ ns x o h count. law.own-binds c.args.left (sheet_of c.args.source.now.root.now ns) _ _ _ count _ _ _ o h _ g.line_value
+    λ ns x o h at. law.own-binds c.args.left (sheet_of c.args.source.now.root.now ns) _ _ _ at.names _ _ _ o h _ g.line_value
     _ _ (w.is ∙ ap Ok f) _ g.s_value _ c.in-Some.is c.if-count-own.false _ (c.write_binds.ensures.text ns x)
 
 -- ---- write_type

@@ -53,6 +53,7 @@ invariant-write_chain-loop-done l = record {
   few : l.chain.count ≤ 16;
   params_size : length l.chain.params ≡ 16;
   counts_size : length l.chain.counts ≡ 16;
+  ends_size : length l.chain.ends ≡ 16;
   going : Going l.fn.buf l.fn.first l.buf l.p l.met;
   along : Along l.inward l.source l.left l.fn.brand l.chain l.fn.buf l.fn.first l.buf l.p l.met l.done;
 }

@@ -8,7 +8,7 @@ use Rattle.types.proofs.chain.Given as goal
 abbrev pub invariant-loop-node : goal.invariant-loop-node
 invariant-loop-node l = record {
   none : l.links.refusal ≡ None;
-  way : Climbed l.source.index.now l.id l.links.ids l.links.params l.links.counts l.links.count l.current;
+  way : Climbed l.source.index.now l.id l.links.ids l.links.params l.links.counts l.links.ends l.links.count l.current;
 }
 
 abbrev pub decreases-loop-node : goal.decreases-loop-node
