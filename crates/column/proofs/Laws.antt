@@ -5,22 +5,22 @@ use mathlib.Core.Bool.{Bool, true, false, not}
 use mathlib.Core.List.{[], ◌∷◌, ◌++◌}
 use Rattle.std.specs.Prelude.{◌&&◌, Option, None, Some}
 use Rattle.std.specs.Array.{IsFirstChunk}
-use Rattle.std.specs.Int.{IsInRange}
 use Rattle.std.specs.List.{list_all}
 use Rattle.std.specs.Option.{MatchOption, option_eq}
 use Rattle.std.specs.Str.{bytes_eq}
 use Rattle.std.proofs.lemmas.Slice.Eq.{bytes_eq-Decides}
-use Prim.Native.Nat.{ℕ, ◌+◌, ◌-◌, ◌*◌, ◌^◌, ◌≤◌, ◌<◌}
+use Prim.Native.Nat.{ℕ, zero, suc, ◌+◌, ◌-◌, ◌*◌, ◌^◌, ◌≤◌, ◌<◌}
 use native.Mathlib.Omega.{arith}
 use native.Mathlib.Nat.{pow-suc, pow-le-pow_right}
 use native.Mathlib.Numerals.{add-one}
-use lib.ListN.{length, get_or, take, drop, length-drop, take-append-drop}
+use lib.ListN.{length, get_or, take, drop, replicate, length-drop, take-append-drop}
 use lib.Seq.{drop-cons, take_all}
-use lib.Dec.{leb}
+use Rattle.std.proofs.lemmas.List.{get_or-take}
+use lib.Dec.{leb, eqb, ltb}
 use denote.Ref.{Bor}
-use borrow.Author.Tests.{ne_eqb, lt-ltb, le-ltb, leb-true}
+use borrow.Author.Tests.{eqb-true, ne_eqb, lt-ltb, ltb-false, leb-true}
 use Rattle.text.specs.Bytes.{Str, cond, both}
-use Rattle.column.specs.Number.{trimmed, digits, unpadded}
+use Rattle.column.specs.Number.{trimmed, digit, digits, unpadded, number}
 use Rattle.column.specs.Texts.{is_digit, is_word, is_graphic, all, sized, is_graphic_text}
 use Rattle.column.specs.Texts.{are_chars, may_be_name, is_name, is_field_name}
 
@@ -34,14 +34,61 @@ all_same ok (b ∷ t) = go (ok b) (all_same ok t)
     go true e = e
     go false e = refl
 
-module _ (t : Str) (i : ℕ) (h : i < length t) where
-  pub digits_more :
-      (v : ℕ) → IsInRange 48 57 (get_or t i 0) → v * 10 + (get_or t i 0 - 48) < 2 ^ 64
-      → digits v (drop i t) ≡ digits (v * 10 + (get_or t i 0 - 48)) (drop (i + 1) t)
-  unfolding digits
-  digits_more v l o =
-      let b = get_or t i 0 in
-      rw (add-one, drop-cons t i 0 h, digits, le-ltb b 48 l.0, le-ltb 57 b l.1, lt-ltb (v * 10 + (b - 48)) (2 ^ 64) o)
+-- what a digit and another byte make of an outcome
+pub taken :
+    (b n : ℕ) (r o : Option ℕ) → r ≡ digit b (Some (b - 48)) → r ≡ Some n → (digit b o ≡ o) × (b - 48 ≡ n) × (n < 10)
+taken b n r o e is = go (ltb b 48) (ltb 57 b) refl refl (sym e ∙ is)
+  where
+    go :
+        (p q : Bool) → ltb b 48 ≡ p → ltb 57 b ≡ q → cond p None (cond q None (Some (b - 48))) ≡ Some n
+        → (cond p None (cond q None o) ≡ o) × (b - 48 ≡ n) × (n < 10)
+    go false false l h e = let z : b - 48 ≡ n = cc in (refl, z, omega (arith, ltb-false 57 b h))
+    go _ _ l h e = cc
+
+pub not_taken : (b : ℕ) (r o : Option ℕ) → r ≡ digit b (Some (b - 48)) → r ≡ None → digit b o ≡ None
+not_taken b r o e is = go (ltb b 48) (ltb 57 b) (sym e ∙ is)
+  where
+    go : (p q : Bool) → cond p None (cond q None (Some (b - 48))) ≡ None → cond p None (cond q None o) ≡ None
+    go false false e = cc
+    go _ _ e = refl
+
+-- a digit after a number that leaves room for it
+one_more : (v b : ℕ) (s : Str) → v * 10 + 9 < 2 ^ 64 → digits v (b ∷ s) ≡ digit b (digits (v * 10 + (b - 48)) s)
+unfolding digits
+one_more v b s h = go (ltb b 48) (ltb 57 b) refl refl
+  where
+    w : ℕ
+    w = v * 10 + (b - 48)
+
+    go :
+        (p q : Bool) → ltb b 48 ≡ p → ltb 57 b ≡ q
+        → cond p None (cond q None (cond (ltb w (2 ^ 64)) (digits w s) None)) ≡ cond p None (cond q None (digits w s))
+    go false false l u = rw (lt-ltb w (2 ^ 64) (omega (arith, ltb-false 57 b u))) refl
+    go _ _ l u = refl
+
+-- the number that the byte at i makes
+abbrev pub DigitAt : Str → ℕ → Option ℕ → Type 0
+DigitAt t i r = r ≡ digit (get_or t i 0) (Some (get_or t i 0 - 48))
+
+-- in the front of a text the same
+pub in_front :
+    (t head : Str) (m i : ℕ) (r : Option ℕ) → head ≡ take m t → i < m → DigitAt head i r → DigitAt t i r
+in_front t head m i r e h d = rw (← get_or-take m t i 0 h, ← e) d
+
+module _ (t : Str) (i v : ℕ) (h : i < length t) (room : v * 10 + 9 < 2 ^ 64) (r : Option ℕ) (e : DigitAt t i r) where
+  here : digits v (drop i t) ≡ digit (get_or t i 0) (digits (v * 10 + (get_or t i 0 - 48)) (drop (i + 1) t))
+  here = rw (add-one, drop-cons t i 0 h) (one_more v (get_or t i 0) (drop (suc i) t) room)
+
+  pub next_digit : (n : ℕ) → r ≡ Some n → digits v (drop i t) ≡ digits (v * 10 + n) (drop (i + 1) t)
+  next_digit n is =
+      let b = taken (get_or t i 0) n r (digits (v * 10 + (get_or t i 0 - 48)) (drop (i + 1) t)) e is in
+      rw (← b.1) (here ∙ b.0)
+
+  pub no_digit : r ≡ None → digits v (drop i t) ≡ None
+  no_digit is = here ∙ not_taken (get_or t i 0) r _ e is
+
+pub below_ten : (t : Str) (i n : ℕ) (r : Option ℕ) → DigitAt t i r → r ≡ Some n → n < 10
+below_ten t i n r e is = (taken (get_or t i 0) n r None e is).2
 
 -- a number of fewer than 19 digits, and one more digit
 pub few_digits : (v i : ℕ) → v < 10 ^ i → i < 19 → v < 10 ^ 18
@@ -72,6 +119,53 @@ pub unpadded-digits : (t : Str) → (length t ≡ 0 → ⊥) → (get_or t 0 0 �
 unfolding unpadded
 unpadded-digits [] h e = absurd (h refl)
 unpadded-digits (b ∷ t) h e = rw (ne_eqb b 48 e)
+
+-- spaces in front
+trimmed-spaces : (n : ℕ) (t : Str) → trimmed (replicate n 32 ++ t) ≡ trimmed t
+unfolding trimmed
+trimmed-spaces zero t = refl
+trimmed-spaces (suc n) t = trimmed-spaces n t
+
+-- a single byte behind spaces
+lone_digit : (b : ℕ) → digit b (Some (b - 48)) ≡ number (b ∷ [])
+unfolding trimmed unpadded digits
+lone_digit b = go (eqb b 32) (eqb b 48) refl refl
+  where
+    go : (p q : Bool) → eqb b 32 ≡ p → eqb b 48 ≡ q → digit b (Some (b - 48)) ≡ unpadded (cond p [] (b ∷ []))
+    go true q e f = let z : b ≡ 32 = eqb-true b 32 e in rw z refl
+    go false true e f = let z : b ≡ 48 = eqb-true b 48 f in rw z refl
+    go false false e f =
+        let z : 0 * 10 + (b - 48) ≡ b - 48 = omega arith in
+        rw (f, one_more 0 b [] (omega arith), z) refl
+
+-- columns in three parts, of which the first is sixteen spaces and the last a single byte
+module _ (t front rest four last : Str) (a : front ≡ take 16 t) (b : rest ≡ drop 16 t) (c : four ≡ take 4 rest)
+    (d : last ≡ drop 4 rest) (n : length last ≡ 1) (e : front ≡ replicate 16 32) where
+  one : last ≡ get_or last 0 0 ∷ []
+  one = go last n
+    where
+      go : (s : Str) → length s ≡ 1 → s ≡ get_or s 0 0 ∷ []
+      go [] h = cc
+      go (x ∷ []) h = refl
+      go (x ∷ y ∷ s) h = let z : ⊥ = omega arith in absurd z
+
+  inner : rest ≡ four ++ (get_or last 0 0 ∷ [])
+  inner =
+      sym (take-append-drop 4 rest) ∙ ap (λ (s : Str). s ++ drop 4 rest) (sym c) ∙ ap (λ (s : Str). four ++ s) (sym d ∙ one)
+
+  whole : t ≡ replicate 16 32 ++ (four ++ (get_or last 0 0 ∷ []))
+  whole =
+      sym (take-append-drop 16 t) ∙ ap (λ (s : Str). s ++ drop 16 t) (sym a ∙ e)
+      ∙ ap (λ (s : Str). replicate 16 32 ++ s) (sym b ∙ inner)
+
+  pub digit_behind :
+      four ≡ 32 ∷ 32 ∷ 32 ∷ 32 ∷ [] → number t ≡ digit (get_or last 0 0) (Some (get_or last 0 0 - 48))
+  digit_behind f = rw (whole, f) (ap unpadded (trimmed-spaces 20 (get_or last 0 0 ∷ [])) ∙ sym (lone_digit (get_or last 0 0)))
+
+  -- 65535
+  pub no_discriminant : four ≡ 54 ∷ 53 ∷ 53 ∷ 51 ∷ [] → get_or last 0 0 ≡ 53 → number t ≡ Some 65535
+  unfolding trimmed unpadded digits
+  no_discriminant f g = rw (whole, f, g) refl
 
 -- what may be a name has 1 to 64 bytes
 pub may_length : (t : Str) → may_be_name t ≡ true → (1 ≤ length t) × (length t ≤ 64)

@@ -1,10 +1,10 @@
 // The columns of a sheet's line: a number, right-justified in 21 columns, and a text after one space.
 #![tactic(auto)]
 
-ghost use Rattle.std.specs.Prelude.{◌≡◌, ◌+◌, get_or, ℕ, Bool, true, false, Some};
+ghost use Rattle.std.specs.Prelude.{◌≡◌, [], ◌∷◌, ◌++◌, ◌+◌, ◌-◌, ltb, length, take, drop, get_or, replicate, ℕ, Bool, true, false, None, Some};
 ghost use Rattle.std.specs.List.{list_all};
-ghost use Rattle.text.specs.Bytes.{Str, both};
-ghost use Rattle.column.specs.Number.{trimmed, digits, unpadded, column_of, most};
+ghost use Rattle.text.specs.Bytes.{Str, cond, both};
+ghost use Rattle.column.specs.Number.{trimmed, digit, digits, unpadded, number, column_of, most};
 ghost use Rattle.column.specs.Texts.{is_word, is_graphic, is_graphic_text, ends_in};
 ghost use Rattle.column.specs.Texts.{is_lead, is_accented, are_chars, may_be_name, is_name, is_field_name};
 
@@ -20,6 +20,9 @@ const LAST_ACCENTED: u8 = 0xbf;
 const MULTIPLICATION_SIGN: u8 = 0x97;
 
 const DIVISION_SIGN: u8 = 0xb7;
+
+// Sixteen spaces.
+const SPACES: [u8; 16] = *b"                ";
 
 // As many digits as fit 64 bits whatever they are.
 const DIGITS_THAT_FIT: usize = 19;
@@ -48,6 +51,17 @@ fn past_fours(t: &[u8]) -> &[u8]
     rest
 }
 
+// The number that a digit makes: of another byte the difference is greater, or goes below 0 and around.
+fn digit(b: u8) -> Option<u64>
+    ensures { result ≡ digit b (Some (b - 48)) }
+{
+    let n = u64::from(b).wrapping_sub(48);
+    if 9 < n {
+        return None;
+    }
+    Some(n)
+}
+
 // The number of which the digits before these make `head`, where it fits 64 bits.
 #[tactic(auto, unfolding(crate::specs::Number::digits))]
 fn more_digits(t: &[u8], head: u64) -> Option<u64>
@@ -55,31 +69,23 @@ fn more_digits(t: &[u8], head: u64) -> Option<u64>
 {
     let mut v = head;
     for &b in t {
-        if !b.is_ascii_digit() {
-            return None;
-        }
-        v = v.checked_mul(10)?.checked_add(u64::from(b) - 48)?;
+        let n = digit(b)?;
+        v = v.checked_mul(10)?.checked_add(n)?;
     }
     Some(v)
 }
 
 // The number that digits make, where it fits 64 bits: the first 19 do, and those after them are tested. With each of them tested,
 // admission of a sheet of words takes 1.4 times as many instructions, and of one of groups 1.15 times.
-#[tactic(auto, unfolding(crate::specs::Number::digits))]
 fn digits(t: &[u8]) -> Option<u64>
     ensures { result ≡ digits 0 t.now }
 {
+    let (head, tail) = t.split_at(DIGITS_THAT_FIT.min(t.len()));
     let mut v: u64 = 0;
-    for (i, &b) in t.iter().enumerate() {
-        if i == DIGITS_THAT_FIT {
-            return more_digits(&t[i..], v);
-        }
-        if !b.is_ascii_digit() {
-            return None;
-        }
-        v = v * 10 + (u64::from(b) - 48);
+    for &b in head {
+        v = v * 10 + digit(b)?;
     }
-    Some(v)
+    more_digits(tail, v)
 }
 
 // A number without spaces: 0 alone, or digits of which the first is not 0.
@@ -95,15 +101,53 @@ fn unpadded(t: &[u8]) -> Option<u64>
     }
 }
 
-// The number in the 21 columns from `a` on, where they are there whole and it lies from `least` to `most`.
-#[tactic(auto, unfolding(crate::specs::Number::column_of))]
-pub fn column(t: &[u8], a: usize, least: u64, most: u64) -> Option<u64>
-    ensures { result ≡ column_of t.now a least most }
+// The number behind spaces, where it is one of those that most columns have: a single digit, or 65535, which says of a field that
+// it has no discriminant.
+fn common(t: &[u8]) -> Option<u64>
+    ensures { (n : ℕ) → result ≡ Some n → number t.now ≡ Some n }
+{
+    let (front, rest) = t.split_first_chunk::<16>()?;
+    let (four, last) = rest.split_first_chunk::<4>()?;
+    let &[b] = last else {
+        return None;
+    };
+    if *front == SPACES && four == b"    " {
+        return digit(b);
+    }
+    if *front == SPACES && four == b"6553" && b == b'5' {
+        return Some(65535);
+    }
+    None
+}
+
+// A number behind spaces.
+fn number(t: &[u8]) -> Option<u64>
+    ensures { result ≡ number t.now }
+{
+    match common(t) {
+        Some(n) => Some(n),
+        None => unpadded(trimmed(t)),
+    }
+}
+
+// The number in the 21 columns from `a` on, where they are there whole.
+fn number_at(t: &[u8], a: usize) -> Option<u64>
+    ensures { result ≡ cond (ltb (length t.now) (a + 21)) None (number (take 21 (drop a t.now))) }
 {
     if t.len() < 21 || t.len() - 21 < a {
         return None;
     }
-    let v = unpadded(trimmed(&t[a..a + 21]))?;
+    number(&t[a..a + 21])
+}
+
+// The number in the 21 columns from `a` on, where they are there whole and it lies from `least` to `most`. Written out at each
+// call, so that bounds that are known need no test.
+#[inline(always)]
+#[tactic(auto, unfolding(crate::specs::Number::column_of))]
+pub fn column(t: &[u8], a: usize, least: u64, most: u64) -> Option<u64>
+    ensures { result ≡ column_of t.now a least most }
+{
+    let v = number_at(t, a)?;
     if v < least || most < v {
         return None;
     }

@@ -173,6 +173,10 @@ first-none (b ∷ t) at e = go (first-none t (suc at)) (eqb b 10) refl e
     go f true k e = let z : ◌≡◌ {A = ℕ} 0 1 = cc in absurd (omega arith)
     go f false k e = ap suc (f e)
 
+pub newline-here : (s : Str) (from : ℕ) → from < length s → get_or s from 0 ≡ 10 → Some from ≡ newline_from s from
+unfolding newline_from first_newline
+newline-here s from h e = rw (drop-cons s from 0 h, first_newline, eq-eqb (get_or s from 0) 10 e) refl
+
 pub ends_found : (s : Str) (from i : ℕ) → Some i ≡ newline_from s from → i + 1 ≡ from + row_len (drop from s)
 unfolding newline_from
 ends_found s from i e = sym (first_ends (drop from s) from i (sym e))

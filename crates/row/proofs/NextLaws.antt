@@ -7,15 +7,19 @@ use Prim.Native.Nat.{ℕ, zero, suc, ◌+◌, ◌-◌, ◌<◌, ◌≤◌}
 use native.Mathlib.Decide.{dec_lt}
 use native.Mathlib.Omega.{arith}
 use lib.Dec.{eqb}
-use lib.ListN.{length, get_or, take, drop, take-append-drop, length-drop}
+use lib.ListN.{length, get_or, take, drop, take-append-drop, length-drop, drop_of_length-le}
+use Rattle.std.specs.Prelude.{Option, None, Some}
 use lib.Seq.{drop-drop, get_or-drop, take-append-add, length-take-le}
-use borrow.Author.Tests.{eqb-true, eq-eqb}
+use borrow.Author.Tests.{eqb-true, eq-eqb, ne_eqb}
 use Rattle.text.specs.Bytes.{Str}
 use Rattle.row.specs.Rows.{row_len, rows, rest_of}
 use Rattle.row.specs.Line.{Content, good_said, reader, line_of, line_at, text_of}
 use Rattle.row.specs.declared.Line.{Line}
 use Rattle.row.specs.declared.Line.TheVariants as line
 use Rattle.row.proofs.Laws.{row_len-some, row-bounds, rows_at, line_row}
+use Rattle.row.specs.Newline.{newline_from}
+use Rattle.row.specs.Stop.{ReadTo}
+use Rattle.row.proofs.NewlineLaws.{found_first, ends_found, ends_none}
 use Rattle.row.proofs.PrintLaws.{rows-printed}
 use Rattle.row.proofs.ReadLaws.{Good, printed-line}
 
@@ -163,3 +167,44 @@ module _
         go (no l) =
             let some = row_len-some (drop at s) (rw (length-drop at s) (omega arith)) in
             short_row (row_len (drop at s) - 1) (omega arith) (omega arith)
+
+-- ---- how far a line is read
+
+module _ (s : Str) (at z : ℕ) (lo : at ≤ z) (hi : z < length s) (ten : get_or s z 0 ≡ 10) where
+  -- the line in front of a byte 10 is that of the part with it
+  front_line : line_of (take (z + 1 - at) (drop at s)) ≡ reader (get_or s at 0) (take (z - at) (drop at s))
+  front_line =
+      let back : z + 1 - 1 ≡ z = omega arith in
+      rw (back, eq-eqb _ _ ten) at (line_row s at (z + 1) (omega arith) (omega arith))
+
+  upto : line_of (take (z + 1 - at) (drop at s)) ≡ line_at (rows (drop at s)) → ReadTo s at (Some z)
+  upto says = (lo, hi, ten, sym front_line ∙ says)
+
+  -- where it is a good one, the row ends there
+  pub good-to :
+      (l : Content) → l ≡ reader (get_or s at 0) (take (z - at) (drop at s)) → Good l
+      → rows (drop (z + 1) s) ≡ rest_of (rows (drop at s))
+  good-to l is good = (good-row s at (z + 1) (omega arith) l (is ∙ sym front_line) good).1
+
+pub read-past :
+    (s : Str) (at k z : ℕ) → at + k < length s → Some z ≡ newline_from s (at + k)
+    → ((u w : Str) → 0 < length u → length u < k → reader (get_or s at 0) u ≡ reader (get_or s at 0) (u ++ 10 ∷ w))
+    → ReadTo s at (Some z)
+read-past s at k z h e short =
+    let first = found_first s (at + k) (Some z) e in
+    let back : z + 1 - 1 ≡ z = omega arith in
+    upto s at z (omega (arith, first.0)) first.1 first.2
+    (read-so s at (z + 1) k h (ends_found s (at + k) z e) (rw back first.2) short)
+
+pub read_first : (s : Str) (at : ℕ) → at < length s → (o : Option ℕ) → o ≡ newline_from s at → ReadTo s at o
+unfolding line_at rest_of rows
+read_first s at h (Some z) e =
+    let first = found_first s at (Some z) e in
+    upto s at z first.0 first.1 first.2 (rw (rows_at s at (z + 1) h (ends_found s at z e)) refl)
+read_first s at h None e =
+    let all = ends_none s at h e in
+    let other = found_first s at None e in
+    let last : get_or s (length s - 1) 0 ≡ 10 → ⊥ = other (length s - 1) (omega arith) (omega arith) in
+    let row = rw (ne_eqb _ _ last) at (line_row s at (length s) h (omega arith)) in
+    let none : drop (length s) s ≡ [] = drop_of_length-le s {i = length s} (omega arith) in
+    (rw (rows_at s at (length s) h all) (sym row), rw (rows_at s at (length s) h all, none) refl)

@@ -4,6 +4,7 @@ pub mod Eights
 pub mod Fours
 pub mod Line
 pub mod Span
+pub mod Stop
 pub mod Part
 pub mod Print
 pub mod Examples

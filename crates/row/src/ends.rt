@@ -118,12 +118,13 @@ pub fn row_end(s: &[u8], from: usize) -> usize
     }
 }
 
-// The same where a line may end at `from`: that byte is tested first. Where a line's letter fixes its end, nothing is searched.
-pub fn line_end(s: &[u8], from: usize) -> usize
-    ensures { result ≡ from + row_len (drop from s.now) }
+// The same search where a line may end at `from`: that byte is tested first. Where a line's letter fixes its end, nothing is sought.
+pub fn newline_at(s: &[u8], from: usize) -> Option<usize>
+    ensures is { result ≡ newline_from s.now from }
+    ensures first { FirstAtOrAfter s.now from result }
 {
     if from < s.len() && s[from] == b'\n' {
-        return from + 1;
+        return Some(from);
     }
-    row_end(s, from)
+    find_newline(s, from)
 }

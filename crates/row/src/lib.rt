@@ -10,11 +10,12 @@ ghost use Rattle.std.specs.Prelude.{◌≡◌, [], ◌∷◌, ◌++◌, ◌+◌,
 ghost use Rattle.std.specs.Prelude.{eqb, None, Some};
 ghost use Rattle.row.specs.Rows.{row_len, rows, joined, rest_of, line_no, unbound_rows};
 ghost use Rattle.row.specs.Fours.{fours};
-ghost use Rattle.row.specs.Line.{line_said, reader, line_of, line_at, text_start, text_at};
+ghost use Rattle.row.specs.Line.{line_said, reader, line_at, text_start, text_at};
+ghost use Rattle.row.specs.Stop.{ReadTo};
 ghost use Rattle.text.specs.Bytes.{Str, cond};
 ghost use Rattle.row.specs.Span.{SpanWithin, spanned, span_to, span_between, text_between};
 
-use ends::line_end;
+use ends::newline_at;
 pub use ends::{find_newline, row_end, singly};
 use lines::{NO_LINE, read};
 pub use parts::part;
@@ -128,35 +129,19 @@ fn least_length(letter: u8) -> usize
     }
 }
 
-// Where to read the line at a position to, so that it says what its row says: a good line ends where it must by its letter, and a
-// row that ends before that has the same fault further on. No row ends later.
-fn read_end(s: &[u8], at: usize) -> usize
+// Where the byte 10 stands up to which the line at a position says what its row says, if one follows: a good line ends where it
+// must by its letter, and a row that ends before that has the same fault further on. No row ends later.
+fn read_to(s: &[u8], at: usize) -> Option<usize>
     requires { at < length s.now }
-    ensures within { (at < result) × (result ≤ length s.now) }
-    ensures says { line_of (take (result - at) (drop at s.now)) ≡ line_at (rows (drop at s.now)) }
+    ensures { ReadTo s.now at result }
 {
     let k = least_length(s[at]);
-    if s.len() - at <= k {
-        return row_end(s, at);
+    if k < s.len() - at {
+        if let Some(z) = newline_at(s, at + k) {
+            return Some(z);
+        }
     }
-    let e = line_end(s, at + k);
-    if s[e - 1] != b'\n' {
-        return row_end(s, at);
-    }
-    e
-}
-
-// What the part from `at` to `e` says, taken as a row.
-#[tactic(auto, using(crate::proofs::Laws::line_row), unfolding(crate::specs::Line::line_said))]
-fn line_to(s: &[u8], at: usize, e: usize) -> Result<Line, BadLine>
-    requires { (at < e) × (e ≤ length s.now) }
-    ensures { line_said result ≡ line_of (take (e - at) (drop at s.now)) }
-{
-    let z = e - 1;
-    if s[z] != b'\n' {
-        return Err(NO_LINE);
-    }
-    read(&s[at..z], s[at])
+    find_newline(s, at)
 }
 
 // The row at a position; past the end stands no line, and no row follows.
@@ -170,10 +155,15 @@ pub fn next(s: &[u8], at: usize) -> Got
             next: at,
         };
     }
-    let e = read_end(s, at);
-    let line = line_to(s, at, e);
+    let Some(z) = read_to(s, at) else {
+        return Got {
+            line: Err(NO_LINE),
+            next: s.len(),
+        };
+    };
+    let line = read(&s[at..z], s[at]);
     match line {
-        Ok(_) => Got { line, next: e },
+        Ok(_) => Got { line, next: z + 1 },
         Err(_) => Got {
             line,
             next: row_end(s, at),
