@@ -1,6 +1,6 @@
 -- The texts of a line, each after one space: a name of ASCII, a field's name, which may have letters with accents (N2), or
 -- graphic bytes. Assumes nothing.
-use Rattle.std.specs.Prelude.{Bool, true, false, not, [], ◌∷◌, ℕ, ◌+◌, eqb, leb, length, get_or, drop}
+use Rattle.std.specs.Prelude.{◌≡◌, Bool, true, false, not, [], ◌∷◌, ℕ, ◌+◌, ◌-◌, eqb, leb, length, get_or, take, drop}
 use Rattle.text.specs.Bytes.{Str, cond, both, either}
 
 -- whether b lies between two bytes or is one of them
@@ -35,6 +35,12 @@ may_be_name t = cond (sized 64 t) (not (is_digit (get_or t 0 0))) false
 -- a name: ASCII letters, digits or underscores
 unfoldable pub is_name : Str → Bool
 is_name t = cond (may_be_name t) (all is_word t) false
+
+-- at a stands one space, after it up to e a name, and at e byte 10
+pub record NameTo (t : Str) (a e : ℕ) : Type 0 where
+  pub space : get_or t a 0 ≡ 32
+  pub name : is_name (take (e - (a + 1)) (drop (a + 1) t)) ≡ true
+  pub ends : get_or t e 0 ≡ 10
 
 -- the first byte, in UTF-8, of a letter from U+00C0 to U+00FF
 abbrev pub is_lead : ℕ → Bool

@@ -220,7 +220,7 @@ line_no_counted s at k n e is =
     same (yes l) = let m : k ≡ at = omega arith in rw m
     same (no l) = take_all k s (omega arith) ∙ sym (take_all at s (omega arith))
 
-drop-take : (m n : ℕ) (l : Str) → drop m (take n l) ≡ take (n - m) (drop m l)
+pub drop-take : (m n : ℕ) (l : Str) → drop m (take n l) ≡ take (n - m) (drop m l)
 drop-take zero n l = rw (sub-zero n)
 drop-take (suc m) zero l = let z : 0 - suc m ≡ 0 = omega arith in rw z
 drop-take (suc m) (suc n) [] = sym (take-nil (suc n - suc m))

@@ -10,7 +10,7 @@ use native.Mathlib.Omega.{arith}
 use native.Mathlib.Nat.{add-zero, add-sub_cancel_left}
 use lib.Dec.{eqb}
 use lib.ListN.{length, get_or, take, drop, length-append, length-drop, take-append-drop}
-use lib.Seq.{drop-cons, drop-drop, get_or-drop, length-take-le}
+use lib.Seq.{drop-cons, drop-drop, get_or-drop, length-take-le, take-take}
 use borrow.Author.Tests.{eqb-false, ne_eqb, le-ltb}
 use Rattle.terms.specs.Kinds.{number_of, kind_numbered}
 use Rattle.terms.specs.declared.kinds.Kind.{Kind}
@@ -24,7 +24,7 @@ use Rattle.row.specs.Line.{line_of, line_at, most_count}
 use Rattle.row.specs.Line.{Content, Root, Node, Parameter, Field, Group, Typ, Scope, Unbound, Value, Word, Bad}
 use Rattle.row.specs.Print.{columns, row_text}
 use Rattle.row.specs.Part.{owed, is_part, PartAt}
-use Rattle.row.proofs.Laws.{row_len_le, rows_at, rows_out}
+use Rattle.row.proofs.Laws.{row_len_le, rows_at, rows_out, drop-take}
 use Rattle.row.proofs.PrintLaws.{Narrow, narrow_at, columns_append, drop-columns, columns-length}
 use Rattle.row.proofs.PrintLaws.{most_a-fits, most_b-fits, most_c-fits, most_count-fits}
 use Rattle.row.proofs.ReadLaws.{printed-line}
@@ -154,6 +154,27 @@ by_part (Group i d) e f g u = false-true e
 by_part (Value k b) e f g u = false-true e
 by_part (Word v) e f g u = false-true e
 by_part (Bad x k) e f g u = false-true e
+
+-- a number in the columns of a part of the sheet stands in the sheet
+module _ (s : Str) (at k m : ℕ) (small : k + 21 ≤ m) (inside : at + m ≤ length s) where
+  part : Str
+  part = take (at + m - at) (drop at s)
+
+  column-part : column_of part k 0 (most 64) ≡ column_of s (at + k) 0 (most 64)
+  unfolding column_of part
+  column-part =
+      let long : at + m - at ≡ m = omega arith in
+      let size : length (take m (drop at s)) ≡ m = length-take-le m (drop at s) (rw (length-drop at s) (omega arith)) in
+      let few : 21 ≤ m - k = omega arith in
+      let same : take 21 (drop k (take m (drop at s))) ≡ take 21 (drop (at + k) s) =
+      ap (take 21) (drop-take k m (drop at s)) ∙ take-take 21 (m - k) (drop k (drop at s)) few ∙ ap (take 21) (drop-drop k at s) in
+      rw (long, size, le-ltb m (k + 21) small, le-ltb (length s) (at + k + 21) (omega arith), same) refl
+
+  pub part-known :
+      (n : ℕ) → ((v : ℕ) → column_of (take (at + m - at) (drop at s)) k 0 (most 64) ≡ Some v → n ≡ v) → (v : ℕ)
+      → column_of s (at + k) 0 (most 64) ≡ Some v → n ≡ v
+  unfolding part
+  part-known n known v e = known v (column-part ∙ e)
 
 -- past the end there is none
 pub part_none : (s : Str) (at : ℕ) → length s ≤ at → PartAt s at (record { owed = 0; next = at })

@@ -6,5 +6,6 @@ pub mod Line
 pub mod Span
 pub mod Stop
 pub mod Part
+pub mod Past
 pub mod Print
 pub mod Examples

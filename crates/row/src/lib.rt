@@ -11,6 +11,7 @@ ghost use Rattle.std.specs.Prelude.{eqb, None, Some};
 ghost use Rattle.row.specs.Rows.{row_len, rows, joined, rest_of, line_no, unbound_rows};
 ghost use Rattle.row.specs.Fours.{fours};
 ghost use Rattle.row.specs.Line.{line_said, reader, line_at, text_start, text_at};
+ghost use Rattle.row.specs.Past.{PastParameter};
 ghost use Rattle.row.specs.Stop.{ReadTo};
 ghost use Rattle.text.specs.Bytes.{Str, cond};
 ghost use Rattle.row.specs.Span.{SpanWithin, spanned, span_to, span_between, text_between};
@@ -275,6 +276,18 @@ pub fn unbound_run(s: &[u8], at: usize, most: u64) -> u64
     }
     let few = most.min(((s.len() - at) / 2) as u64) as usize;
     unbound_front(&s[at..at + 2 * few]) as u64
+}
+
+// Where the row after the P row at a position begins; none where no good one stands there. Its name is read up to its end, which
+// is not sought first.
+pub fn past_parameter(s: &[u8], at: usize) -> Option<usize>
+    ensures { PastParameter s.now at result }
+{
+    if s.len() <= at || s[at] != b'P' {
+        return None;
+    }
+    let end = column::name_end(s, at + 1)?;
+    Some(end + 1)
 }
 
 // The number, from 1, of the row that starts at a position.

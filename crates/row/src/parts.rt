@@ -7,14 +7,15 @@ ghost use Rattle.row.specs.Part.{owed, PartAt};
 use crate::Owing;
 use terms::Kind;
 
-// How many types or scopes belong to a T row.
+// How many types or scopes belong to a T row. As a part of the sheet of a known length, the row has its columns without a test.
 fn type_owed(s: &[u8], at: usize) -> u64
     requires { at + 86 ≤ length s.now }
     ensures { (k a b c : ℕ) → line_at (rows (drop at s.now)) ≡ Typ k a b c → result ≡ owed (Typ k a b c) }
 {
-    match Kind::from(column::known(s, at + 1)) {
+    let row = &s[at..at + 86];
+    match Kind::from(column::known(row, 1)) {
         Kind::List => 1,
-        Kind::Enum | Kind::Struct | Kind::Interface => column::known(s, at + 43),
+        Kind::Enum | Kind::Struct | Kind::Interface => column::known(row, 43),
         _ => 0,
     }
 }
@@ -46,7 +47,7 @@ pub fn part(s: &[u8], at: usize) -> Owing
                 return Owing { owed: 0, next: end };
             }
             Owing {
-                owed: column::known(s, at + 43),
+                owed: column::known(&s[at..at + 65], 43),
                 next: at + 65,
             }
         }

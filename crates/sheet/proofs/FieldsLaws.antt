@@ -129,20 +129,21 @@ unfolding line_at rest_of
 shorter [] h = absurd h
 shorter (r ∷ rs) h = omega arith
 
--- what the code says of the first row, and the rows after it
-module _ (rs rest : Rows) (l : Result Line BadLine) (here : line_said l ≡ line_at rs) (after : rest ≡ rest_of rs) where
-  pub params_less : l ≡ Ok line.Parameter → length rest < length rs
-  unfolding line_said
-  params_less i = rw after (shorter rs (rw (← here, i) tt))
+-- a P row, and the rows after it
+module _ (rs rest : Rows) (is : line_at rs ≡ Parameter) (after : rest ≡ rest_of rs) where
+  pub params_less : length rest < length rs
+  params_less = rw after (shorter rs (rw is tt))
 
-  pub params-on : l ≡ Ok line.Parameter → passed (read_params rs) ≡ passed (read_params rest)
-  unfolding line_said read_params line_at rest_of
-  params-on i = rw after (go rs (sym here ∙ ap line_said i))
+  pub params-on : passed (read_params rs) ≡ passed (read_params rest)
+  unfolding read_params line_at rest_of
+  params-on = rw after (go rs is)
     where
       go : (rs : Rows) → line_at rs ≡ Parameter → passed (read_params rs) ≡ passed (read_params (rest_of rs))
       go [] e = never cc
       go (r ∷ rs) e = rw e (passed-map _ (read_params rs))
 
+-- what the code says of the first row, and the rows after it
+module _ (rs rest : Rows) (l : Result Line BadLine) (here : line_said l ≡ line_at rs) (after : rest ≡ rest_of rs) where
   pub params-stop :
       OtherThan 2 l → read_params rs ≡ told (fault_of 80 (line_said l)) (got []) rs
   unfolding read_params line_at

@@ -12,8 +12,9 @@ use lib.Dec.{eqb, ltb}
 use lib.ListN.{length, drop, get_or, set, length-drop, length-set}
 use lib.Seq.{drop-drop, get_or-set_same, get_or-set_other}
 use Rattle.text.specs.Bytes.{Str, cond, both}
-use Rattle.row.specs.Rows.{rows, rest_of, size}
+use Rattle.row.specs.Rows.{rows, size}
 use Rattle.row.specs.Line.{Parameter, line_said, line_at, text_at, fault_of}
+use Rattle.row.specs.Past.{ParameterAt}
 use Rattle.row.specs.declared.BadLine.{BadLine}
 use Rattle.row.specs.declared.Line.{Line}
 use Rattle.tree.specs.Reader.{Rows, got, told}
@@ -77,11 +78,21 @@ pub record Passing (s : Str) (rs : Rows) (marks : ℕ) (x y : List ℕ) (at coun
   pub marked : (j : ℕ) → mark_every * suc j < count → marks + j < length y
       → names_of (rows (drop (get_or y (marks + j) 0) s)) ≡ drop (mark_every * suc j) (names_of rs)
 
--- what the code says of the row at a position, and the rows after it
-module _ (s : Str) (rs : Rows) (marks : ℕ) (x y : List ℕ) (at count place : ℕ) (p : Passing s rs marks x y at count place)
-    (l : Result Line BadLine) (here : line_said l ≡ line_at (rows (drop at s))) where
+-- a line that says no P row is none
+no-parameter : (l : Result Line BadLine) → (line_said l ≡ Parameter → ⊥) → OtherThan 2 l
+unfolding line_said
+no-parameter (Ok line.Parameter) h = absurd (h refl)
+no-parameter (Ok _) h = λ e. omega arith
+no-parameter (Err b) h = tt
+
+-- the row at the position, and the rows after it
+module _ (s : Str) (rs : Rows) (marks : ℕ) (x y : List ℕ) (at count place : ℕ) (p : Passing s rs marks x y at count place) where
   -- the row is no P row, and the walk is refused at its fault, or ends there
-  module _ (o : OtherThan 2 l) where
+  module _ (l : Result Line BadLine) (here : line_said l ≡ line_at (rows (drop at s)))
+      (no : line_at (rows (drop at s)) ≡ Parameter → ⊥) where
+    o : OtherThan 2 l
+    o = no-parameter l (λ e. no (sym here ∙ e))
+
     stopped : told (fault_of 80 (line_said l)) (got []) (rows (drop at s)) ≡ read_params (rows (drop at s))
     stopped = sym (params-stop _ _ l here refl o)
 
@@ -112,23 +123,19 @@ module _ (s : Str) (rs : Rows) (marks : ℕ) (x y : List ℕ) (at count place : 
         }
 
   -- the row is a P row
-  module _ (is : l ≡ Ok line.Parameter) (e : ℕ) (after : rows (drop e s) ≡ rest_of (rows (drop at s))) where
-    said : line_at (rows (drop at s)) ≡ Parameter
-    unfolding line_said
-    said = sym here ∙ ap line_said is
-
+  module _ (e : ℕ) (row : ParameterAt s at e) where
     fits : 4 + size (rows (drop e s)) ≤ size (rows (drop at s))
-    fits = rw after (parameter-room (rows (drop at s)) said)
+    fits = rw row.rest (parameter-room (rows (drop at s)) row.says)
 
     more : names_of (rows (drop at s)) ≡ text_at (rows (drop at s)) ∷ names_of (rows (drop e s))
-    more = rw after (names_more (rows (drop at s)) said)
+    more = rw row.rest (names_more (rows (drop at s)) row.says)
 
     pub passing-on :
         (y' : List ℕ) (place' : ℕ) → y' ≡ with_mark y place count at → place' ≡ next_mark place count
         → Passing s rs marks x y' e (count + 1) place'
     unfolding with_mark next_mark
     passing-on y' place' f g = record {
-      walk = p.walk ∙ params-on _ _ l here after is;
+      walk = p.walk ∙ params-on _ _ row.says row.rest;
       names = ap (drop 1) (sym more ∙ p.names) ∙ drop-drop 1 count (names_of rs);
       within = omega (arith, length-drop count (names_of rs), ap length p.names, ap length more, p.within);
       left = omega (arith, p.left, fits);

@@ -125,22 +125,19 @@ fn params(s: &[u8], index: &mut [u64], from: usize, marks: usize) -> Result<Para
     let mut at = from;
     let mut count: u64 = 0;
     let mut place = marks;
-    // Only another row ends them. A `for count in 0..` has an end of its own, after which `unreachable!()` would have to stand,
-    // and takes two instructions more for each P row: 1.6 % on a sheet of the shortest ones.
-    loop {
-        let row = row::next(s, at);
-        let Ok(Line::Parameter) = row.line else {
-            let next = tree::end_at(row.line, b'P', at)?;
-            return Ok(ParamsRun {
-                next,
-                count,
-                marks: place,
-            });
-        };
+    // A row says itself where the next one begins, so no range counts them.
+    while let Some(next) = row::past_parameter(s, at) {
         place = mark(index, place, count, at);
-        at = row.next;
+        at = next;
         count += 1;
     }
+    let row = row::next(s, at);
+    let next = tree::end_at(row.line, b'P', at)?;
+    Ok(ParamsRun {
+        next,
+        count,
+        marks: place,
+    })
 }
 
 // Where the row after one field stands, or none where no F or G row stands: after an F row with what belongs to it, or after a

@@ -115,7 +115,9 @@ fn climb(source: &Source<'_>, ids: &[u64], id: u64) -> Result<Entry, Refusal>
     source.find(id).ok_or(Refusal::NoNode)
 }
 
-// The chain of parents from a node on. It takes the source, since `find` is a method of it.
+// The chain of parents from a node on. It takes the source, since `find` is a method of it. It stays a call, so that its own copy
+// of the links is off the stack where the brands of a brand are written.
+#[inline(never)]
 pub fn chain(source: &Source<'_>, id: u64) -> Links
     ensures { (s : Str) → ChainOf s source.now.index.now id result }
 {
