@@ -121,10 +121,10 @@ unpadded-digits [] h e = absurd (h refl)
 unpadded-digits (b ∷ t) h e = rw (ne_eqb b 48 e)
 
 -- spaces in front
-trimmed-spaces : (n : ℕ) (t : Str) → trimmed (replicate n 32 ++ t) ≡ trimmed t
+past_spaces : (n : ℕ) (t : Str) → trimmed (replicate n 32 ++ t) ≡ trimmed t
 unfolding trimmed
-trimmed-spaces zero t = refl
-trimmed-spaces (suc n) t = trimmed-spaces n t
+past_spaces zero t = refl
+past_spaces (suc n) t = past_spaces n t
 
 -- a single byte behind spaces
 lone_digit : (b : ℕ) → digit b (Some (b - 48)) ≡ number (b ∷ [])
@@ -160,7 +160,7 @@ module _ (t front rest four last : Str) (a : front ≡ take 16 t) (b : rest ≡ 
 
   pub digit_behind :
       four ≡ 32 ∷ 32 ∷ 32 ∷ 32 ∷ [] → number t ≡ digit (get_or last 0 0) (Some (get_or last 0 0 - 48))
-  digit_behind f = rw (whole, f) (ap unpadded (trimmed-spaces 20 (get_or last 0 0 ∷ [])) ∙ sym (lone_digit (get_or last 0 0)))
+  digit_behind f = rw (whole, f) (ap unpadded (past_spaces 20 (get_or last 0 0 ∷ [])) ∙ sym (lone_digit (get_or last 0 0)))
 
   -- 65535
   pub no_discriminant : four ≡ 54 ∷ 53 ∷ 53 ∷ 51 ∷ [] → get_or last 0 0 ≡ 53 → number t ≡ Some 65535

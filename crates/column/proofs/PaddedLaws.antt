@@ -247,7 +247,7 @@ ends_stands ok t a e = go (eqb (get_or t a 0) 32) refl e
             absurd (omega arith)
     go false s e = cc
 
--- ---- a number by its last two bytes, where a space stands before them
+-- ---- a number by its last byte, or its last two, where a space stands before them
 
 -- the last digit of a number, and those before it
 last-digit : (n : ℕ) (P : Str → Type 0) → ((front : Str) → P (front ++ unit (48 + n % 10))) → P (decimal n)
@@ -317,3 +317,52 @@ known_two t a n x y h e f is =
     let at : (i : ℕ) → get_or t (a + i) 0 ≡ get_or (padded n ++ drop (a + 21) t) i 0 =
     λ i. sym (get_or-drop a t i 0) ∙ ap (λ (u : Str). get_or u i 0) s.here in
     rw (e, f, at 19, at 20) (last-two n (drop (a + 21) t) (omega arith) (sym (at 18) ∙ h))
+
+-- the second byte from the end of 21, which is a digit where there are two or more
+second_last :
+    (p front rest : Str) (z x : ℕ) → length (p ++ (front ++ unit z ++ unit x)) ≡ 21
+    → get_or ((p ++ (front ++ unit z ++ unit x)) ++ rest) 19 0 ≡ z
+second_last p front rest z x h =
+    let m = simp length-append at h in
+    let l : length (p ++ front) ≡ 19 = rw length-append (omega arith) in
+    let e : (p ++ (front ++ unit z ++ unit x)) ++ rest ≡ (p ++ front) ++ (z ∷ x ∷ rest) = simp append_assoc in
+    rw (e, ← l) (get_or-append_seam (p ++ front) z (x ∷ rest) 0)
+
+second-digit :
+    (m k x : ℕ) (rest : Str) → length (replicate k 32 ++ (decimal m ++ unit x)) ≡ 21
+    → get_or ((replicate k 32 ++ (decimal m ++ unit x)) ++ rest) 19 0 ≡ 48 + m % 10
+second-digit m k x rest =
+    last-digit m (λ d. length (replicate k 32 ++ (d ++ unit x)) ≡ 21
+    → get_or ((replicate k 32 ++ (d ++ unit x)) ++ rest) 19 0 ≡ 48 + m % 10)
+    (λ front. second_last (replicate k 32) front rest (48 + m % 10) x)
+
+two_digits : (n : ℕ) (rest : Str) → 10 ≤ n → n < 2 ^ 64 → get_or (padded n ++ rest) 19 0 ≡ 48 + n / 10 % 10
+unfolding padded
+two_digits n rest h s = go (21 - length (decimal n)) (padded-length n s)
+  where
+    go :
+        (k : ℕ) → length (replicate k 32 ++ decimal n) ≡ 21
+        → get_or ((replicate k 32 ++ decimal n) ++ rest) 19 0 ≡ 48 + n / 10 % 10
+    go k = rw (decimal-high n (omega arith)) (second-digit (n / 10) k (48 + n % 10) rest)
+
+last_one :
+    (n : ℕ) (rest : Str) → n < 2 ^ 64 → get_or (padded n ++ rest) 19 0 ≡ 32 → get_or (padded n ++ rest) 20 0 % 16 ≡ n
+unfolding padded
+last_one n rest s h = go (ltb n 10) refl
+  where
+    go : (p : Bool) → ltb n 10 ≡ p → get_or (padded n ++ rest) 20 0 % 16 ≡ n
+    go true e = let l = ltb-true n 10 e in rw (padded, decimal-low n l) (omega arith)
+    go false e = let z = two_digits n rest (ltb-false n 10 e) s in absurd (omega arith)
+
+-- the number in the columns from a on, by its last byte
+pub known_one :
+    (t : Str) (a n x : ℕ) → get_or t (a + 19) 0 ≡ 32 → x ≡ get_or t (a + 20) 0 → column_of t a 0 (most 64) ≡ Some n
+    → x % 16 ≡ n
+known_one t a n x h e is =
+    let s = column_stands t a 0 (most 64) n is in
+    let l = s.high in
+    let at : (i : ℕ) → get_or t (a + i) 0 ≡ get_or (padded n ++ drop (a + 21) t) i 0 =
+    λ i. sym (get_or-drop a t i 0) ∙ ap (λ (u : Str). get_or u i 0) s.here in
+    rw (e, at 20) (last_one n (drop (a + 21) t) (omega arith) (sym (at 19) ∙ h))
+
+pub ruleset known_parts = (known_one, known_two)

@@ -8,28 +8,13 @@ use native.Mathlib.Omega.{arith}
 use lib.ListN.{length}
 use Rattle.text.specs.Bytes.{Str}
 use Rattle.row.specs.Rows.{rest_of}
-use Rattle.row.specs.Line as content
-use Rattle.row.specs.Line.{Fault, Content, line_at, as_word, fault_of}
+use Rattle.row.specs.Line.{Fault, line_at, fault_of}
 use Rattle.tree.specs.Reader.{Rows, Reading, Reader, got, no, ◌then◌, map_r}
 use Rattle.tree.specs.Read.{read_words_up_to, read_words}
 use Rattle.tree.proofs.OtherLines.{never}
+use Rattle.tree.proofs.SlotLaws.{by_word}
 use Rattle.tree.proofs.WalkLaws.{by_told, told_wrong}
 use Rattle.field.specs.Parts.{Gets, most_words}
-
--- two choices by whether a line is a W row
-two : {A B : Type 0} (R : A → B → Type 0) (l : Content) (y : ℕ → A) (z : A) (y' : ℕ → B) (z' : B)
-    → ((w : ℕ) → R (y w) (y' w)) → R z z' → R (as_word l y z) (as_word l y' z')
-two R content.Root y z y' z' f g = g
-two R (content.Node i p k x v c o) y z y' z' f g = g
-two R content.Parameter y z y' z' f g = g
-two R (content.Field o d e p) y z y' z' f g = g
-two R (content.Group i d) y z y' z' f g = g
-two R (content.Typ k a b c) y z y' z' f g = g
-two R (content.Scope i b c) y z y' z' f g = g
-two R content.Unbound y z y' z' f g = g
-two R (content.Value k b) y z y' z' f g = g
-two R (content.Word w) y z y' z' f g = f w
-two R (content.Bad x k) y z y' z' f g = g
 
 -- where a slot has words, they are those up to 255
 words-whole : (has : Bool) (rs : Rows) (ws : List ℕ) (z : Rows) → read_words has rs ≡ got ws z
@@ -37,7 +22,7 @@ words-whole : (has : Bool) (rs : Rows) (ws : List ℕ) (z : Rows) → read_words
 unfolding read_words read_words_up_to
 words-whole false rs ws z e = e
 words-whole true rs ws z e =
-    two (λ (f g : Reader (List ℕ)). f rs ≡ got ws z → g rs ≡ got ws z) (line_at rs) _ _ _ _ (λ w e. e)
+    by_word (λ (f g : Reader (List ℕ)). f rs ≡ got ws z → g rs ≡ got ws z) (line_at rs) _ _ _ _ (λ w e. e)
     (λ e. let n = told_wrong {A = List ℕ} (fault_of 87 (line_at rs)) rs in never cc) e
 
 pub words-counted : (has : Bool) (rs : Rows) (ws : List ℕ) (z : Rows) (k : ℕ) (q : Rows) → read_words has rs ≡ got ws z
@@ -56,7 +41,8 @@ words-fewer : (n : ℕ) (rs : Rows) → Gets (read_words_up_to n rs) (λ ws q. l
 unfolding read_words_up_to rest_of
 words-fewer zero rs = omega arith
 words-fewer (suc n) [] =
-    two (λ (f g : Reader (List ℕ)). Gets (f []) (λ ws q. length q ≤ length {A = Str} [])) (line_at []) _ _ (λ w. got []) (got [])
+    by_word (λ (f g : Reader (List ℕ)). Gets (f []) (λ ws q. length q ≤ length {A = Str} [])) (line_at []) _ _ (λ w. got [])
+    (got [])
     (λ w. go w (read_words_up_to n []) (words-fewer n []))
     (by_told (λ g. Gets g (λ ws q. length q ≤ length {A = Str} [])) (fault_of 87 (line_at [])) (got []) [] (λ k. tt)
     (omega arith))
@@ -66,8 +52,8 @@ words-fewer (suc n) [] =
     go w (got ws q) h = h
     go w (no k q) h = tt
 words-fewer (suc n) (r ∷ rs) =
-    two (λ (f g : Reader (List ℕ)). Gets (f (r ∷ rs)) (λ ws q. length q ≤ length (r ∷ rs))) (line_at (r ∷ rs)) _ _ (λ w. got [])
-    (got [])
+    by_word (λ (f g : Reader (List ℕ)). Gets (f (r ∷ rs)) (λ ws q. length q ≤ length (r ∷ rs))) (line_at (r ∷ rs)) _ _
+    (λ w. got []) (got [])
     (λ w. go w (read_words_up_to n rs) (words-fewer n rs))
     (by_told (λ g. Gets g (λ ws q. length q ≤ length (r ∷ rs))) (fault_of 87 (line_at (r ∷ rs))) (got []) (r ∷ rs) (λ k. tt)
     (omega arith))

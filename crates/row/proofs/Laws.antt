@@ -17,10 +17,6 @@ use Rattle.row.specs.Rows.{row_len, onto, rows, joined, rest_of, newlines, size,
 use Rattle.row.specs.Line.{reader, bad_line, line_of, text_start, text_of, text_at}
 
 -- where a row goes on and where it ends
-pub row_len-here : (s : Str) (i : ℕ) → i < length s → get_or s i 0 ≡ 10 → row_len (drop i s) ≡ 1
-unfolding row_len
-row_len-here s i h e = rw (drop-cons s i 0, row_len, eq-eqb (get_or s i 0) 10 e)
-
 pub row_len-end : (s : Str) (i : ℕ) → length s ≤ i → row_len (drop i s) ≡ 0
 unfolding row_len
 row_len-end s i h = rw (drop_of_length-le s h)

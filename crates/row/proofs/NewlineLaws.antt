@@ -143,8 +143,8 @@ module _
         ap (λ (k : ℕ). Some (i + k)) lowest
         ∙ sym (lead-found 8 (drop i s) i (some-bit s i h fits (λ z. set (same_bits ∙ z))))
 
-    pub past_word : bits ≡ 0 → newline_from s (i + 8) ≡ newline_from s i
-    past_word z =
+    pub past_eight : bits ≡ 0 → newline_from s (i + 8) ≡ newline_from s i
+    past_eight z =
         ap (λ (k : ℕ). newline_from s (i + k / 8)) (sym (trailing_of_zero 64) ∙ ap (count_trailing_zeros 64) (sym z))
         ∙ ap (λ (k : ℕ). newline_from s (i + k)) lowest ∙ past-lead s i 8
 

@@ -53,7 +53,7 @@ module _ (s : Str) (at e : ℕ) (lo : at < e) (l : Content) (is : l ≡ line_of 
       ap rows parts ∙ ap (λ (x : Str). rows (x ++ drop e s)) p.whole ∙ rows-printed l (text_of r) (drop e s) p.fits
       ∙ ap (λ (x : Str). x ∷ rows (drop e s)) (sym p.whole)
 
-  pub good-row : (l ≡ line_at (rows (drop at s))) × (rows (drop e s) ≡ rest_of (rows (drop at s)))
+  good-row : (l ≡ line_at (rows (drop at s))) × (rows (drop e s) ≡ rest_of (rows (drop at s)))
   unfolding line_at rest_of r
   good-row = (rw first is, rw first)
 
@@ -159,7 +159,7 @@ module _
           further,
         ) (same-fault n u w lu l at-ten)
 
-    pub read-so : line_of (take (e - at) (drop at s)) ≡ line_at (rows (drop at s))
+    read-so : line_of (take (e - at) (drop at s)) ≡ line_at (rows (drop at s))
     read-so = go (dec_lt k (row_len (drop at s)))
       where
         go : Dec (k < row_len (drop at s)) → line_of (take (e - at) (drop at s)) ≡ line_at (rows (drop at s))

@@ -157,24 +157,25 @@ by_part (Bad x k) e f g u = false-true e
 
 -- a number in the columns of a part of the sheet stands in the sheet
 module _ (s : Str) (at k m : ℕ) (small : k + 21 ≤ m) (inside : at + m ≤ length s) where
-  part : Str
-  part = take (at + m - at) (drop at s)
+  piece : Str
+  piece = take (at + m - at) (drop at s)
 
-  column-part : column_of part k 0 (most 64) ≡ column_of s (at + k) 0 (most 64)
-  unfolding column_of part
-  column-part =
+  column-piece : column_of piece k 0 (most 64) ≡ column_of s (at + k) 0 (most 64)
+  unfolding column_of piece
+  column-piece =
       let long : at + m - at ≡ m = omega arith in
       let size : length (take m (drop at s)) ≡ m = length-take-le m (drop at s) (rw (length-drop at s) (omega arith)) in
       let few : 21 ≤ m - k = omega arith in
       let same : take 21 (drop k (take m (drop at s))) ≡ take 21 (drop (at + k) s) =
-      ap (take 21) (drop-take k m (drop at s)) ∙ take-take 21 (m - k) (drop k (drop at s)) few ∙ ap (take 21) (drop-drop k at s) in
+      ap (take 21) (drop-take k m (drop at s)) ∙ take-take 21 (m - k) (drop k (drop at s)) few
+      ∙ ap (take 21) (drop-drop k at s) in
       rw (long, size, le-ltb m (k + 21) small, le-ltb (length s) (at + k + 21) (omega arith), same) refl
 
   pub part-known :
       (n : ℕ) → ((v : ℕ) → column_of (take (at + m - at) (drop at s)) k 0 (most 64) ≡ Some v → n ≡ v) → (v : ℕ)
       → column_of s (at + k) 0 (most 64) ≡ Some v → n ≡ v
-  unfolding part
-  part-known n known v e = known v (column-part ∙ e)
+  unfolding piece
+  part-known n known v e = known v (column-piece ∙ e)
 
 -- past the end there is none
 pub part_none : (s : Str) (at : ℕ) → length s ≤ at → PartAt s at (record { owed = 0; next = at })

@@ -64,7 +64,7 @@ fn before_first(bits: u64) -> usize
 // The search by words, while eight bytes remain: where the first byte 10 stands, or from where on it is left to seek. Where none
 // stands it takes 0.65 of the instructions of a search by single bytes (`bench/run ends`). By a `for` over `as_chunks`, which
 // needs no place, it takes 1.31 times those where each row has two bytes, and bench/run allows no more than once.
-#[tactic(auto, using(crate::proofs::NewlineLaws::past_word))]
+#[tactic(auto, using(crate::proofs::NewlineLaws::past_eight))]
 fn by_words(s: &[u8], from: usize) -> Result<usize, usize>
     ensures { words_said s.now result ≡ newline_from s.now from }
 {
@@ -104,6 +104,16 @@ pub fn find_newline(s: &[u8], from: usize) -> Option<usize>
     }
 }
 
+// The same search where a line may end at `from`: that byte is looked at first, and mostly it is byte 10.
+pub fn newline_at(s: &[u8], from: usize) -> Option<usize>
+    ensures { result ≡ newline_from s.now from }
+{
+    if from < s.len() && s[from] == b'\n' {
+        return Some(from);
+    }
+    find_newline(s, from)
+}
+
 // The position after the first byte 10 at or after `from`, or the end where there is none.
 #[tactic(auto, using(crate::proofs::NewlineLaws::ends_found, crate::proofs::NewlineLaws::ends_none))]
 pub fn row_end(s: &[u8], from: usize) -> usize
@@ -116,15 +126,4 @@ pub fn row_end(s: &[u8], from: usize) -> usize
         Some(i) => i + 1,
         None => s.len(),
     }
-}
-
-// The same search where a line may end at `from`: that byte is tested first. Where a line's letter fixes its end, nothing is sought.
-pub fn newline_at(s: &[u8], from: usize) -> Option<usize>
-    ensures is { result ≡ newline_from s.now from }
-    ensures first { FirstAtOrAfter s.now from result }
-{
-    if from < s.len() && s[from] == b'\n' {
-        return Some(from);
-    }
-    find_newline(s, from)
 }

@@ -1,5 +1,7 @@
 // Rows of a sheet: where a row ends, what it says, and the text that it has. A position stands as a number beside the bytes, as
-// it goes to C and to the index as one.
+// it goes to C and to the index as one. `next` says what a row says, or its fault. Past a row goes `row_end`; past one whose kind
+// is known `part`, and past several `unbound_run`; past a good one of its kind `past_parameter` and `past_word`, which give none
+// elsewhere.
 #![tactic(auto)]
 
 mod ends;
@@ -11,7 +13,7 @@ ghost use Rattle.std.specs.Prelude.{eqb, None, Some};
 ghost use Rattle.row.specs.Rows.{row_len, rows, joined, rest_of, line_no, unbound_rows};
 ghost use Rattle.row.specs.Fours.{fours};
 ghost use Rattle.row.specs.Line.{line_said, reader, line_at, text_start, text_at};
-ghost use Rattle.row.specs.Past.{PastParameter};
+ghost use Rattle.row.specs.Past.{PastParameter, PastWord};
 ghost use Rattle.row.specs.Stop.{ReadTo};
 ghost use Rattle.text.specs.Bytes.{Str, cond};
 ghost use Rattle.row.specs.Span.{SpanWithin, spanned, span_to, span_between, text_between};
@@ -24,6 +26,9 @@ use terms::{Kind, Refusal};
 
 // Two U rows.
 const TWO_UNBOUND: [u8; 4] = *b"U\nU\n";
+
+// How many bytes a W row has: its letter, its number's columns and byte 10.
+const WORD_BYTES: usize = 23;
 
 // What a row says. Its flags are numbers, as C and the index hold them.
 #[derive(Clone, Copy)]
@@ -130,8 +135,9 @@ fn least_length(letter: u8) -> usize
     }
 }
 
-// Where the byte 10 stands up to which the line at a position says what its row says, if one follows: a good line ends where it
-// must by its letter, and a row that ends before that has the same fault further on. No row ends later.
+// Where the byte 10 stands up to which the line at a position is read, none where there is none. A good line has at least the
+// bytes of its letter, so that the first byte 10 behind them ends it; and a row that ends before that has the same fault when it
+// is read further.
 fn read_to(s: &[u8], at: usize) -> Option<usize>
     requires { at < length s.now }
     ensures { ReadTo s.now at result }
@@ -288,6 +294,19 @@ pub fn past_parameter(s: &[u8], at: usize) -> Option<usize>
     }
     let end = column::name_end(s, at + 1)?;
     Some(end + 1)
+}
+
+// Where the row after the W row at a position begins; none where no good one stands there. All W rows are of one length, so that
+// no end is sought.
+pub fn past_word(s: &[u8], at: usize) -> Option<usize>
+    ensures { PastWord s.now at result }
+{
+    let row = s.get(at..)?.first_chunk::<WORD_BYTES>()?;
+    if row[0] != b'W' || row[WORD_BYTES - 1] != b'\n' {
+        return None;
+    }
+    column::column(row, 1, 0, u64::MAX)?;
+    Some(at + WORD_BYTES)
 }
 
 // The number, from 1, of the row that starts at a position.

@@ -7,7 +7,7 @@ ghost use Rattle.row.specs.Part.{owed, PartAt};
 use crate::Owing;
 use terms::Kind;
 
-// How many types or scopes belong to a T row. As a part of the sheet of a known length, the row has its columns without a test.
+// How many types or scopes belong to a T row. It is taken as 86 bytes, in which its columns need no test.
 fn type_owed(s: &[u8], at: usize) -> u64
     requires { at + 86 ≤ length s.now }
     ensures { (k a b c : ℕ) → line_at (rows (drop at s.now)) ≡ Typ k a b c → result ≡ owed (Typ k a b c) }

@@ -160,12 +160,12 @@ pub fn words_up_to(s: &[u8], from: usize, most: u64) -> Result<Counted, RefusedR
 {
     let mut at = from;
     for count in 0..most {
-        let row = row::next(s, at);
-        let Ok(Line::Word { .. }) = row.line else {
+        let Some(next) = row::past_word(s, at) else {
+            let row = row::next(s, at);
             let next = end_at(row.line, b'W', at)?;
             return Ok(Counted { count, next });
         };
-        at = row.next;
+        at = next;
     }
     Ok(Counted {
         count: most,
@@ -190,11 +190,14 @@ fn words(s: &[u8], at: usize, has: bool) -> Result<usize, RefusedRow>
     if !has {
         return Ok(at);
     }
-    let row = row::next(s, at);
-    let Ok(Line::Word { .. }) = row.line else {
-        return Err(wrong_at(row.line, b'W', at));
-    };
-    let words = words_up_to(s, row.next, 254)?;
+    let words = words_up_to(s, at, 255)?;
+    if words.count == 0 {
+        return Err(RefusedRow {
+            refusal: Refusal::BadLine,
+            column: 1,
+            at,
+        });
+    }
     Ok(words.next)
 }
 

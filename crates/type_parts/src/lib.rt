@@ -161,8 +161,8 @@ fn counted(bytes: usize, t: Text) -> Text
     Text::at(t.fill().saturating_add(bytes))
 }
 
-// How many bytes the names of so many P rows have, with a byte before each: two a row fewer than the rows, in which a letter, a
-// space and byte 10 stand beside a name. Where the rows end is known, so none of them is looked at.
+// How many bytes the names of so many P rows have, each with `<` or a comma before it: two a row fewer than the rows, which
+// have a letter, a space and byte 10 beside a name. Where the rows end is known, so none of them is looked at.
 fn names_size(s: &[u8], from: usize, count: u64, end: usize) -> usize
     ensures { result ≡ min end (length s.now) - from - 2 * count }
 {

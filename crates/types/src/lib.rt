@@ -72,28 +72,23 @@ pub fn past(s: &[u8], from: usize, count: u64) -> usize
 {
     let mut at = from;
     let mut n = count;
-    // What is left grows by what a row owes and falls by a whole run, so that no range counts the turns.
+    // What is left falls by a row and a whole run behind it, and grows by what the row owes, so that no range counts the turns.
     while 0 < n && at < s.len() {
-        let run = row::unbound_run(s, at, n);
-        at += 2 * run as usize;
-        n -= run;
-        if n == 0 {
-            return at;
-        }
         let part = row::part(s, at);
         let Some(owed) = part.owed.checked_add(n - 1) else {
             return s.len();
         };
-        n = owed;
-        at = part.next;
+        let run = row::unbound_run(s, part.next, owed);
+        n = owed - run;
+        at = part.next + 2 * run as usize;
     }
     at
 }
 
-// The chain of a node's parents, innermost first: the ids of its nodes, where their P rows begin, how many these are, where they
-// end, and the refusal at its end. There is no heap, so how many nodes there are stands beside the arrays. Each array is its
-// own, since the ids go to `climb` and `scopes` as a slice, and the positions to the definition of a chain (`before`) as a list.
-// The refusal stands beside the nodes since those met before it count too.
+// The chain of a node's parents, innermost first: the ids of its nodes, where their P rows begin, how many P rows they have,
+// where these end, and the refusal at its end. There is no heap, so how many nodes there are stands beside the arrays. Each array
+// is its own, since the ids go to `climb` and `scopes` as a slice, and the positions to the definition of a chain (`before`) as a
+// list. The refusal stands beside the nodes since those met before it count too.
 #[derive(Clone, Copy)]
 pub struct Links {
     pub ids: [u64; 16],

@@ -1,11 +1,9 @@
 -- `tree::words_up_to` meets its contract. The loop's invariant: what was counted and what is left make the whole.
 -- Assumes nothing.
-use mathlib.Core.Path.{sym, ap, ◌∙◌}
+use mathlib.Core.Path.{sym, ◌∙◌}
 use native.Mathlib.Omega.{arith}
 use Rattle.std.proofs.lemmas.Result.{err_from_is_err_and}
-use Rattle.std.specs.Prelude.{Ok}
 use Rattle.tree.specs.Reader.{got}
-use Rattle.tree.proofs.ElseLaws.{other-than}
 use Rattle.tree.proofs.WalkLaws.{end-next, end-refused}
 use Rattle.tree.proofs.SlotLaws.{count-start, count-full, count-on, count-stop}
 use Rattle.tree.proofs.words_up_to.Goals as goal
@@ -13,30 +11,24 @@ use Rattle.tree.proofs.words_up_to.Goals as goal
 pub loop-count-init : goal.loop-count-init
 loop-count-init c = count-start _ _
 
+pub loop-count-preserved : goal.loop-count-preserved
+loop-count-preserved c =
+    let w = c.in-Some.ensures in
+    sym (count-on _ _ _ _ w.value c.loop-count-test.true w.says w.rest) ∙ c.loop-count.invariant
+
 pub returns-in_err-next : goal.returns-in_err-next
 returns-in_err-next c =
-    let g = c.next-row.ensures in
     let p = err_from_is_err_and c.from_residual.result c.from_residual.ensures.1 in
     rw (p.1, p.2)
     (sym (end-refused (got c.loop-count.count) c.args.s.now 87 c.loop-count.at _ _ (sym c.end_at.ensures ∙ c.in_err-next.was))
-    ∙ sym (count-stop _ _ _ g.line_value g.s_value _ _ c.loop-count-test.true
-    (other-than 9 c.next-row.result.line (λ f e h. grind arith)))
+    ∙ sym (count-stop _ _ c.next-row.ensures.line_value c.in_default.ensures _ _ c.loop-count-test.true)
     ∙ c.loop-count.invariant)
 
 pub returns-in_default : goal.returns-in_default
 returns-in_default c =
-    let g = c.next-row.ensures in
     sym (end-next (got c.loop-count.count) c.args.s.now 87 c.loop-count.at _ _ (sym c.end_at.ensures ∙ c.in_ok-next.was))
-    ∙ sym (count-stop _ _ _ g.line_value g.s_value _ _ c.loop-count-test.true
-    (other-than 9 c.next-row.result.line (λ f e h. grind arith)))
+    ∙ sym (count-stop _ _ c.next-row.ensures.line_value c.in_default.ensures _ _ c.loop-count-test.true)
     ∙ c.loop-count.invariant
-
-pub loop-count-preserved : goal.loop-count-preserved
-loop-count-preserved c =
-    let g = c.next-row.ensures in
-    let w = c.in-Ok-Word in
-    let f = rw w.is at w.field-0-is in
-    sym (count-on _ _ _ g.line_value g.s_value _ _ _ c.loop-count-test.true (w.is ∙ ap Ok f)) ∙ c.loop-count.invariant
 
 pub returns : goal.returns
 returns c = sym (count-full _ _ _ (omega arith)) ∙ c.loop-count.invariant

@@ -150,6 +150,12 @@ pub fn nest_of_binds(count: usize) -> Vec<Node> {
     vec![with_parameters(1, 0, 2).slots([slot("ward", typ)])]
 }
 
+/// Fifteen such brands around a struct with so many scopes that bind three parameters each, to nothing: they are looked at too.
+pub fn nest_around_struct(count: usize) -> Vec<Node> {
+    let innermost = Type::Struct(1, vec![unbound(u64::MAX, 3); count]);
+    vec![with_parameters(1, 0, 2).slots([slot("ward", nest_around(innermost, 15))])]
+}
+
 /// The first of these behind another field, the outermost brand with so many unbound parameters that the field's texts have more
 /// than 32,768 bytes.
 pub fn nest_of_scopes_long(count: usize) -> Vec<Node> {

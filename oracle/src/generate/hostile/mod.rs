@@ -17,10 +17,11 @@ type Shape = fn(usize) -> Vec<Node>;
 type Lines = fn(usize) -> Vec<u8>;
 
 /// Shapes that grow with their sheet.
-const GROWING: [(&str, Shape); 30] = [
+const GROWING: [(&str, Shape); 31] = [
     ("nest", brands::nest),
     ("nest of scopes", brands::nest_of_scopes),
     ("nest of scopes that bind", brands::nest_of_binds),
+    ("nest of scopes that bind around a struct", brands::nest_around_struct),
     ("nest of scopes with long texts", brands::nest_of_scopes_long),
     ("far", brands::far),
     ("far behind long names", brands::far_behind_long_names),

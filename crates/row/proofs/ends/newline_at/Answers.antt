@@ -2,5 +2,5 @@
 use Rattle.row.proofs.NewlineLaws.{newline-here}
 use Rattle.row.proofs.ends.newline_at.Goals as goal
 
-pub returns-then-s-from-eq10-clause-is : goal.returns-then-s-from-eq10-clause-is
-returns-then-s-from-eq10-clause-is c = newline-here c.args.s.now c.args.from c.if-from-s.true c.if-s-from-eq10.true
+pub returns-then-s-from-eq10 : goal.returns-then-s-from-eq10
+returns-then-s-from-eq10 c = newline-here c.args.s.now c.args.from c.if-from-s.true c.if-s-from-eq10.true
