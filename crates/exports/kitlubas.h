@@ -32,6 +32,7 @@
  *   17  a text of a line is none that may stand there, or the line has more bytes than belong to it
  *   21  the fill count is above the buffer's length
  *   22  the text is longer than the free part of the buffer
+ *   36  the level of indentation is above 8
  */
 #ifndef KITLUBAS_H
 #define KITLUBAS_H
@@ -84,10 +85,12 @@ uint64_t kitlubas_admit(const uint8_t *s, size_t s_len, size_t *line, size_t *co
 /*
  * Admits s and answers a request for the field at a place, from 0, among those of the node with an id. 0: the text stands
  * in buf from *fill on, *fill has moved past it, and no other byte has changed. A refusal leaves buf and *fill as they were.
- * *line and *column become what they do in kitlubas_admit.
+ * *line and *column become what they do in kitlubas_admit. At a level from 1 to 8 each line of the text begins with four spaces
+ * for each step of it, and so does a type's text, which has no byte 10; a text of no lines is one byte 10 at every level, and
+ * level 0 is the text that capnpc writes. 36 comes directly after 21, before the sheet is looked at.
  */
 uint64_t kitlubas_answer(const uint8_t *s, size_t s_len, uint64_t id, uint64_t place, uint64_t request, uint64_t leaf,
-                         size_t *fill, size_t *line, size_t *column, uint8_t *buf, size_t buf_len);
+                         size_t level, size_t *fill, size_t *line, size_t *column, uint8_t *buf, size_t buf_len);
 
 /* How many numbers the index of a sheet of so many bytes needs, which is never more than 1,793. */
 size_t kitlubas_index_size(size_t size);
@@ -105,8 +108,8 @@ uint64_t kitlubas_index(const uint8_t *s, size_t s_len, uint64_t *index, size_t 
  * nor passed the end of buf; after a number other than 0 nothing has changed.
  */
 uint64_t kitlubas_answer_in(const uint8_t *s, size_t s_len, const uint64_t *index, size_t index_len, uint64_t id,
-                            uint64_t place, uint64_t request, uint64_t leaf, size_t *fill, size_t *line, size_t *column,
-                            uint8_t *buf, size_t buf_len);
+                            uint64_t place, uint64_t request, uint64_t leaf, size_t level, size_t *fill, size_t *line,
+                            size_t *column, uint8_t *buf, size_t buf_len);
 
 /*
  * The node with a number, from 0: *id becomes its id, *at the place of its module in the sheet, *size the length of that,
@@ -125,14 +128,14 @@ uint64_t kitlubas_field(const uint8_t *s, size_t s_len, size_t from, uint64_t *f
                         size_t *at, size_t *size, size_t *next);
 
 /*
- * The text of a request for a field of the node with a number, from 0: field has the numbers that kitlubas_field put for it.
- * 0: the text begins buf, and *size is its length. 22: buf is too short, and *size is the length that the text has. Any
- * other refusal: *size is 0. After a refusal the bytes of buf may be any. Over any other numbers it returns, and after 0
- * *size is at most buf_len; fewer than KITLUBAS_FIELD_SIZE are no field, which is 15.
+ * The text of a request at a level, as kitlubas_answer has it, for a field of the node with a number, from 0: field has the
+ * numbers that kitlubas_field put for it. 36 comes first. 0: the text begins buf, and *size is its length. 22: buf is too short,
+ * and *size is the length that the text has. Any other refusal: *size is 0. After a refusal the bytes of buf may be any. Over any
+ * other numbers it returns, and after 0 *size is at most buf_len; fewer than KITLUBAS_FIELD_SIZE are no field, which is 15.
  */
 uint64_t kitlubas_text(const uint8_t *s, size_t s_len, const uint64_t *index, size_t index_len, size_t node,
-                       const uint64_t *field, size_t field_len, uint64_t request, uint64_t leaf, size_t *size,
-                       uint8_t *buf, size_t buf_len);
+                       const uint64_t *field, size_t field_len, uint64_t request, uint64_t leaf, size_t level,
+                       size_t *size, uint8_t *buf, size_t buf_len);
 
 /*
  * The sheet that a text written by hand says: the numbers of each line, with any spaces between them, right-justified in their
@@ -152,7 +155,7 @@ size_t kitlubas_number(size_t at, uint8_t *buf, size_t buf_len, uint64_t n);
 /* The number with these bits in two's complement, at a width of 8, 16, 32 or 64 bits; no other width is taken. */
 size_t kitlubas_signed(size_t at, uint8_t *buf, size_t buf_len, uint32_t width, uint64_t n);
 
-/* A line at a level of indentation. */
+/* A line with an indent of so many steps, four spaces each. */
 size_t kitlubas_line(size_t at, uint8_t *buf, size_t buf_len, size_t indent, const uint8_t *line, size_t line_len);
 
 /* An empty line. */

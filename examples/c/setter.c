@@ -39,16 +39,16 @@ int main(void)
     if (number != 0)
         return refused("the field", number);
 
-    /* Without room the answer is 22 and the text's length, or another refusal. */
-    number = kitlubas_text(sheet, sheet_len, sheet_index, index_len, 0, field, KITLUBAS_FIELD_SIZE, KITLUBAS_SETTER, 0,
+    /* Without room the answer is 22 and the text's length, or another refusal. A setter has no leaf, and the level is 0. */
+    number = kitlubas_text(sheet, sheet_len, sheet_index, index_len, 0, field, KITLUBAS_FIELD_SIZE, KITLUBAS_SETTER, 0, 0,
                            &length, NULL, 0);
     if (number != 22)
         return refused("the setter", number);
     text = malloc(length);
     if (text == NULL)
         return EXIT_FAILURE;
-    kitlubas_text(sheet, sheet_len, sheet_index, index_len, 0, field, KITLUBAS_FIELD_SIZE, KITLUBAS_SETTER, 0, &length,
-                  text, length);
+    kitlubas_text(sheet, sheet_len, sheet_index, index_len, 0, field, KITLUBAS_FIELD_SIZE, KITLUBAS_SETTER, 0, 0,
+                  &length, text, length);
     fwrite(text, 1, length, stdout);
     free(text);
     return EXIT_SUCCESS;

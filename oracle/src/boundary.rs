@@ -88,7 +88,7 @@ pub mod admit {
 
 pub mod answer {
     use super::declarations::kitlubas_answer;
-    use crate::answer::Request;
+    use crate::answer::{Request, State};
     use crate::sheet::read::Refusal;
 
     /// The number of a request at the boundary; the leaf goes beside it.
@@ -114,13 +114,13 @@ pub mod answer {
         }
     }
 
-    /// The answer; `fill` is the fill count before and after.
+    /// The answer; the state's fill count is that before and after.
     pub fn answer(
         sheet: &[u8],
         node: u64,
         place: u64,
         request: Request,
-        fill: &mut usize,
+        state: &mut State,
         buf: &mut [u8],
     ) -> Result<(), Refusal> {
         let (mut line, mut column) = (usize::MAX, usize::MAX);
@@ -132,7 +132,8 @@ pub mod answer {
                 place,
                 number(request),
                 leaf(request),
-                fill,
+                state.level,
+                &mut state.fill,
                 &mut line,
                 &mut column,
                 buf.as_mut_ptr(),

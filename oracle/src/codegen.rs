@@ -33,6 +33,10 @@ pub mod exact {
         super::stringify(text)
     }
 
+    pub fn to_lines(text: &FormattedText, indent: usize) -> Vec<String> {
+        super::to_lines(text, indent)
+    }
+
     pub fn zero_fields_of_group(ctx: &GeneratorContext, node_id: u64) -> capnp::Result<FormattedText> {
         super::zero_fields_of_group(ctx, node_id, &mut false)
     }

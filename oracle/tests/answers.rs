@@ -1,6 +1,6 @@
-//! Requests against document 01: its worked cases, its example, and each of its refusals.
+//! Requests against document 01, its worked cases, its example and each of its refusals, and against request N14.
 
-use oracle::answer::{answer, Request};
+use oracle::answer::{answer, Request, State};
 use oracle::codegen::exact;
 use oracle::generate::corners::{self, group, node, slot};
 use oracle::generate::hostile;
@@ -22,7 +22,7 @@ fn sheet(nodes: Vec<Node>) -> Vec<u8> {
 /// The text of a request on place 0 of the node 1, or its refusal.
 fn asked(bytes: &[u8], place: u64, request: Request) -> Result<String, Refusal> {
     let mut buffer = vec![0; 65_536];
-    let fill = answer(bytes, 1, place, request, 0, &mut buffer)?;
+    let fill = answer(bytes, 1, place, request, State::flat(0), &mut buffer)?;
     Ok(String::from_utf8(buffer[..fill].to_vec()).expect("texts are UTF-8"))
 }
 
@@ -145,7 +145,8 @@ fn corner(name: &str, request: Request) -> Result<String, u64> {
         _ => (100, 4),
     };
     let mut buffer = vec![0; 65_536];
-    let fill = answer(&print(&corner.sheet), node, place, request, 0, &mut buffer).map_err(|refusal| refusal.number)?;
+    let fill = answer(&print(&corner.sheet), node, place, request, State::flat(0), &mut buffer)
+        .map_err(|refusal| refusal.number)?;
     Ok(String::from_utf8(buffer[..fill].to_vec()).expect("texts are UTF-8"))
 }
 
@@ -206,7 +207,7 @@ fn a_buffer_is_changed_by_a_text_only() {
     let bytes = sheet(vec![node(1, 0, "bed", &[]).slots([slot("isFree", Type::Plain(1))])]);
     let ask = |bytes: &[u8], place, length, fill| {
         let mut buffer = vec![7; length];
-        let answer = answer(bytes, 1, place, Request::Type { leaf: 0 }, fill, &mut buffer);
+        let answer = answer(bytes, 1, place, Request::Type { leaf: 0 }, State::flat(fill), &mut buffer);
         (answer.map_err(|refusal| refusal.number), buffer)
     };
     assert_eq!(ask(&bytes, 0, 6, 1), (Ok(5), b"\x07bool\x07".to_vec()));
@@ -217,6 +218,69 @@ fn a_buffer_is_changed_by_a_text_only() {
     assert_eq!(ask(&[b'x'; 65_537], 0, 4, 0), (Err(1), vec![7; 4]));
     assert_eq!(ask(b"x\n", 9, 4, 0), (Err(2), vec![7; 4]));
     assert_eq!(ask(&bytes, 9, 0, 0), (Err(15), vec![]));
+}
+
+/// Request N14: texts at a level of indentation, with the lines written by hand.
+#[test]
+fn lines_are_moved_in_by_their_level() {
+    let slots = [
+        slot("nothing", Type::Plain(0)),
+        slot("isFree", Type::Plain(1)).default(1, 1, true),
+        slot("wardName", Type::Plain(12)).default(12, 0, true),
+    ];
+    let slots = slots.into_iter().chain([slot("ward", Type::Struct(1, vec![])).option()]);
+    let bed = node(1, 0, "bed", &[]).slots(slots).group(group("none", 2)).group(group("plan", 3));
+    let day = node(3, 0, "bed::plan", &[]).slots([slot("day", Type::Plain(7))]);
+    let bytes = sheet(vec![bed, node(2, 0, "bed::none", &[]), day]);
+    let at = |place, request, level| {
+        let mut buffer = vec![0; 65_536];
+        let fill = answer(&bytes, 1, place, request, State { fill: 0, level }, &mut buffer).expect("a text");
+        String::from_utf8(buffer[..fill].to_vec()).expect("texts are UTF-8")
+    };
+    assert_eq!(at(0, READER_FUNCTION, 1), "    \n    \n");
+    assert_eq!(at(1, HASER, 3), "\n");
+    assert_eq!(at(4, Request::Zero, 8), "\n");
+    assert_eq!(at(5, Request::Zero, 1), "    self.builder.set_data_field::<u16>(4, 0u16);\n");
+    assert_eq!(at(1, Request::Type { leaf: 0 }, 2), "        bool");
+    assert_eq!(
+        at(1, Request::Setter, 1),
+        "    #[inline]\n    pub fn set_is_free(&mut self, value: bool)  {\n        \
+         self.builder.set_bool_field_mask(4, value, true);\n    }\n"
+    );
+    assert_eq!(
+        at(2, READER, 1),
+        "    ::capnp::Result<::capnp::text::Reader<'a>>\n    ::capnp::traits::FromPointerReader::get_from_pointer(\
+         &self.reader.get_pointer_field(4), ::core::option::Option::Some(&_private::DEFAULT_WARD_NAME[..]))\n    \
+         pub(crate) static DEFAULT_WARD_NAME: [::capnp::Word; 2] = [\n        \
+         ::capnp::word(0, 1, 2, 3, 4, 5, 6, 7),\n        \
+         ::capnp::word(255, 255, 255, 255, 255, 255, 255, 255),\n    ];\n"
+    );
+    let margins = |text: &str| text.lines().map(|line| line.len() - line.trim_start().len()).collect::<Vec<_>>();
+    assert_eq!(margins(&at(3, READER, 0)), [0, 0, 4, 0, 4, 0]);
+    assert_eq!(margins(&at(3, READER, 8)), [32, 32, 36, 32, 36, 32]);
+}
+
+/// 36 is a level above 8: directly after 21, and before the sheet is looked at.
+#[test]
+fn a_level_above_8_is_36() {
+    let bytes = sheet(vec![node(1, 0, "bed", &[]).slots([slot("isFree", Type::Plain(1))])]);
+    let ask = |bytes: &[u8], place, fill, level| {
+        let mut buffer = [7; 36];
+        let state = State { fill, level };
+        let answer = answer(bytes, 1, place, Request::Type { leaf: 0 }, state, &mut buffer);
+        let refused = answer.map_err(|refusal| refusal.number);
+        assert!(refused.is_ok() || buffer == [7; 36]);
+        refused
+    };
+    assert_eq!(ask(&bytes, 0, 0, 8), Ok(36));
+    assert_eq!(ask(&bytes, 0, 1, 8), Err(22));
+    assert_eq!(ask(&bytes, 0, 0, 9), Err(36));
+    assert_eq!(ask(&bytes, 0, 36, usize::MAX), Err(36));
+    assert_eq!(ask(&bytes, 0, 37, 9), Err(21));
+    assert_eq!(ask(&bytes, 9, 0, 9), Err(36));
+    assert_eq!(ask(&[b'x'; 65_537], 0, 0, 9), Err(36));
+    assert_eq!(ask(b"x\n", 0, 0, 9), Err(36));
+    assert_eq!(ask(b"x\n", 0, 37, 9), Err(21));
 }
 
 #[test]

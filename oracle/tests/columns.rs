@@ -1,6 +1,6 @@
 //! Where a line is bad, by request N5: its cases, with number, line and column written down by hand.
 
-use oracle::answer::{answer, Request};
+use oracle::answer::{answer, Request, State};
 use oracle::generate::corners::{node, slot};
 use oracle::generate::{self, faults};
 use oracle::program::accessors;
@@ -296,11 +296,11 @@ fn surplus_bytes() {
 fn refusals_without_a_line() {
     assert_eq!(told(&[b'x'; 65_537]), (1, 0, 0));
     let own_parent = print(&Sheet::of(vec![node(7, 7, "bed", &[]).slots([slot("plan", Type::Struct(7, vec![]))])]));
-    let ask = |place, fill| answer(&own_parent, 7, place, Request::Setter, fill, &mut [0; 9]);
+    let ask = |place, fill| answer(&own_parent, 7, place, Request::Setter, State::flat(fill), &mut [0; 9]);
     assert_eq!(ask(0, 0), Err(Refusal::nowhere(4)));
     assert_eq!(ask(1, 0), Err(Refusal::nowhere(15)));
     assert_eq!(ask(0, 10), Err(Refusal::nowhere(21)));
-    let torn = answer(b"R ::capnp\nN", 7, 0, Request::Setter, 0, &mut [0; 9]);
+    let torn = answer(b"R ::capnp\nN", 7, 0, Request::Setter, State::flat(0), &mut [0; 9]);
     assert_eq!(torn, Err(Refusal { number: 2, line: 2, column: 1 }));
 }
 

@@ -18,7 +18,7 @@
 #[allow(dead_code)]
 mod declarations;
 
-use crate::{NodeId, Place, Refusal, Request};
+use crate::{Asked, NodeId, Place, Refusal};
 use std::ops::Range;
 
 /// How many numbers the library has for a field.
@@ -85,12 +85,12 @@ pub fn index(sheet: &[u8], index: &mut [u64]) -> Result<(), Refusal> {
     Refusal::told(sheet, number, line, column)
 }
 
-/// The fill count after the text of a request, over any bytes.
+/// The fill count after the text of a request at a level, over any bytes.
 pub fn answer(
     sheet: &[u8],
     node: NodeId,
     place: Place,
-    request: Request,
+    asked: Asked,
     buf: &mut [u8],
     fill: usize,
 ) -> Result<usize, Refusal> {
@@ -104,8 +104,9 @@ pub fn answer(
             sheet.len(),
             node.0,
             place.0,
-            request.number(),
-            request.leaf(),
+            asked.request.number(),
+            asked.request.leaf(),
+            asked.level.get().into(),
             &mut after,
             &mut line,
             &mut column,
@@ -116,12 +117,12 @@ pub fn answer(
     Refusal::told(sheet, number, line, column).map(|()| after)
 }
 
-/// The fill count after the text of a request, over the index of the sheet's nodes.
+/// The fill count after the text of a request at a level, over the index of the sheet's nodes.
 pub fn answer_in(
     (sheet, index): (&[u8], &[u64]),
     node: NodeId,
     place: Place,
-    request: Request,
+    asked: Asked,
     buf: &mut [u8],
     fill: usize,
 ) -> Result<usize, Refusal> {
@@ -137,8 +138,9 @@ pub fn answer_in(
             index.len(),
             node.0,
             place.0,
-            request.number(),
-            request.leaf(),
+            asked.request.number(),
+            asked.request.leaf(),
+            asked.level.get().into(),
             &mut after,
             &mut line,
             &mut column,
@@ -149,13 +151,15 @@ pub fn answer_in(
     Refusal::told(sheet, number, line, column).map(|()| after)
 }
 
-/// The length of the text of a request for a field of the node with a number; the text then begins `buf`. Where there is
-/// no text, the bytes of `buf` may have changed.
+/// The length of the text of a request at a level, for a field of the node with a number; the text then begins `buf`. Where
+/// there is no text, the bytes of `buf` may have changed.
+// As a call it takes 1.6 % more of the instructions that all texts of an ordinary sheet of 64 KB take (3,108,497 for 3,060,388).
+#[inline]
 pub fn text(
     (sheet, index): (&[u8], &[u64]),
     node: usize,
     field: &FieldNumbers,
-    request: Request,
+    asked: Asked,
     buf: &mut [u8],
 ) -> Result<usize, NoText> {
     let (buf_at, buf_len) = (buf.as_mut_ptr(), buf.len());
@@ -171,8 +175,9 @@ pub fn text(
             node,
             field.as_ptr(),
             field.len(),
-            request.number(),
-            request.leaf(),
+            asked.request.number(),
+            asked.request.leaf(),
+            asked.level.get().into(),
             &mut length,
             buf_at,
             buf_len,

@@ -2,7 +2,7 @@
 #![forbid(unsafe_code)]
 
 use crate::boundary::{self, FieldNumbers, NoText};
-use crate::{Kind, Place, Refusal, Request, Sheet};
+use crate::{Asked, Kind, Place, Refusal, Sheet};
 use std::fmt;
 use std::iter::FusedIterator;
 
@@ -63,9 +63,14 @@ impl<'s> Field<'_, 's> {
     /// }
     /// # Ok::<(), kitlubas::Refusal>(())
     /// ```
-    pub fn text(&self, request: Request) -> Result<String, Refusal> {
+    pub fn text(&self, request: impl Into<Asked>) -> Result<String, Refusal> {
+        self.text_of(request.into())
+    }
+
+    /// The text of what is asked.
+    fn text_of(&self, asked: Asked) -> Result<String, Refusal> {
         let mut text = Vec::with_capacity(FIRST_ROOM);
-        self.write_text(request, &mut text)?;
+        self.write_text_of(asked, &mut text)?;
         text.shrink_to_fit();
         Ok(String::from_utf8(text).expect("every text is UTF-8"))
     }
@@ -88,20 +93,25 @@ impl<'s> Field<'_, 's> {
     /// assert_eq!(setters.matches("pub fn set_").count(), 2);
     /// # Ok::<(), kitlubas::Refusal>(())
     /// ```
-    pub fn write_text(&self, request: Request, out: &mut Vec<u8>) -> Result<(), Refusal> {
+    pub fn write_text(&self, request: impl Into<Asked>, out: &mut Vec<u8>) -> Result<(), Refusal> {
+        self.write_text_of(request.into(), out)
+    }
+
+    /// Puts the text of what is asked behind what `out` holds.
+    fn write_text_of(&self, asked: Asked, out: &mut Vec<u8>) -> Result<(), Refusal> {
         let start = out.len();
-        let mut text = self.text_behind(request, out, start, FIRST_ROOM);
+        let mut text = self.text_behind(asked, out, start, FIRST_ROOM);
         if let Err(NoText { refusal: Refusal { number: Refusal::NO_ROOM, .. }, length }) = text {
-            text = self.text_behind(request, out, start, length);
+            text = self.text_behind(asked, out, start, length);
         }
         out.truncate(start + text.as_ref().map_or(0, |length| *length));
         text.map(|_| ()).map_err(|none| none.refusal)
     }
 
     /// The length of the text, which is put from `start` on into this much room.
-    fn text_behind(&self, request: Request, out: &mut Vec<u8>, start: usize, room: usize) -> Result<usize, NoText> {
+    fn text_behind(&self, asked: Asked, out: &mut Vec<u8>, start: usize, room: usize) -> Result<usize, NoText> {
         out.resize(start + room, 0);
-        boundary::text(self.sheet.parts(), self.node, &self.numbers, request, &mut out[start..])
+        boundary::text(self.sheet.parts(), self.node, &self.numbers, asked, &mut out[start..])
     }
 }
 

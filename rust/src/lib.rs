@@ -8,8 +8,8 @@
 //! has the line and the column, and says what is expected there. Nothing panics and nothing has to be checked first.
 //!
 //! The work is done by a static library in which every function is proved to meet its contract; this crate only calls
-//! it. The text is capnpc's, byte for byte. Calls have no state, may run on any number of threads, and get along with a
-//! stack of 64 KB.
+//! it. The text is capnpc's, byte for byte; at a [`Level`], which [`Request::at`] gives, each of its lines begins with four
+//! spaces for each step. Calls have no state, may run on any number of threads, and get along with a stack of 64 KB.
 //!
 //! # Examples
 //!
@@ -131,6 +131,40 @@
 //! # Ok::<(), Box<dyn std::error::Error>>(())
 //! ```
 //!
+//! A setter and a haser at level 2, inside a module and its `impl`.
+//!
+//! ```
+//! use kitlubas::{padded, Level, NodeId, Place, Request, Sheet, Side};
+//!
+//! let bytes = padded(
+//!     "R ::capnp\n\
+//!      N 7 0 0 1 0 0 0 bed\n\
+//!      F 3 65535 1 0 isFree\nT 1 0 0 0\nV 1 1\n\
+//!      F 0 65535 0 0 ward\nT 12 0 0 0\nV 12 0\n",
+//! );
+//! let sheet = Sheet::admit(&bytes)?;
+//! let inside = Level::new(2).ok_or("2 is a level")?;
+//! let setter = sheet.text(NodeId(7), Place(0), Request::Setter.at(inside))?;
+//! let haser = sheet.text(NodeId(7), Place(1), Request::Haser { side: Side::Builder }.at(inside))?;
+//! let module = format!("pub mod bed {{\n    impl Builder<'_> {{\n{setter}{haser}    }}\n}}\n");
+//! let lines = [
+//!     "pub mod bed {",
+//!     "    impl Builder<'_> {",
+//!     "        #[inline]",
+//!     "        pub fn set_is_free(&mut self, value: bool)  {",
+//!     "            self.builder.set_bool_field_mask(3, value, true);",
+//!     "        }",
+//!     "        #[inline]",
+//!     "        pub fn has_ward(&self) -> bool {",
+//!     "            !self.builder.is_pointer_field_null(0)",
+//!     "        }",
+//!     "    }",
+//!     "}",
+//! ];
+//! assert!(module.lines().eq(lines));
+//! # Ok::<(), Box<dyn std::error::Error>>(())
+//! ```
+//!
 //! # Building
 //!
 //! The archive is the one that `tools/build exports` writes to `target/staticlib/libexports.a` in the repository, or
@@ -143,6 +177,7 @@ mod boundary;
 mod expected;
 mod field;
 mod kind;
+mod level;
 mod padded;
 mod refusal;
 mod request;
@@ -151,9 +186,10 @@ mod sheet;
 pub use address::{NodeId, Place};
 pub use field::{Field, Fields};
 pub use kind::Kind;
+pub use level::Level;
 pub use padded::padded;
 pub use refusal::Refusal;
-pub use request::{Form, Leaf, Lifetime, Request, Side};
+pub use request::{Asked, Form, Leaf, Lifetime, Request, Side};
 pub use sheet::{Node, Nodes, Sheet};
 
 /// Whether these bytes are a sheet: else the refusal of its first bad line, or refusal 1 for one that is too long.
@@ -168,14 +204,14 @@ pub fn answer(
     sheet: &[u8],
     node: NodeId,
     place: Place,
-    request: Request,
+    request: impl Into<Asked>,
     buf: &mut [u8],
     fill: usize,
 ) -> Result<usize, Refusal> {
-    boundary::answer(sheet, node, place, request, buf, fill)
+    boundary::answer(sheet, node, place, request.into(), buf, fill)
 }
 
 /// The text of one request, however long it is: [`Sheet::text`], straight from bytes.
-pub fn text(sheet: &[u8], node: NodeId, place: Place, request: Request) -> Result<String, Refusal> {
+pub fn text(sheet: &[u8], node: NodeId, place: Place, request: impl Into<Asked>) -> Result<String, Refusal> {
     Sheet::admit(sheet)?.text(node, place, request)
 }

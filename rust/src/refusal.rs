@@ -26,7 +26,8 @@ use std::fmt;
 #[derive(Clone, Copy, Debug, PartialEq, Eq, Hash)]
 #[non_exhaustive]
 pub struct Refusal {
-    /// The refusal's number: 1 to 17 are from the input, 21 and 22 from the state of the buffer.
+    /// The refusal's number: 1 to 17 are from the input, 21 and 22 from the state of the buffer, and 36 is a level of
+    /// indentation above 8, which only a caller in C can ask for.
     pub number: u64,
     /// The sheet's line at fault, from 1, where the fault was met reading the sheet (2, 3, 4 of a type, 16 and 17).
     pub line: Option<usize>,
@@ -80,6 +81,7 @@ impl Refusal {
             17 => "a text of the line is none that may stand there, or the line has more bytes than belong to it",
             21 => "the fill count is above the buffer's length",
             Refusal::NO_ROOM => "the text is longer than the free part of the buffer",
+            36 => "the level of indentation is above 8",
             _ => "no refusal has this number",
         }
     }

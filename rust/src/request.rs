@@ -1,6 +1,8 @@
 //! What can be asked of a field, and the numbers that requests and leaves have at the boundary.
 #![forbid(unsafe_code)]
 
+use crate::Level;
+
 /// What is asked of a field. Of a slot everything but a zeroing can be asked, of a group a zeroing only; what can't be
 /// asked is refused by 15.
 #[derive(Clone, Copy, Debug, PartialEq, Eq, Hash)]
@@ -75,7 +77,36 @@ pub enum Lifetime {
     Anonymous,
 }
 
+/// A request and the level of indentation of its text. Whatever takes one takes a request as well, which is then asked at
+/// level 0.
+///
+/// ```
+/// use kitlubas::{Asked, Level, Request};
+///
+/// assert_eq!(Asked::from(Request::Setter), Request::Setter.at(Level::default()));
+/// ```
+#[derive(Clone, Copy, Debug, PartialEq, Eq, Hash)]
+#[non_exhaustive]
+pub struct Asked {
+    /// What is asked.
+    pub request: Request,
+    /// How far the lines of the text are moved in.
+    pub level: Level,
+}
+
+impl From<Request> for Asked {
+    fn from(request: Request) -> Asked {
+        request.at(Level::default())
+    }
+}
+
 impl Request {
+    /// This request at a level of indentation. Where a text has no lines, as the haser of a slot that is no pointer and the
+    /// zeroing of nothing, it is one newline at every level.
+    pub fn at(self, level: Level) -> Asked {
+        Asked { request: self, level }
+    }
+
     /// The request's number at the boundary.
     pub(crate) fn number(self) -> u64 {
         match self {

@@ -1,7 +1,7 @@
 //! A sheet that was admitted, and its nodes.
 #![forbid(unsafe_code)]
 
-use crate::{boundary, Field, Fields, NodeId, Place, Refusal, Request};
+use crate::{boundary, Asked, Field, Fields, NodeId, Place, Refusal};
 use std::fmt;
 use std::iter::FusedIterator;
 use std::ops::Range;
@@ -65,7 +65,7 @@ impl<'s> Sheet<'s> {
     /// assert_eq!(sheet.text(NodeId(7), Place(1), Request::Setter).unwrap_err().number, 15);
     /// # Ok::<(), kitlubas::Refusal>(())
     /// ```
-    pub fn text(&self, node: NodeId, place: Place, request: Request) -> Result<String, Refusal> {
+    pub fn text(&self, node: NodeId, place: Place, request: impl Into<Asked>) -> Result<String, Refusal> {
         let field = self.node(node).and_then(|node| node.field(place));
         field.ok_or(Refusal::NOT_THERE)?.text(request)
     }
@@ -89,11 +89,11 @@ impl<'s> Sheet<'s> {
         &self,
         node: NodeId,
         place: Place,
-        request: Request,
+        request: impl Into<Asked>,
         buf: &mut [u8],
         fill: usize,
     ) -> Result<usize, Refusal> {
-        boundary::answer_in(self.parts(), node, place, request, buf, fill)
+        boundary::answer_in(self.parts(), node, place, request.into(), buf, fill)
     }
 
     /// The bytes and their index, as the boundary takes them.

@@ -59,7 +59,7 @@ module _ {s : Str} {id place : ℕ} (a : SlotAt s id place) (k : Kind) (h : kind
   own_fits own = default-fits a.slot.default.bits a.slot.default.kind k (rw (← own) at h) (bounds a).bits
 
   -- what the text of a getter's request answers
-  pub get-alone : (is_reader is_fn : Bool) (g : Str) → getter_request a.tree a.field.name a.slot is_reader is_fn ≡ ok g
+  pub get-alone : (is_reader is_fn : Bool) (g : Str) → getter_request a.tree a.field.name a.slot is_reader is_fn 0 ≡ ok g
       → (r : Record) → run_getter g r ≡ Some (get (place_at a k) a.slot.default.bits r)
   get-alone is_reader is_fn g is r =
       let d = a.slot.default.bits in
@@ -72,7 +72,7 @@ module _ {s : Str} {id place : ℕ} (a : SlotAt s id place) (k : Kind) (h : kind
 
   -- what the text of a setter's request leaves, where the default is of the slot's kind
   pub set-alone : OwnDefault a → (w : Str)
-      → setter_request a.tree a.node.tag_offset a.field.name a.field.discriminant a.slot ≡ ok w
+      → setter_request a.tree a.node.tag_offset a.field.name a.field.discriminant a.slot 0 ≡ ok w
       → (v : ℕ) (r : Record) → run_setter w v r ≡ setter_leaves (tag_at a) (place_at a k) v (setter_mask a k) r
   set-alone own w is v r =
       let b = bounds a in

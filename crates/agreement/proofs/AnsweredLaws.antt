@@ -1,7 +1,8 @@
 -- The bytes that the entry put between its two fill counts are the text of its request: a refusal is never done, and what is
 -- placed at the old count ends at the new one. And a text that is generated is put into any buffer with room for it. Assumes
 -- nothing.
-use Rattle.std.specs.Prelude.{◌≡◌, ℕ, ◌+◌, ◌-◌, ◌≤◌, Bool, true, false, ltb, ◌++◌, length, take, drop, replicate, Ok}
+use Rattle.std.specs.Prelude.{◌≡◌, ℕ, ◌+◌, ◌-◌, ◌≤◌, Bool, true, false, ltb, ◌++◌, length, take, drop, replicate, Option, None}
+use Rattle.std.specs.Prelude.{Some, Ok}
 use mathlib.Core.Path.{refl, sym, ap, ◌∙◌}
 use mathlib.Core.List.{append_assoc}
 use native.Mathlib.Omega.{arith}
@@ -10,11 +11,12 @@ use lib.ListN.{length-take, length-replicate}
 use lib.Seq.{take_at, drop_at}
 use Rattle.text.specs.Bytes.{Str, cond}
 use Rattle.text.specs.Answer as text
-use Rattle.text.specs.Text.{state_at}
+use Rattle.text.specs.Text.{state_at_level, with_fill}
 use Rattle.text.specs.declared.Text.{Text}
 use Rattle.tree.specs.Read.{admitted}
-use Rattle.requests.specs.Requests.{of_field, Outcome, gives, refuses, outcome_of}
-use Rattle.requests.specs.Told.{Answered}
+use Rattle.requests.specs.Requests.{of_field, Outcome, gives, refuses, outcome_of, state_refusal, answer_by, buffer_by}
+use Rattle.requests.specs.Told.{Answered, StateAllowed}
+use Rattle.requests.proofs.AnswerLaws.{state-free}
 use Rattle.requests.specs.declared.Accessor.{Accessor}
 use Rattle.agreement.specs.Claims.{AnsweredHolds, RanHolds}
 use Rattle.agreement.specs.Slots.{Generated, bytes_between, Ran}
@@ -48,32 +50,43 @@ done-text l fill w l' upto e b = by_tests (ltb (length l) fill) (ltb (length l) 
 -- where the entry is done, the request has a text, and it stands between the two fill counts
 done-gives : (l : Str) (t : Text) (o : Outcome) (l' : Str) (t' : Text) → Answered l t o l' (Ok t')
     → o ≡ gives (bytes_between t.at t'.at l')
-done-gives l t (gives w) l' t' a = ap gives (done-text l t.at w l' t'.at a.answer a.buffer)
-done-gives l t (refuses k line column) l' t' a = by-test (ltb (length l) t.at) a.answer
+done-gives l t o l' t' a = by (state_refusal (length l) t.at t.level) o a.answer a.buffer
   where
-    by-test : (b : Bool) → text.done t'.at ≡ cond b (text.refused 21 0 0) (text.refused k line column)
-        → refuses k line column ≡ gives (bytes_between t.at t'.at l')
-    by-test true e = cc
-    by-test false e = cc
+    by : (refusal : Option ℕ) (o : Outcome) → text.done t'.at ≡ answer_by refusal l t.at o → l' ≡ buffer_by refusal l t.at o
+        → o ≡ gives (bytes_between t.at t'.at l')
+    by (Some k) o e b = cc
+    by None (gives w) e b = ap gives (done-text l t.at w l' t'.at e b)
+    by None (refuses k line column) e b = cc
+
+-- and its state was none that is refused
+done-allowed : (l : Str) (t : Text) (o : Outcome) (l' : Str) (t' : Text) → Answered l t o l' (Ok t') → StateAllowed l t
+done-allowed l t o l' t' a = state-free l t (by (state_refusal (length l) t.at t.level) a.answer)
+  where
+    by : (refusal : Option ℕ) → text.done t'.at ≡ answer_by refusal l t.at o → None ≡ refusal
+    by (Some k) e = cc
+    by None e = refl
 
 pub answered-holds : AnsweredHolds
-answered-holds s id asked l t l' t' a = done-gives l t (outcome_of (admitted s) id asked) l' t' a
+answered-holds s id asked l t l' t' a = done-gives l t (outcome_of (admitted s) id asked t.level) l' t' a
 
 -- ---- runs of the entry
 
 -- a text is put into a buffer with room for it
-done-placed : (l : Str) (fill : ℕ) (w : Str) → fill + length w ≤ length l
-    → Answered l (state_at fill) (gives w) (text.placed l fill w) (Ok (state_at (fill + length w)))
-unfolding text.answer_of text.buffer_of
-done-placed l fill w h =
-    let room : fill ≤ length l = omega arith in
+done-placed : (l : Str) (t : Text) (w : Str) → t.at + length w ≤ length l → t.level ≤ 8
+    → Answered l t (gives w) (text.placed l t.at w) (Ok (with_fill t (t.at + length w)))
+unfolding text.answer_of text.buffer_of state_refusal
+done-placed l t w h low =
+    let room : t.at ≤ length l = omega arith in
+    let within = le-ltb (length l) t.at room in
+    let fits = le-ltb (length l) (t.at + length w) h in
     record {
-      answer = rw (le-ltb (length l) fill room, le-ltb (length l) (fill + length w) h);
-      buffer = rw (le-ltb (length l) fill room, le-ltb (length l) (fill + length w) h);
+      answer = rw (within, le-ltb 8 t.level low, within, fits) refl;
+      buffer = rw (within, le-ltb 8 t.level low, within, fits) refl;
+      level = refl;
     }
 
 module _ (s : Str) (id place : ℕ) (accessor : Accessor) (w : Str) where
-  pub ran_generated : Ran s id place accessor w → Generated s id place accessor w
+  pub ran_generated : (x : Ran s id place accessor w) → Generated s id place accessor x.state.level w
   ran_generated x =
       answered-holds s id (of_field place accessor) x.buffer x.state x.left x.after x.answered
       ∙ ap gives (sym x.bytes)
@@ -82,17 +95,23 @@ module _ (s : Str) (id place : ℕ) (accessor : Accessor) (w : Str) where
   abbrev room : Str
   room = replicate (length w) 0
 
-  generated-ran : Generated s id place accessor w → Ran s id place accessor w
-  generated-ran e =
+  generated-ran : (level : ℕ) → level ≤ 8 → Generated s id place accessor level w → Ran s id place accessor w
+  generated-ran level low e =
       let n : length room ≡ length w = length-replicate (length w) 0 in
       record {
         buffer = room;
-        state = state_at 0;
+        state = state_at_level 0 level;
         left = text.placed room 0 w;
-        after = state_at (0 + length w);
-        answered = rw e (done-placed room 0 w (omega arith));
+        after = state_at_level (0 + length w) level;
+        answered = rw e (done-placed room (state_at_level 0 level) w (omega arith) low);
         bytes = sym (placed-between room 0 w (omega arith));
       }
 
 pub ran_holds : RanHolds
-ran_holds s id place accessor w = (ran_generated s id place accessor w, generated-ran s id place accessor w)
+ran_holds s id place accessor w = (
+  λ x. (
+    x.state.level,
+    ((done-allowed x.buffer x.state _ x.left x.after x.answered).1, ran_generated s id place accessor w x),
+  ),
+  generated-ran s id place accessor w,
+)

@@ -1,14 +1,17 @@
 -- The claims, from what runs of the entry left: the bytes are a text that `codegen` gives, for the slot that stands at the place.
--- Set and get follows from what a setter alone leaves and what a getter alone answers. Assumes nothing.
+-- At a level above 0 it does what that at level 0 does. Set and get follows from what a setter alone leaves and what a getter
+-- alone answers. Assumes nothing.
 use Rattle.std.specs.Prelude.{◌≡◌, ℕ, Bool}
 use mathlib.Core.Path.{refl, sym, ap, ◌∙◌}
 use Rattle.std.specs.Prelude.{Option, None, Some}
 use lib.Bits.{bit_xor}
 use lib.Pow.{pow_pos}
 use Rattle.text.specs.Bytes.{Str}
+use Rattle.names.specs.Names.{camel_to_snake_case}
+use Rattle.tree.specs.Tree.{kind}
 use Rattle.codegen_types.specs.Out.{Out, ok, refused}
 use Rattle.codegen.specs.Getter.{getter_request}
-use Rattle.codegen.specs.Haser.{haser_request}
+use Rattle.codegen.specs.Haser.{generate_haser, haser_request}
 use Rattle.codegen.specs.Setter.{setter_request}
 use Rattle.record.specs.Lines.{Tag}
 use Rattle.record.specs.Masks.{set_mask}
@@ -19,9 +22,12 @@ use Rattle.record.proofs.RecordLaws.{get-past, put-held, null-past}
 use Rattle.meaning.specs.Claims.{TagHolds, void_leaves}
 use Rattle.meaning.specs.Meaning.{run_setter, run_haser}
 use Rattle.meaning.proofs.HaserLaws as meaning
+use Rattle.meaning.proofs.LevelLaws.{setter-alike, getter-alike, haser-alike}
 use Rattle.meaning.proofs.MaskLaws.{slot-size, mask_below, get_mask_bits, expected-holds}
 use Rattle.meaning.proofs.SetLaws as setting
 use Rattle.requests.specs.Requests.{accessor_text, gives, outcome}
+use Rattle.requests.specs.Levels.{tree_laid}
+use Rattle.requests.proofs.LevelLaws.{getter-levels, setter-levels, haser-levels}
 use Rattle.requests.specs.declared.Accessor.{Accessor}
 use Rattle.requests.specs.declared.Accessor.TheVariants.{Getter, Setter, Haser}
 use Rattle.agreement.specs.Slots.{is_explicit, Ran, SlotAt, slot_kind, tag_at, place_at, setter_mask}
@@ -31,6 +37,7 @@ use Rattle.agreement.specs.Claims.{TagPastHolds, HaserPastHolds, NoHaserHolds}
 use Rattle.agreement.proofs.AnsweredLaws.{ran_generated}
 use Rattle.agreement.proofs.GetterLaws.{own_default}
 use Rattle.agreement.proofs.HaserLaws.{opening_of, whole-opening, haser-given, no-haser}
+use Rattle.agreement.proofs.LevelLaws.{Flat, flat}
 use Rattle.agreement.proofs.OutLaws.{ok-is}
 use Rattle.agreement.proofs.AloneLaws.{set-fits, tag_fits-at, own_fits, get-alone, set-alone}
 use Rattle.agreement.proofs.SetterLaws.{GivenVoid, void-given}
@@ -42,41 +49,54 @@ given-ok (ok v) w e = let z : v ≡ w = cc in ap ok z
 given-ok (refused k) w e = cc
 
 module _ {s : Str} {id place : ℕ} (a : SlotAt s id place) where
-  -- the text of an accessor of a slot's field
-  accessor-given : (accessor : Accessor) (w : Str) → Ran s id place accessor w
-      → accessor_text a.tree (a.node, a.field) accessor ≡ ok w
+  -- the text of an accessor of a slot's field, at the level of the run
+  accessor-given : (accessor : Accessor) (w : Str) (x : Ran s id place accessor w)
+      → accessor_text a.tree (a.node, a.field) accessor x.state.level ≡ ok w
   accessor-given accessor w x =
-      given-ok (accessor_text a.tree (a.node, a.field) accessor) w
+      given-ok (accessor_text a.tree (a.node, a.field) accessor x.state.level) w
       (rw (a.is-admitted, a.is_found) at (ran_generated s id place accessor w x))
 
   setter-text : (w : Str) → Ran s id place Setter w
-      → setter_request a.tree a.node.tag_offset a.field.name a.field.discriminant a.slot ≡ ok w
+      → Flat (setter_request a.tree a.node.tag_offset a.field.name a.field.discriminant a.slot) w
   unfolding accessor_text
-  setter-text w e = rw a.is-slot at (accessor-given Setter w e)
+  setter-text w x =
+      flat _ _ (setter-levels a.tree a.node.tag_offset a.field.name a.field.discriminant a.slot) x.state.level w
+      (rw a.is-slot at (accessor-given Setter w x))
 
   pub getter-text : (is_reader is_fn : Bool) (g : Str) → Ran s id place (Getter is_reader is_fn) g
-      → getter_request a.tree a.field.name a.slot is_reader is_fn ≡ ok g
+      → Flat (getter_request a.tree a.field.name a.slot is_reader is_fn) g
   unfolding accessor_text
-  getter-text is_reader is_fn g e = rw a.is-slot at (accessor-given (Getter is_reader is_fn) g e)
+  getter-text is_reader is_fn g x =
+      flat _ _ (getter-levels a.tree a.field.name a.slot is_reader is_fn) x.state.level g
+      (rw a.is-slot at (accessor-given (Getter is_reader is_fn) g x))
 
-  void-text : (w : Str) → slot_kind a ≡ 0 → Ran s id place Setter w → GivenVoid (tag_at a) w
+  void-text : (w : Str) → slot_kind a ≡ 0 → (x : Ran s id place Setter w) → GivenVoid (tag_at a) (setter-text w x).text
   void-text w h x =
-      void-given a.tree a.node.tag_offset a.field.name a.field.discriminant a.slot w (bounds a).named h
-      (setter-text w x)
+      let t = setter-text w x in
+      void-given a.tree a.node.tag_offset a.field.name a.field.discriminant a.slot t.text (bounds a).named h t.is
+
+  haser-given-at : (is_reader : Bool) (h : Str) (x : Ran s id place (Haser is_reader) h)
+      → ok (haser_request a.node.tag_offset a.field.name a.field.discriminant a.slot is_reader x.state.level) ≡ ok h
+  unfolding accessor_text
+  haser-given-at is_reader h x = rw a.is-slot at (accessor-given (Haser is_reader) h x)
 
   haser-text : (is_reader : Bool) (h : Str) → Ran s id place (Haser is_reader) h
-      → haser_request a.node.tag_offset a.field.name a.field.discriminant a.slot is_reader ≡ h
-  unfolding accessor_text
-  haser-text is_reader h e = ok-is (rw a.is-slot at (accessor-given (Haser is_reader) h e))
+      → Flat (λ n. ok (haser_request a.node.tag_offset a.field.name a.field.discriminant a.slot is_reader n)) h
+  haser-text is_reader h x =
+      let name = camel_to_snake_case a.field.name in
+      let ft = generate_haser a.node.tag_offset name a.field.discriminant (kind a.slot.ty) a.slot.offset is_reader in
+      flat _ (ok (tree_laid ft)) (haser-levels a.node.tag_offset a.field.name a.field.discriminant a.slot is_reader)
+      x.state.level h (haser-given-at is_reader h x)
 
 -- ---- a getter alone, a setter alone
 
 pub get_holds : GetHolds
-get_holds s id place a k is_reader is_fn g r h x = get-alone a k h is_reader is_fn g (getter-text a is_reader is_fn g x) r
+get_holds s id place a k is_reader is_fn g r h x =
+    let t = getter-text a is_reader is_fn g x in getter-alike t.alike r ∙ get-alone a k h is_reader is_fn t.text t.is r
 
 pub own_default-holds : OwnDefaultHolds
 own_default-holds s id place a is_reader is_fn g x =
-    sym (own_default a.tree a.field.name a.slot is_reader is_fn g (getter-text a is_reader is_fn g x))
+    let t = getter-text a is_reader is_fn g x in sym (own_default a.tree a.field.name a.slot is_reader is_fn t.text t.is)
 
 -- the default has the slot's width, so that zero bits under it read as the default
 pub default-holds : DefaultHolds
@@ -88,7 +108,7 @@ default-holds s id place a k is_reader is_fn g r h x past =
 
 pub set_holds : SetHolds
 set_holds s id place a k w v r c =
-    set-alone a k c.has-bits c.own_default w (setter-text a w c.setter) v r
+    let t = setter-text a w c.setter in setter-alike t.alike v r ∙ set-alone a k c.has-bits c.own_default t.text t.is v r
 
 pub set_means_holds : SetMeansHolds
 set_means_holds s id place a k w v r c =
@@ -143,7 +163,8 @@ set-get-holds s id place a k w is_reader is_fn g v r c =
 pub void-holds : VoidHolds
 void-holds s id place a w v r h x =
     let setter = void-text a w h x in
-    ap (λ (y : Str). run_setter y v r) setter.text
+    setter-alike (setter-text a w x).alike v r
+    ∙ ap (λ (y : Str). run_setter y v r) setter.text
     ∙ setting.void-holds setter.opening (tag_at a) v r setter.one_line.is (tag_fits-at a)
 
 pub void-set-holds : VoidSetHolds
@@ -152,7 +173,7 @@ void-set-holds s id place a w v r h x tag_long =
     let held = setting.void-set-holds setter.opening (tag_at a) v r setter.one_line.is (tag_fits-at a) tag_long in
     record {
       left = held.left;
-      runs = ap (λ (y : Str). run_setter y v r) setter.text ∙ held.runs;
+      runs = setter-alike (setter-text a w x).alike v r ∙ ap (λ (y : Str). run_setter y v r) setter.text ∙ held.runs;
       same = held.same;
       tagged = held.tagged;
     }
@@ -176,8 +197,10 @@ haser-holds s id place a is_reader h r p hs =
     let to = a.node.tag_offset in
     let name = a.field.name in
     let d = a.field.discriminant in
-    let text = sym (haser-text a is_reader h hs) ∙ haser-given to name d a.slot is_reader p in
-    ap (λ (x : Str). run_haser x r) text
+    let t = haser-text a is_reader h hs in
+    let text = sym (ok-is t.is) ∙ haser-given to name d a.slot is_reader p in
+    haser-alike t.alike r
+    ∙ ap (λ (x : Str). run_haser x r) text
     ∙ meaning.haser-holds (opening_of to name d a.slot is_reader) is_reader (tag_at a) a.slot.offset r
     (whole-opening to name d a.slot is_reader b.named).is
 
@@ -193,5 +216,5 @@ haser-past-holds s id place a is_reader h r p hs past =
 
 pub no-haser-holds : NoHaserHolds
 no-haser-holds s id place a is_reader h p hs =
-    sym (haser-text a is_reader h hs)
-    ∙ no-haser a.node.tag_offset a.field.name a.field.discriminant a.slot is_reader p
+    sym (ok-is (haser-given-at a is_reader h hs))
+    ∙ no-haser a.node.tag_offset a.field.name a.field.discriminant a.slot is_reader p hs.state.level

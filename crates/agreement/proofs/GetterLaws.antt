@@ -9,7 +9,7 @@ use mathlib.Core.List.{append-nil}
 use Prim.Native.String.{String}
 use borrow.Author.Tests.{eqb-true}
 use Rattle.text.specs.Bytes.{Str, ascii, unit, cond, same}
-use Rattle.text.specs.Lines.{Line, stringify}
+use Rattle.text.specs.Lines.{Line, margin, stringify}
 use Rattle.tree.specs.Tree.{Ty, plain, enum, kind, Value, Slot, Sheet}
 use Rattle.tree.specs.Read.{has_words}
 use Rattle.codegen_types.specs.Out.{Out, ok, refused, ◌then◌}
@@ -31,9 +31,9 @@ use Rattle.agreement.proofs.OutLaws.{ok-is, then_ok, cond-ok}
 
 -- ---- the steps of getter_text
 
--- the text of what getter_text returns
+-- the text of what getter_text returns, at level 0
 abbrev text_of : codegen.Getter → Str
-text_of g = g.result_type ++ unit 10 ++ stringify g.code ++ declared g.declaration
+text_of g = g.result_type ++ unit 10 ++ stringify g.code 0 ++ declared g.declaration 0
 
 module _ (sheet : Sheet) (name : Str) (s : Slot) (is_reader is_fn : Bool) (g : Str) where
   -- what it returns, from what its steps gave
@@ -72,8 +72,8 @@ module _ (sheet : Sheet) (name : Str) (s : Slot) (is_reader is_fn : Bool) (g : S
   text-is : (x y : codegen.Getter) → ok x ≡ ok y → ok (text_of y) ≡ ok g → text_of x ≡ g
   text-is x y e f = ap (λ (z : codegen.Getter). text_of z) (ok-is e) ∙ ok-is f
 
-  steps : getter_request sheet name s is_reader is_fn ≡ ok g → Steps
-  unfolding getter_request codegen.getter_text
+  steps : getter_request sheet name s is_reader is_fn 0 ≡ ok g → Steps
+  unfolding getter_request codegen.getter_text margin
   steps e =
       let all = then_ok (type_string s.ty sheet (module_leaf is_reader) then after_inner) (λ x. ok (text_of x)) g e in
       let x = all.value in
@@ -104,7 +104,7 @@ module _ (sheet : Sheet) (name : Str) (s : Slot) (is_reader is_fn : Bool) (g : S
       st.fragment st.is-fragment in
       (eqb-true (kind s.ty) s.default.kind t.0, t.1)
 
-  pub own_default : getter_request sheet name s is_reader is_fn ≡ ok g → kind s.ty ≡ s.default.kind
+  pub own_default : getter_request sheet name s is_reader is_fn 0 ≡ ok g → kind s.ty ≡ s.default.kind
   own_default e = (own (steps e)).0
 
 -- ---- slots with bits
@@ -179,10 +179,10 @@ pub record GivenGetter (s : Slot) (k : Kind) (explicit is_reader : Bool) (g : St
 -- the code is one line and there is no declaration
 line-text : (root name : Str) (s : Slot) (is_reader : Bool) (typ : Str) (option : Bool) (fragment : Str) → option ≡ false
     → has_words s.explicit (kind s.ty) ≡ false
-    → typ ++ unit 10 ++ stringify (getter_code s is_reader option fragment) ++ declared (default_declaration root name s)
+    → typ ++ unit 10 ++ stringify (getter_code s is_reader option fragment) 0 ++ declared (default_declaration root name s) 0
     ≡ getter_lines typ fragment
 unfolding getter_lines
-line-text root name s is_reader typ option fragment o w = rw (o, w) (append-nil (typ ++ unit 10 ++ stringify (Line fragment)))
+line-text root name s is_reader typ option fragment o w = rw (o, w) (append-nil (typ ++ unit 10 ++ stringify (Line fragment) 0))
 
 module _ (sheet : Sheet) (clean : Clean sheet) (name : Str) (is_reader is_fn : Bool) (k : Kind) where
   -- the get, and a result type within a line, for a type with this text
@@ -207,7 +207,7 @@ module _ (sheet : Sheet) (clean : Clean sheet) (name : Str) (is_reader is_fn : B
 
   -- the text of a getter that is given
   pub getter-given : (s : Slot) (explicit : Bool) (g : Str) → kind_of (kind s.ty) ≡ Some k
-      → getter_request sheet name s is_reader is_fn ≡ ok g → GivenGetter s k explicit is_reader g
+      → getter_request sheet name s is_reader is_fn 0 ≡ ok g → GivenGetter s k explicit is_reader g
   getter-given s explicit g h e =
       let st = steps sheet name s is_reader is_fn g e in
       let absent = no-option s st.option (no_pointer (kind s.ty) k h) st.is-option in

@@ -24,18 +24,18 @@ module _ (to : ℕ) (name : Str) (d : ℕ) (s : Slot) (is_reader : Bool) where
   whole-opening w = fixed "pub fn has_" refl ⊹ whole_camel name w ⊹ fixed "(&self) -> bool {" refl
 
   pub haser-given : is_pointer s.ty ≡ true
-      → haser_request to name d s is_reader ≡ haser_text opening_of is_reader (tag_of to d) s.offset
+      → haser_request to name d s is_reader 0 ≡ haser_text opening_of is_reader (tag_of to d) s.offset
   unfolding haser_request generate_haser function_text
   haser-given h = rw h (go (eqb d 65535))
     where
       go : (b : Bool)
           → stringify (Branch (function opening_of
           (cond b (Line (not_null is_reader s.offset) & no_more)
-          (Line (tag_test is_reader to d) & Line (not_null is_reader s.offset) & no_more)) no_more))
+          (Line (tag_test is_reader to d) & Line (not_null is_reader s.offset) & no_more)) no_more)) 0
           ≡ function_text opening_of (haser_body is_reader (cond b None (Some (to, d))) s.offset)
       go true = refl
       go false = refl
 
-  pub no-haser : is_pointer s.ty ≡ false → haser_request to name d s is_reader ≡ unit 10
+  pub no-haser : is_pointer s.ty ≡ false → (level : ℕ) → haser_request to name d s is_reader level ≡ unit 10
   unfolding haser_request generate_haser to_lines flat_map
-  no-haser h = rw h (stringify-none (Branch no_more) refl)
+  no-haser h level = rw h (stringify-none (Branch no_more) level refl)

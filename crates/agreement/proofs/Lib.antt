@@ -7,5 +7,6 @@ pub mod SheetLaws
 pub mod SetterLaws
 pub mod AloneLaws
 pub mod HaserLaws
+pub mod LevelLaws
 pub mod ClaimLaws
 pub mod Examples

@@ -144,32 +144,32 @@ whole-opening n p t =
 
 -- its lines
 function-lines : (root : Str) (to d : ℕ) (name param typ : Str) (interior : FormattedTexts)
-    → stringify (setter_functions root to name d (setter_only param interior typ))
+    → stringify (setter_functions root to name d (setter_only param interior typ)) 0
     ≡ function_text (opening_of name param typ) (tag_then (tag_of to d) interior)
 unfolding function_text
 function-lines root to d name param typ interior = go (eqb d 65535)
   where
     go : (b : Bool)
-        → stringify (Branch (function (opening_of name param typ) (cond b interior (Line (set_tag to d) & interior)) no_more))
+        → stringify (Branch (function (opening_of name param typ) (cond b interior (Line (set_tag to d) & interior)) no_more)) 0
         ≡ function_text (opening_of name param typ) (tag_then (cond b None (Some (to, d))) interior)
     go true = refl
     go false = refl
 
 module _ (sheet : Sheet) (to : ℕ) (name : Str) (d : ℕ) (s : Slot) (w : Str) where
   -- where there is a text, the match over the slot's type gave its parts
-  parts-given : setter_request sheet to name d s ≡ ok w
+  parts-given : setter_request sheet to name d s 0 ≡ ok w
       → (p : Parts) × (setter_parts sheet s s.ty ≡ ok p) × (stringify (setter_functions sheet.root to
-      (camel_to_snake_case name) d p) ≡ w)
+      (camel_to_snake_case name) d p) 0 ≡ w)
   unfolding setter_request generate_setter
   parts-given e =
       let lines : Parts → Out FormattedText = λ p. ok (setter_functions sheet.root to (camel_to_snake_case name) d p) in
-      let all = then_ok (setter_parts sheet s s.ty then lines) (λ ft. ok (stringify ft)) w e in
+      let all = then_ok (setter_parts sheet s s.ty then lines) (λ ft. ok (stringify ft 0)) w e in
       let p = then_ok (setter_parts sheet s s.ty) lines all.value all.first in
-      (p.value, p.first, ap (λ (ft : FormattedText). stringify ft) (ok-is p.rest) ∙ ok-is all.rest)
+      (p.value, p.first, ap (λ (ft : FormattedText). stringify ft 0) (ok-is p.rest) ∙ ok-is all.rest)
 
   -- the text of a setter that is given
   pub setter-given : Clean sheet → (k : Kind) → Whole name → kind_of (kind s.ty) ≡ Some k → kind s.ty ≡ s.default.kind
-      → s.explicit < 2 → setter_request sheet to name d s ≡ ok w → GivenSetter s k (tag_of to d) w
+      → s.explicit < 2 → setter_request sheet to name d s 0 ≡ ok w → GivenSetter s k (tag_of to d) w
   setter-given clean k named h same flag e =
       let (p, is, text) = parts-given e in
       let x =
@@ -182,12 +182,12 @@ module _ (sheet : Sheet) (to : ℕ) (name : Str) (d : ℕ) (s : Slot) (w : Str) 
         one_line = whole-opening (whole_camel name named) (fixed "value" refl) x.one_line;
         text =
             sym text
-            ∙ ap (λ (p : Parts). stringify (setter_functions sheet.root to snake d p)) (sym x.parts)
+            ∙ ap (λ (p : Parts). stringify (setter_functions sheet.root to snake d p) 0) (sym x.parts)
             ∙ function-lines sheet.root to d snake (ascii "value") x.typ (line_alone line);
       }
 
   -- and of a Void slot's
-  pub void-given : Whole name → kind s.ty ≡ 0 → setter_request sheet to name d s ≡ ok w → GivenVoid (tag_of to d) w
+  pub void-given : Whole name → kind s.ty ≡ 0 → setter_request sheet to name d s 0 ≡ ok w → GivenVoid (tag_of to d) w
   void-given named h e =
       let (p, is, text) = parts-given e in
       let snake = camel_to_snake_case name in
@@ -196,6 +196,6 @@ module _ (sheet : Sheet) (to : ℕ) (name : Str) (d : ℕ) (s : Slot) (w : Str) 
         one_line = whole-opening (whole_camel name named) (fixed "_value" refl) (fixed "()" refl);
         text =
             sym text
-            ∙ ap (λ (p : Parts). stringify (setter_functions sheet.root to snake d p)) (sym (void-parts sheet s s.ty p h is))
+            ∙ ap (λ (p : Parts). stringify (setter_functions sheet.root to snake d p) 0) (sym (void-parts sheet s s.ty p h is))
             ∙ function-lines sheet.root to d snake (ascii "_value") (ascii "()") no_more;
       }

@@ -1,6 +1,7 @@
--- What is claimed of the texts of a slot's accessors, each as a run of the entry left it: a getter alone, a setter alone, set and
--- then get, the Void setter, hasers. `expected` (crate meaning) is v but for document 01's two exceptions. Assumes nothing.
-use Rattle.std.specs.Prelude.{◌≡◌, ℕ, ◌^◌, ◌<◌, Bool, true, false, not, ◌⊎◌, ◌==◌, Ok}
+-- What is claimed of the texts of a slot's accessors, each as a run of the entry left it, at any level: a getter alone, a setter
+-- alone, set and then get, the Void setter, hasers. `expected` (crate meaning) is v but for document 01's two exceptions. Assumes
+-- nothing.
+use Rattle.std.specs.Prelude.{◌≡◌, ℕ, ◌^◌, ◌<◌, ◌≤◌, Bool, true, false, not, ◌⊎◌, ◌==◌, Ok}
 use Rattle.std.specs.Prelude.{Option, None, Some}
 use Rattle.text.specs.Bytes.{Str, both, unit}
 use Rattle.text.specs.declared.Text.{Text}
@@ -25,15 +26,15 @@ use Rattle.agreement.specs.Slots.{expected_at}
 abbrev pub AnsweredHolds : Type 0
 AnsweredHolds =
     (s : Str) (id : ℕ) (asked : Option Request) (l : Str) (t : Text) (l' : Str) (t' : Text)
-    → Answered l t (outcome_of (admitted s) id asked) l' (Ok t')
-    → outcome_of (admitted s) id asked ≡ gives (bytes_between t.at t'.at l')
+    → Answered l t (outcome_of (admitted s) id asked t.level) l' (Ok t')
+    → outcome_of (admitted s) id asked t.level ≡ gives (bytes_between t.at t'.at l')
 
--- what a run of the entry left is what is generated, and what is generated some run leaves
+-- what a run of the entry left is what is generated at a level from 0 to 8, and what is generated there some run leaves
 abbrev pub RanHolds : Type 0
 RanHolds =
     (s : Str) (id place : ℕ) (accessor : Accessor) (w : Str)
-    → (Ran s id place accessor w → Generated s id place accessor w)
-    × (Generated s id place accessor w → Ran s id place accessor w)
+    → (Ran s id place accessor w → (level : ℕ) × ((level ≤ 8) × Generated s id place accessor level w))
+    × ((level : ℕ) → level ≤ 8 → Generated s id place accessor level w → Ran s id place accessor w)
 
 -- ---- a getter alone
 
@@ -55,8 +56,8 @@ DefaultHolds =
 -- a slot with a getter has a V line of its T line's kind
 abbrev pub OwnDefaultHolds : Type 0
 OwnDefaultHolds =
-    (s : Str) (id place : ℕ) (a : SlotAt s id place) (is_reader is_fn : Bool) (g : Str) → Ran s id place (Getter is_reader is_fn) g
-    → OwnDefault a
+    (s : Str) (id place : ℕ) (a : SlotAt s id place) (is_reader is_fn : Bool) (g : Str)
+    → Ran s id place (Getter is_reader is_fn) g → OwnDefault a
 
 -- ---- a setter alone
 

@@ -16,22 +16,22 @@ use Rattle.requests.specs.Requests.{field_at, of_field, gives, outcome_of}
 use Rattle.requests.specs.Told.{Answered}
 use Rattle.requests.specs.declared.Accessor.{Accessor}
 
--- generated: the request for an accessor gets a text, given room
-abbrev pub Generated : Str → ℕ → ℕ → Accessor → Str → Type 0
-Generated s id place accessor w = outcome_of (admitted s) id (of_field place accessor) ≡ gives w
+-- generated: the request for an accessor gets a text at a level, given room
+abbrev pub Generated : Str → ℕ → ℕ → Accessor → ℕ → Str → Type 0
+Generated s id place accessor level w = outcome_of (admitted s) id (of_field place accessor) level ≡ gives w
 
 -- the bytes of a buffer from one fill count up to another
 abbrev pub bytes_between : ℕ → ℕ → Str → Str
 bytes_between from upto l = take (upto - from) (drop from l)
 
--- w are the answered bytes of an accessor: a run of the entry, over any buffer and at any state, is done and left them between
--- its two fill counts
+-- w are the answered bytes of an accessor: a run of the entry, over any buffer and at any state of any level, is done and left
+-- them between its two fill counts
 pub record Ran (s : Str) (id place : ℕ) (accessor : Accessor) (w : Str) : Type 0 where
   pub buffer : Str
   pub state : Text
   pub left : Str
   pub after : Text
-  pub answered : Answered buffer state (outcome_of (admitted s) id (of_field place accessor)) left (Ok after)
+  pub answered : Answered buffer state (outcome_of (admitted s) id (of_field place accessor) state.level) left (Ok after)
   pub bytes : w ≡ bytes_between state.at after.at left
 
 -- a tag: none where the discriminant is 65535, else the 16 bits at the node's tag offset

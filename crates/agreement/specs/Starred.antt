@@ -9,7 +9,7 @@ use Rattle.std.specs.Prelude.{Option, None, Some}
 use Rattle.text.specs.Bytes.{Str, ascii, same}
 use Rattle.text.specs.Decimal.{decimal, signed}
 use Rattle.text.specs.Lines as lines
-use Rattle.text.specs.Lines.{Indent, Branch, Line, BlankLine, to_lines, flat_map, join, stringify, ended}
+use Rattle.text.specs.Lines.{Indent, Branch, Line, BlankLine, margin, to_lines, flat_map, join, stringify, ended}
 use Rattle.names.specs.Keywords as keywords
 use Rattle.names.specs.Keywords.{is_keyword}
 use Rattle.names.specs.Names.{taken, snake_from, camel_to_snake_case, default_name, module_name}
@@ -90,9 +90,12 @@ abbrev text : Outcome → Str
 text (gives s) = s
 text (refuses k line column) = ascii "refused " ++ decimal k
 
--- the text of an accessor of the bed's field at a place
+-- the text of an accessor of the bed's field at a place, at a level
+abbrev asked_at : ℕ → ℕ → Accessor → Str
+asked_at level place accessor = text (outcome_of (admitted bytes) 7 (of_field place accessor) level)
+
 abbrev asked : ℕ → Accessor → Str
-asked place accessor = text (outcome_of (admitted bytes) 7 (of_field place accessor))
+asked = asked_at 0
 
 -- a getter of a reader that is no function
 abbrev getter : Accessor
@@ -172,9 +175,9 @@ table =
     -- Void getter as function: empty result type, then one empty line
     ∷ row_of (asked 7 (Getter true true)) ("" ∷ "" ∷ [])
     -- a blank `Line` at indent 1, `BlankLine`, `stringify` of no lines, a haser of Bool
-    ∷ row_of (stringify (Indent (Line []))) ("    " ∷ [])
-    ∷ row_of (stringify BlankLine) ("" ∷ [])
-    ∷ row_of (stringify (Branch lines.none)) ("" ∷ [])
+    ∷ row_of (stringify (Indent (Line [])) 0) ("    " ∷ [])
+    ∷ row_of (stringify BlankLine 0) ("" ∷ [])
+    ∷ row_of (stringify (Branch lines.none) 0) ("" ∷ [])
     ∷ row_of (asked 0 (Haser true)) ("" ∷ [])
     -- a Struct initializer named ward
     ∷ row_of (asked 8 Setter)
@@ -193,7 +196,18 @@ table =
     ∷ row_of (asked 11 Zeroing)
     ("self.builder.set_data_field::<u16>(4, 0u16);" ∷ "self.builder.set_data_field::<u16>(4, 0u16);" ∷ [])
     -- GetType of a struct with module bed and no parameters
-    ∷ row (text (outcome_of (admitted bytes) 7 (of_field 1 (TypeText (leaf_of 9))))) "bed::get_type::"
+    ∷ row (asked 1 (TypeText (leaf_of 9))) "bed::get_type::"
+    -- at a level, which is request N14 of document 02: every line is moved in, an empty one too, and no lines stay one newline
+    ∷ row_of (asked_at 1 7 (Getter true true)) ("    " ∷ "    " ∷ [])
+    ∷ row_of (asked_at 2 2 Setter)
+    ("        #[inline]"
+    ∷ "        pub fn set_rank(&mut self, value: i8)  {"
+    ∷ "            self.builder.set_data_field_mask::<i8>(2, value, -5);"
+    ∷ "        }" ∷ [])
+    ∷ row_of (asked_at 1 11 Zeroing)
+    ("    self.builder.set_data_field::<u16>(4, 0u16);" ∷ "    self.builder.set_data_field::<u16>(4, 0u16);" ∷ [])
+    ∷ row_of (asked_at 8 0 (Haser true)) ("" ∷ [])
+    ∷ row (asked_at 2 1 (TypeText (leaf_of 4))) "        bed::Owned"
     ∷ []
 
 -- every row's text is what it must be
@@ -206,8 +220,8 @@ unfolding table same keywords.is_one_of is_keyword are_chars taken snake_from ca
     scope_line unbound_line value_line word_line most_a most_b most_c most_count most_bits column_of unpadded digits trimmed
     is_graphic_text is_name is_field_name all is_graphic is_word ends_in leaf_of field_at by_id nth type_text accessor_text
     type_string scopes_of node_of types.scope_of arguments_of accumulate outermost_first angled do_branding to_lines flat_map
-    join stringify ended signed get_data_field set_data_field prim_default getter_mask getter_text getter_request generate_haser
-    haser_request generate_setter setter_request zero_line contains zero_fields zero_fields_of_group zeroing_request found
-    stored get_bits put_bits type_name truth get_mask_of set_mask_of data_arg writes gets gets_in run_op run_line run_lines
-    run_setter run_getter
+    margin join stringify ended signed get_data_field set_data_field prim_default getter_mask getter_text getter_request
+    generate_haser haser_request generate_setter setter_request zero_line contains zero_fields zero_fields_of_group
+    zeroing_request found stored get_bits put_bits type_name truth get_mask_of set_mask_of data_arg writes gets gets_in run_op
+    run_line run_lines run_setter run_getter
 starred = refl

@@ -31,22 +31,22 @@ use Rattle.agreement_zeroing.proofs.GroupLaws.{Given, Covers, Due, group-covers}
 use Rattle.agreement_zeroing.proofs.InsideLaws.{due-inside}
 use Rattle.agreement_zeroing.proofs.TextLaws.{holds-zeros, spares_bit, spares_pointer}
 
--- a zeroing text of a group, the code that it is of, and a record that is long enough for it
+-- a zeroing text of a group at level 0, the code that it is of, and a record that is long enough for it
 pub record Run (s : Str) (g : ℕ) (w : Str) (r : Record) : Type 0 where
   pub tree : Sheet
   pub is-admitted : admitted s ≡ sheet tree
   pub code : FormattedTexts
-  pub text : w ≡ stringify (Branch code)
+  pub text : w ≡ stringify (Branch code) 0
   pub covers : Covers (Due tree.nodes g) [] code
   pub long : LongEnough w r
 
-pub run_of : (s : Str) (tree : Sheet) → admitted s ≡ sheet tree → (g : ℕ) (w : Str) → zeroing_request tree g ≡ ok w
+pub run_of : (s : Str) (tree : Sheet) → admitted s ≡ sheet tree → (g : ℕ) (w : Str) → zeroing_request tree g 0 ≡ ok w
     → (r : Record) → LongEnough w r → Run s g w r
 unfolding zeroing_request
 run_of s tree is g w e r long = go (zero_fields_of_group tree 16 g) (group-covers tree 16 g) e
   where
     go : (o : Out Zeroing) → Given o (λ z. Covers (Due tree.nodes g) [] z.result)
-        → (o then λ z. ok (stringify (Branch z.result))) ≡ ok w → Run s g w r
+        → (o then λ z. ok (stringify (Branch z.result) 0)) ≡ ok w → Run s g w r
     go (ok z) c e = record { tree = tree; is-admitted = is; code = z.result; text = cc; covers = c; long = long }
     go (refused k) c e = cc
 

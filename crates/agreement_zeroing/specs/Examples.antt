@@ -7,7 +7,7 @@ use Rattle.std.proofs.Common.{arith}
 use Rattle.text.specs.Bytes.{Str, ascii, same}
 use Rattle.text.specs.Answer as text
 use Rattle.text.specs.Decimal.{decimal}
-use Rattle.text.specs.Lines.{to_lines, flat_map, join, stringify}
+use Rattle.text.specs.Lines.{margin, to_lines, flat_map, join, stringify}
 use Rattle.names.specs.Names.{taken, snake_from, camel_to_snake_case}
 use Rattle.tree.specs.Tree.{plain, enum, end, slot, group, Field, Node, Sheet}
 use Rattle.column.specs.Number.{trimmed, digits, unpadded, column_of, padded}
@@ -127,9 +127,9 @@ zero_text =
 
 zeroing_ran : Ran ward_bytes 1 0 Zeroing zero_text
 unfolding requests.field_at by_id nth accessor_text zeroing_request zero_fields_of_group zero_fields zero_line contains
-    types.node_of same stringify join to_lines flat_map decimal set_bool_field set_data_field clear_pointer text.answer_of
-    text.buffer_of text.placed
-zeroing_ran = ran_of ward_bytes 1 0 Zeroing zero_text (rw ward-read refl) refl
+    types.node_of same stringify join to_lines flat_map decimal set_bool_field set_data_field clear_pointer margin
+    requests.state_refusal text.answer_of text.buffer_of text.placed
+zeroing_ran = ran_of ward_bytes 1 0 Zeroing 0 zero_text (rw ward-read refl) refl
 
 -- six bytes, of which those of the bed's tag are zero, and two pointers that are not null; the state's tag is past the end
 abbrev before : Record
@@ -163,8 +163,9 @@ status_text =
 
 status_ran : Ran ward_bytes 3 0 (Getter true false) status_text
 unfolding requests.field_at by_id nth accessor_text getter_request getter_text type_string types.node_of getter_mask
-    get_data_field decimal stringify join to_lines flat_map text.answer_of text.buffer_of text.placed
-status_ran = ran_of ward_bytes 3 0 (Getter true false) status_text (rw ward-read refl) refl
+    get_data_field decimal stringify join to_lines flat_map margin requests.state_refusal text.answer_of text.buffer_of
+    text.placed
+status_ran = ran_of ward_bytes 3 0 (Getter true false) 0 status_text (rw ward-read refl) refl
 
 -- the pointer slot, and its haser
 note_slot : SlotAt ward_bytes 2 1
@@ -187,8 +188,9 @@ note_text =
 
 note_ran : (is_pointer note_slot.slot.ty ≡ true) × Ran ward_bytes 2 1 (Haser true) note_text
 unfolding note_slot requests.field_at by_id nth accessor_text haser_request generate_haser camel_to_snake_case taken are_chars
-    snake_from not_null tag_test decimal stringify join to_lines flat_map text.answer_of text.buffer_of text.placed
-note_ran = (refl, ran_of ward_bytes 2 1 (Haser true) note_text (rw ward-read refl) refl)
+    snake_from not_null tag_test decimal stringify join to_lines flat_map margin requests.state_refusal text.answer_of
+    text.buffer_of text.placed
+note_ran = (refl, ran_of ward_bytes 2 1 (Haser true) 0 note_text (rw ward-read refl) refl)
 
 -- ---- what is left
 
@@ -209,10 +211,10 @@ says r (gives t) = run_haser t r
 says r (refuses k line column) = None
 
 abbrev get : Record → ℕ → ℕ → Bool → Bool → Option ℕ
-get r id place is_reader is_fn = reads r (outcome_of (sheet ward) id (of_field place (Getter is_reader is_fn)))
+get r id place is_reader is_fn = reads r (outcome_of (sheet ward) id (of_field place (Getter is_reader is_fn)) 0)
 
 abbrev has : Record → ℕ → ℕ → Option Bool
-has r id place = says r (outcome_of (sheet ward) id (of_field place (Haser true)))
+has r id place = says r (outcome_of (sheet ward) id (of_field place (Haser true)) 0)
 
 -- rank in two forms, status and isFree: not their defaults before, their defaults after
 defaults-read :
@@ -220,8 +222,8 @@ defaults-read :
     × (get after 2 0 true false ≡ Some 7) × (get after 2 0 false true ≡ Some 7) × (get after 3 0 true false ≡ Some 2)
     × (get after 3 1 false false ≡ Some 1)
 unfolding requests.field_at by_id nth accessor_text getter_request getter_text type_string types.node_of getter_mask
-    get_bool_field get_data_field decimal stringify join to_lines flat_map same found get_bits type_name truth get_mask_of gets
-    gets_in run_getter
+    get_bool_field get_data_field decimal margin stringify join to_lines flat_map same found get_bits type_name truth
+    get_mask_of gets gets_in run_getter
 defaults-read = (refl, refl, refl, refl, refl, refl, refl)
 
 -- note and memo are there before, and absent after

@@ -1,12 +1,12 @@
 -- Laws of masks and of a haser's lines. Assumes nothing.
-use Rattle.std.specs.Prelude.{◌≡◌, ℕ, ◌*◌, ◌<◌, ◌≤◌, Bool, true, false, eqb, leb, [], ◌++◌}
+use Rattle.std.specs.Prelude.{◌≡◌, ℕ, ◌+◌, ◌<◌, ◌≤◌, Bool, true, false, eqb, leb, [], ◌++◌}
 use mathlib.Core.Path.{refl, sym, ap, ◌∙◌}
 use Rattle.std.specs.Prelude.{Option}
-use mathlib.Core.List.{append_assoc}
+use mathlib.Core.List.{append_assoc, append-nil}
 use native.Mathlib.Omega.{arith}
 use borrow.Author.Tests.{ne_eqb, eqb-false, le-leb, lt-leb, leb-false}
 use Rattle.text.specs.Bytes.{Str, ascii, unit, cond, both}
-use Rattle.text.specs.Lines.{FormattedTexts, Branch, Line, none, ◌&◌, spaces, to_lines, flat_map, stringify, ended}
+use Rattle.text.specs.Lines.{FormattedTexts, Branch, Line, none, ◌&◌, margin, broken, to_lines, flat_map, stringify, ended}
 use Rattle.text.proofs.LinesLaws.{ended_append, stringify-lines}
 use Rattle.names.specs.Names.{camel_to_snake_case}
 use Rattle.codegen_types.specs.Out.{Out, ok, refused}
@@ -52,31 +52,34 @@ module _ (k b : ℕ) where
 -- a line, or none, in front of more lines
 pub line-or-none : (absent : Bool) (indent : ℕ) (l : Str) (more : FormattedTexts)
     → ended (flat_map (cond absent more (Line l & more)) indent)
-    ≡ cond absent [] (spaces (indent * 4) ++ l ++ unit 10) ++ ended (flat_map more indent)
-unfolding to_lines flat_map ended
+    ≡ cond absent [] (margin indent ++ l ++ unit 10) ++ ended (flat_map more indent)
+unfolding to_lines flat_map ended margin
 line-or-none true indent l more = refl
-line-or-none false indent l more = sym (append_assoc (spaces (indent * 4) ++ l) (unit 10) (ended (flat_map more indent)))
+line-or-none false indent l more = sym (append_assoc (margin indent ++ l) (unit 10) (ended (flat_map more indent)))
 
 -- a function and more lines
-pub function-lines : (head : Str) (interior more : FormattedTexts)
-    → ended (flat_map (function head interior more) 0)
-    ≡ ascii "#[inline]\n" ++ (head ++ unit 10 ++ ended (flat_map interior 1) ++ (ascii "}\n" ++ ended (flat_map more 0)))
-unfolding to_lines flat_map ended
-function-lines head interior more =
-    ap (λ (x : Str). ascii "#[inline]\n" ++ x)
-    (ap (λ (x : Str). head ++ (unit 10 ++ x))
-    (ended_append (flat_map interior 1) (to_lines (Line (ascii "}")) 0 ++ flat_map more 0))
-    ∙ joined head (unit 10) (ended (flat_map interior 1)) (ascii "}\n" ++ ended (flat_map more 0)))
+pub function-lines : (head : Str) (interior more : FormattedTexts) (level : ℕ)
+    → ended (flat_map (function head interior more) level)
+    ≡ margin level ++ ascii "#[inline]\n" ++ (margin level ++ head ++ unit 10 ++ ended (flat_map interior (level + 1))
+    ++ (margin level ++ ascii "}\n" ++ ended (flat_map more level)))
+unfolding to_lines flat_map ended margin
+function-lines head interior more level =
+    ap (λ (x : Str). (margin level ++ ascii "#[inline]") ++ (unit 10 ++ ((margin level ++ head) ++ (unit 10 ++ x))))
+    (ended_append (flat_map interior (level + 1)) (to_lines (Line (ascii "}")) level ++ flat_map more level))
+    ∙ joined (margin level) (ascii "#[inline]") (unit 10) head (ended (flat_map interior (level + 1))) (ascii "}")
+    (ended (flat_map more level))
   where
-    joined : (a b c d : Str) → a ++ (b ++ (c ++ d)) ≡ a ++ b ++ c ++ d
-    joined a b c d = simp append_assoc
+    joined : (m i n a b c d : Str)
+        → (m ++ i) ++ (n ++ ((m ++ a) ++ (n ++ (b ++ ((m ++ c) ++ (n ++ d))))))
+        ≡ m ++ (i ++ n) ++ (m ++ a ++ n ++ b ++ (m ++ (c ++ n) ++ d))
+    joined m i n a b c d = simp append_assoc
 
 -- `stringify` of a branch that begins with a function
-pub function-text : (head : Str) (interior more : FormattedTexts)
-    → stringify (Branch (function head interior more)) ≡ ended (flat_map (function head interior more) 0)
+pub function-text : (head : Str) (interior more : FormattedTexts) (level : ℕ)
+    → stringify (Branch (function head interior more)) level ≡ ended (flat_map (function head interior more) level)
 unfolding to_lines flat_map
-function-text head interior more =
-    stringify-lines (Branch (function head interior more)) (λ e. let z : ◌≡◌ {A = ℕ} 0 1 = cc in omega arith)
+function-text head interior more level =
+    stringify-lines (Branch (function head interior more)) level (λ e. let z : ◌≡◌ {A = ℕ} 0 1 = cc in omega arith)
 
 -- ---- a haser
 
@@ -85,23 +88,25 @@ pub haser-none : (tag : ℕ) (name : Str) (d k offset : ℕ) (is_reader : Bool) 
 unfolding generate_haser
 haser-none tag name d k offset is_reader h = rw h refl
 
-haser-join : (i p name q n line sp last e : Str)
-    → i ++ (p ++ name ++ q ++ n ++ (line ++ ((sp ++ last) ++ n)) ++ e)
-    ≡ (i ++ p) ++ name ++ (q ++ n) ++ line ++ sp ++ last ++ (n ++ e)
-haser-join i p name q n line sp last e = simp append_assoc
+haser-join : (m i p name q n line sp last e : Str)
+    → m ++ i ++ (m ++ (p ++ name ++ q) ++ n ++ (line ++ (sp ++ last ++ n)) ++ (m ++ e ++ []))
+    ≡ m ++ (i ++ (m ++ p)) ++ name ++ (q ++ n) ++ line ++ sp ++ last ++ (n ++ (m ++ e))
+haser-join m i p name q n line sp last e = simp (append_assoc, append-nil)
 
-pub haser-lines : (tag : ℕ) (name : Str) (d k offset : ℕ) (is_reader : Bool) → is_pointer_kind k ≡ true
-    → haser_of tag name d k offset is_reader
-    ≡ ascii "#[inline]\npub fn has_" ++ camel_to_snake_case name ++ ascii "(&self) -> bool {\n" ++ tag_test_line is_reader tag d
-    ++ ascii "    "
-    ++ not_null is_reader offset ++ ascii "\n}\n"
-unfolding generate_haser to_lines flat_map ended
-haser-lines tag name d k offset is_reader h =
+pub haser-lines : (tag : ℕ) (name : Str) (d k offset : ℕ) (is_reader : Bool) → is_pointer_kind k ≡ true → (level : ℕ)
+    → margin level ++ broken (ascii "#[inline]\npub fn has_") level ++ camel_to_snake_case name ++ ascii "(&self) -> bool {\n"
+    ++ tag_test_line is_reader tag d level ++ margin (level + 1) ++ not_null is_reader offset ++ broken (ascii "\n}\n") level
+    ≡ haser_of tag name d k offset is_reader level
+unfolding generate_haser broken ended to_lines flat_map margin
+haser-lines tag name d k offset is_reader h level =
     let last : FormattedTexts = Line (not_null is_reader offset) & none in
     let head : Str = ascii "pub fn has_" ++ camel_to_snake_case name ++ ascii "(&self) -> bool {" in
     rw h
-    (function-text head (tag_tests is_reader tag d last) none ∙ function-lines head (tag_tests is_reader tag d last) none
-    ∙ ap (λ (x : Str). ascii "#[inline]\n" ++ (head ++ unit 10 ++ x ++ ascii "}\n"))
-    (line-or-none (eqb d 65535) 1 (tag_test is_reader tag d) last)
-    ∙ haser-join (ascii "#[inline]\n") (ascii "pub fn has_") (camel_to_snake_case name) (ascii "(&self) -> bool {") (unit 10)
-    (tag_test_line is_reader tag d) (ascii "    ") (not_null is_reader offset) (ascii "}\n"))
+    (sym (function-text head (tag_tests is_reader tag d last) none level
+    ∙ function-lines head (tag_tests is_reader tag d last) none level
+    ∙ ap (λ (x : Str). margin level ++ ascii "#[inline]\n" ++ (margin level ++ head ++ unit 10 ++ x
+    ++ (margin level ++ ascii "}\n" ++ [])))
+    (line-or-none (eqb d 65535) (level + 1) (tag_test is_reader tag d) last)
+    ∙ haser-join (margin level) (ascii "#[inline]\n") (ascii "pub fn has_") (camel_to_snake_case name)
+    (ascii "(&self) -> bool {") (unit 10)
+    (tag_test_line is_reader tag d level) (margin (level + 1)) (not_null is_reader offset) (ascii "}\n")))

@@ -5,7 +5,7 @@ use Rattle.std.specs.Prelude.{Option, None, Some}
 use Rattle.text.specs.Bytes.{Str, ascii, unit, cond, both, same}
 use Rattle.text.specs.Decimal.{decimal}
 use Rattle.text.specs.Lines as lines
-use Rattle.text.specs.Lines.{FormattedText, Indent, Branch, Line, ◌&◌, stringify}
+use Rattle.text.specs.Lines.{FormattedText, Indent, Branch, Line, ◌&◌, margin, stringify}
 use Rattle.names.specs.Names.{default_name}
 use Rattle.tree.specs.Tree.{Ty, kind, Slot, Sheet}
 use Rattle.tree.specs.Read.{has_words}
@@ -150,12 +150,12 @@ getter_text sheet name s is_reader is_fn =
       declaration = default_declaration sheet.root name s;
     })
 
-abbrev pub declared : Option FormattedText → Str
-declared None = []
-declared (Some d) = stringify d
+abbrev pub declared : Option FormattedText → ℕ → Str
+declared None level = []
+declared (Some d) level = stringify d level
 
--- the text of a getter's request: the result type, a newline, the code, the declaration if there is one
-unfoldable pub getter_request : Sheet → Str → Slot → Bool → Bool → Out Str
-getter_request sheet name s is_reader is_fn =
+-- the text of a getter's request at a level: the result type, a newline, the code, the declaration if there is one
+unfoldable pub getter_request : Sheet → Str → Slot → Bool → Bool → ℕ → Out Str
+getter_request sheet name s is_reader is_fn level =
     getter_text sheet name s is_reader is_fn then λ g.
-    ok (g.result_type ++ unit 10 ++ stringify g.code ++ declared g.declaration)
+    ok (margin level ++ g.result_type ++ unit 10 ++ stringify g.code level ++ declared g.declaration level)

@@ -23,11 +23,11 @@ generate_haser tag_offset styled_name discriminant k offset is_reader =
     none))
     (Branch none)
 
--- the text of a haser by its field's name
-abbrev pub haser_of : ℕ → Str → ℕ → ℕ → ℕ → Bool → Str
+-- the text of a haser by its field's name, at a level
+abbrev pub haser_of : ℕ → Str → ℕ → ℕ → ℕ → Bool → ℕ → Str
 haser_of tag_offset name discriminant k offset is_reader =
     stringify (generate_haser tag_offset (camel_to_snake_case name) discriminant k offset is_reader)
 
--- the text of a haser's request
-unfoldable pub haser_request : ℕ → Str → ℕ → Slot → Bool → Str
+-- the text of a haser's request at a level
+unfoldable pub haser_request : ℕ → Str → ℕ → Slot → Bool → ℕ → Str
 haser_request tag_offset name discriminant s is_reader = haser_of tag_offset name discriminant (kind s.ty) s.offset is_reader

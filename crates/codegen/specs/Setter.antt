@@ -237,7 +237,7 @@ unfoldable pub generate_setter : Sheet → ℕ → Str → ℕ → Slot → Out 
 generate_setter sheet tag_offset styled_name discriminant s =
     setter_parts sheet s s.ty then λ p. ok (setter_functions sheet.root tag_offset styled_name discriminant p)
 
--- the text of a setter's request
-unfoldable pub setter_request : Sheet → ℕ → Str → ℕ → Slot → Out Str
-setter_request sheet tag_offset name discriminant s =
-    generate_setter sheet tag_offset (camel_to_snake_case name) discriminant s then λ ft. ok (stringify ft)
+-- the text of a setter's request at a level
+unfoldable pub setter_request : Sheet → ℕ → Str → ℕ → Slot → ℕ → Out Str
+setter_request sheet tag_offset name discriminant s level =
+    generate_setter sheet tag_offset (camel_to_snake_case name) discriminant s then λ ft. ok (stringify ft level)

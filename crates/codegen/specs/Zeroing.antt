@@ -67,6 +67,6 @@ zero_fields_of_group sheet (suc left) id =
     node_of sheet.nodes id then λ n.
     cond (n.is_struct == 1) (zero_node (zero_fields_of_group sheet left) n) (refused 14)
 
--- the text of a zeroing's request, for the group with this id
-unfoldable pub zeroing_request : Sheet → ℕ → Out Str
-zeroing_request sheet id = zero_fields_of_group sheet 16 id then λ z. ok (stringify (Branch z.result))
+-- the text of a zeroing's request, for the group with this id, at a level
+unfoldable pub zeroing_request : Sheet → ℕ → ℕ → Out Str
+zeroing_request sheet id level = zero_fields_of_group sheet 16 id then λ z. ok (stringify (Branch z.result) level)

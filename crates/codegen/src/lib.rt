@@ -4,7 +4,7 @@
 ghost use Rattle.std.specs.Prelude.{◌≡◌};
 ghost use Rattle.terms.specs.Kinds.{number_of};
 ghost use Rattle.text.specs.Bytes.{ascii};
-ghost use Rattle.text.specs.Text.{Wrote};
+ghost use Rattle.text.specs.Text.{Wrote, WroteLines};
 ghost use Rattle.calls.specs.Calls.{get_data_field, set_bool_field, set_data_field, zero_data};
 ghost use Rattle.calls.specs.Mask.{argument_text, mask_text};
 ghost use Rattle.codegen.specs.Default.{value, unless, float_zero, prim_default, getter_mask};
@@ -145,29 +145,30 @@ pub fn is_pointer(kind: Kind) -> bool
 
 // A haser's line that tests the tag, where the field has a discriminant: a setter's writes another call.
 fn tag_test_line(tag: u64, discriminant: u64, is_reader: bool, t: Text, buf: &mut [u8]) -> Text
-    ensures { Wrote buf.old t (tag_test_line is_reader tag discriminant) buf.new result }
+    ensures { WroteLines buf.old t (tag_test_line is_reader tag discriminant) buf.new result }
 {
     if discriminant == NO_DISCRIMINANT {
         return t;
     }
-    let t = t.bytes(buf, b"    ");
+    let t = t.inner_margin(buf);
     let t = calls::tag_test(tag, discriminant, is_reader, t, buf);
     t.bytes(buf, b"\n")
 }
 
 // `generate_haser` of a slot, for the name and the tag's offset of its field.
 pub fn haser(name: &[u8], slot: Slot, tag: u64, is_reader: bool, t: Text, buf: &mut [u8]) -> Text
-    ensures { Wrote buf.old t
+    ensures { WroteLines buf.old t
         (haser_of tag name.now slot.discriminant (number_of slot.kind) slot.offset is_reader) buf.new result }
 {
     if !is_pointer(slot.kind) {
         return t.no_lines(buf);
     }
-    let t = t.bytes(buf, b"#[inline]\npub fn has_");
+    let t = t.margin(buf);
+    let t = t.broken(buf, b"#[inline]\npub fn has_");
     let t = names::snake_name(name, t, buf);
     let t = t.bytes(buf, b"(&self) -> bool {\n");
     let t = tag_test_line(tag, slot.discriminant, is_reader, t, buf);
-    let t = t.bytes(buf, b"    ");
+    let t = t.inner_margin(buf);
     let t = calls::not_null(slot.offset, is_reader, t, buf);
-    t.bytes(buf, b"\n}\n")
+    t.broken(buf, b"\n}\n")
 }

@@ -37,7 +37,8 @@ module _ (s l : Str) (fill : ℕ) (t : Text) (at : t ≡ state_at fill) (f : ℕ
       pub pad-long : length l < n → PadTold s l fill l fill 22
       pad-long h =
           told l (refused 22 0 0)
-          (refused_22 l fill (padded_text s) l₀ l₁ t₁ (rw f-is at within) (omega arith) (rw at at measured) (rw end at h))
+          (refused_22 l (state_at fill) (padded_text s) l₀ l₁ t₁ (rw f-is at within) (omega arith) (rw at at measured)
+          (rw end at h))
 
       pub pad-done :
           {l₂ : Str} {t₂ : Text} → n ≤ length l → Wrote l t (padded_text s) l₂ t₂ → (m : ℕ) → m ≡ t₂.at
@@ -45,5 +46,5 @@ module _ (s l : Str) (fill : ℕ) (t : Text) (at : t ≡ state_at fill) (f : ℕ
       pad-done {l₂} {t₂} h written m e =
           rw e
           (told l₂ (done t₂.at)
-          (done-placed l fill (padded_text s) l₀ l₁ t₁ l₂ t₂ (rw f-is at within) room (rw at at measured) (rw end at h)
+          (done-placed l (state_at fill) (padded_text s) l₀ l₁ t₁ l₂ t₂ (rw f-is at within) room (rw at at measured) (rw end at h)
           (rw at at written)))

@@ -26,8 +26,8 @@ use Rattle.field.specs.Field.{ReadsFirst, Fewer, FindsField}
 use Rattle.field.specs.Numbers.{field_size, field_in, with_field}
 use Rattle.field.specs.declared.Field.{Field}
 use Rattle.field.specs.declared.Field.TheVariants as field
-use Rattle.requests.specs.Requests.{there, accessor_text, of_field, Outcome, outcome_of, entry_answer, entry_buffer}
-use Rattle.requests.specs.Told.{in_node}
+use Rattle.requests.specs.Requests.{of_field, Outcome, outcome_of, entry_answer, entry_buffer}
+use Rattle.requests.specs.Told.{text_in}
 use Rattle.requests.specs.declared.Request.{Request}
 use Rattle.requests.specs.declared.Accessor.{Accessor}
 use Rattle.requests.specs.declared.Accessor.TheVariants.{TypeText, Getter, Setter, Haser, Zeroing}
@@ -90,17 +90,17 @@ abbrev pub fill_in : ℕ → text.Answer → ℕ
 fill_in fill (text.done n) = n
 fill_in fill (text.refused k line column) = fill
 
--- what a request answers and leaves of the buffer, over a buffer and a fill count
+-- what a request answers and leaves of the buffer, at a level, over a buffer and a fill count
 pub record Reply : Type 0 where
   pub answer : text.Answer
   pub buffer : Str
 
-unfoldable pub reply_of : Outcome → Str → ℕ → Reply
-reply_of o l fill = record { answer = entry_answer l fill o; buffer = entry_buffer l fill o }
+unfoldable pub reply_of : Outcome → ℕ → Str → ℕ → Reply
+reply_of o level l fill = record { answer = entry_answer l fill level o; buffer = entry_buffer l fill level o }
 
--- a request of a node, over a sheet
-abbrev pub ask : Admitted → ℕ → Option Request → Str → ℕ → Reply
-ask a id request = reply_of (outcome_of a id request)
+-- a request of a node at a level, over a sheet
+abbrev pub ask : Admitted → ℕ → Option Request → ℕ → Str → ℕ → Reply
+ask a id request level = reply_of (outcome_of a id request level) level
 
 -- the texts of a field by their numbers; a type's text is asked for the leaf with a number
 abbrev pub accessors : ℕ → List Accessor
@@ -148,9 +148,9 @@ pub record AskedWithin (l : Str) (fill : ℕ) (l' : Str) (fill' number : ℕ) : 
 abbrev pub SameAnswersHold : Type 0
 SameAnswersHold =
     (s index : List ℕ) (sh : Sheet) → admitted s ≡ sheet sh → IndexOf s (admitted s) index
-    → (id : ℕ) (request : Option Request) (l : Str) (fill : ℕ) (l' : Str) (fill' number line column : ℕ)
-    → OverIndex s index (λ a. Asked l fill (ask a id request) l' fill' number line column)
-    → Asked l fill (ask (admitted s) id request) l' fill' number line column
+    → (id : ℕ) (request : Option Request) (level : ℕ) (l : Str) (fill : ℕ) (l' : Str) (fill' number line column : ℕ)
+    → OverIndex s index (λ a. Asked l fill (ask a id request level) l' fill' number line column)
+    → Asked l fill (ask (admitted s) id request level) l' fill' number line column
 
 -- the length of a text, 0 where there is none
 abbrev pub length_told : Option ℕ → ℕ
@@ -169,12 +169,12 @@ pub record PassTold (o : Out Str) (l l' : Str) (number size : ℕ) : Type 0 wher
   pub length-is : size ≡ length_told (pass_of (length l) o).1
   pub text : (w : Str) → o ≡ ok w → length w ≤ length l → l' ≡ text.placed l 0 w
 
--- a text of the field with these numbers, in the node with a number; 15 where there is no such text
-abbrev pub TextTold : Str → List ℕ → ℕ → List ℕ → Option Accessor → Str → Str → ℕ → ℕ → Type 0
-TextTold s index node numbers accessor l l' number size =
+-- a text at a level of the field with these numbers, in the node with a number
+abbrev pub TextTold : Str → List ℕ → ℕ → List ℕ → Option Accessor → ℕ → Str → Str → ℕ → ℕ → Type 0
+TextTold s index node numbers accessor level l l' number size =
     ForAll (line.text_at (rows s)) s index
     (λ sh. (o : Option tree.Field) → FindsField s (field_in numbers) o
-    → PassTold (in_node sh.nodes node o then λ at. there accessor then accessor_text sh at) l l' number size)
+    → PassTold (text_in sh node o accessor level) l l' number size)
 
 -- a span is told by its place and its length
 abbrev pub SpanTold : Span → ℕ → ℕ → Type 0

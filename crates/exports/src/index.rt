@@ -35,8 +35,8 @@ pub fn kitlubas_index(s: &[u8], index: &mut [u64], line: &mut usize, column: &mu
     tell(sheet::admit(s, index).err(), line, column)
 }
 
-// The answer to the request with a number, in the sheet with this index. Over any index a refusal changes nothing; no byte before
-// the fill count changes, and the count neither falls nor passes the end.
+// The answer to the request with a number, at a level of indentation, in the sheet with this index. Over any index a refusal
+// changes nothing; no byte before the fill count changes, and the count neither falls nor passes the end.
 pub fn kitlubas_answer_in(
     s: &[u8],
     index: &[u64],
@@ -44,26 +44,28 @@ pub fn kitlubas_answer_in(
     place: u64,
     request: u64,
     leaf: u64,
+    level: usize,
     fill: &mut usize,
     line: &mut usize,
     column: &mut usize,
     buf: &mut [u8],
 ) -> u64
     ensures asked { OverIndex s.now index.now (λ sheet. Asked buf.old fill.old
-        (ask sheet id (request_of request place leaf)) buf.new fill.new result line.new
+        (ask sheet id (request_of request place leaf) level) buf.new fill.new result line.new
         column.new) }
     ensures within { AskedWithin buf.old fill.old buf.new fill.new result }
 {
     let source = Source::new(s, index);
     let asked = request_of(request, place, leaf);
-    let answer = requests::answer_in(&source, id, asked, Text::at(*fill), buf);
+    let start = Text::at_level(*fill, level);
+    let answer = requests::answer_in(&source, id, asked, start, buf);
     say(answer, fill, line, column)
 }
 
-// The text with a number of the field with these numbers, as `kitlubas_field` puts them, in the node with a number, from 0: 0,
-// and the text from the start of the buffer on; 22 where it is longer than the buffer; or its refusal. `size` becomes the text's
-// length, 0 for a refusal. Where the answer is not 0, the bytes of the buffer may be any; where it is 0, the length is within the
-// buffer over any index.
+// The text with a number, at a level of indentation, of the field with these numbers, as `kitlubas_field` puts them, in the node
+// with a number, from 0: 0, and the text from the start of the buffer on; 22 where it is longer than the buffer; or its refusal.
+// `size` becomes the text's length, 0 for a refusal. Where the answer is not 0, the bytes of the buffer may be any; where it is
+// 0, the length is within the buffer over any index.
 pub fn kitlubas_text(
     s: &[u8],
     index: &[u64],
@@ -71,19 +73,18 @@ pub fn kitlubas_text(
     field: &[u64],
     request: u64,
     leaf: u64,
+    level: usize,
     size: &mut usize,
     buf: &mut [u8],
 ) -> u64
     ensures told { TextTold s.now index.now node field.now
-        (accessor_numbered request leaf) buf.old buf.new result size.new }
+        (accessor_numbered request leaf) level buf.old buf.new result size.new }
     ensures within { result ≡ 0 → size.new ≤ length buf.old }
 {
     *size = 0;
-    let Some(accessor) = accessor_of(request, leaf) else {
-        return Refusal::NotThere.number();
-    };
+    let accessor = accessor_of(request, leaf);
     let source = Source::new(s, index);
-    match requests::text(&source, node, field::get(field), accessor, buf) {
+    match requests::text(&source, node, field::get(field), accessor, level, buf) {
         Ok(n) => {
             *size = n;
             if n <= buf.len() {

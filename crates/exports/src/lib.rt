@@ -61,7 +61,7 @@ pub fn kitlubas_signed(at: usize, buf: &mut [u8], width: u32, n: u64) -> usize
     }
 }
 
-// A line at a level of indentation.
+// A line with an indent of so many steps, four spaces each.
 pub fn kitlubas_line(at: usize, buf: &mut [u8], indent: usize, line: &[u8]) -> usize
     ensures { Fills buf.old at (ended (to_lines (Line line.now) indent)) buf.new result }
 {
@@ -79,7 +79,7 @@ pub fn kitlubas_blank_line(at: usize, buf: &mut [u8]) -> usize
 
 // What `stringify` makes of no lines.
 pub fn kitlubas_no_lines(at: usize, buf: &mut [u8]) -> usize
-    ensures { Fills buf.old at (stringify (Branch none)) buf.new result }
+    ensures { Fills buf.old at (stringify (Branch none) 0) buf.new result }
 {
     let t = Text::at(at).no_lines(buf);
     count(t)
@@ -195,23 +195,25 @@ fn request_of(number: u64, place: u64, leaf: u64) -> Option<Request>
     Some(Request::Field { place, accessor })
 }
 
-// The answer to the request with a number.
+// The answer to the request with a number, at a level of indentation.
 pub fn kitlubas_answer(
     s: &[u8],
     id: u64,
     place: u64,
     request: u64,
     leaf: u64,
+    level: usize,
     fill: &mut usize,
     line: &mut usize,
     column: &mut usize,
     buf: &mut [u8],
 ) -> u64
     ensures { Asked buf.old fill.old
-        (ask (admitted s.now) id (request_of request place leaf))
+        (ask (admitted s.now) id (request_of request place leaf) level)
         buf.new fill.new result line.new column.new }
 {
     let asked = request_of(request, place, leaf);
-    let answer = requests::answer_request(s, id, asked, Text::at(*fill), buf);
+    let start = Text::at_level(*fill, level);
+    let answer = requests::answer_request(s, id, asked, start, buf);
     say(answer, fill, line, column)
 }

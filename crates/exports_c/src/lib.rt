@@ -43,7 +43,7 @@ pub extern "C" fn kitlubas_blank_line(at: usize, buf: &mut [u8]) -> usize
 
 #[unsafe(no_mangle)]
 pub extern "C" fn kitlubas_no_lines(at: usize, buf: &mut [u8]) -> usize
-    ensures { Fills buf.old at (stringify (Branch none)) buf.new result }
+    ensures { Fills buf.old at (stringify (Branch none) 0) buf.new result }
 {
     exports::kitlubas_no_lines(at, buf)
 }
@@ -83,16 +83,17 @@ pub extern "C" fn kitlubas_answer(
     place: u64,
     request: u64,
     leaf: u64,
+    level: usize,
     fill: &mut usize,
     line: &mut usize,
     column: &mut usize,
     buf: &mut [u8],
 ) -> u64
     ensures { Asked buf.old fill.old
-        (ask (admitted s.now) id (request_of request place leaf))
+        (ask (admitted s.now) id (request_of request place leaf) level)
         buf.new fill.new result line.new column.new }
 {
-    exports::kitlubas_answer(s, id, place, request, leaf, fill, line, column, buf)
+    exports::kitlubas_answer(s, id, place, request, leaf, level, fill, line, column, buf)
 }
 
 #[unsafe(no_mangle)]
@@ -124,17 +125,20 @@ pub extern "C" fn kitlubas_answer_in(
     place: u64,
     request: u64,
     leaf: u64,
+    level: usize,
     fill: &mut usize,
     line: &mut usize,
     column: &mut usize,
     buf: &mut [u8],
 ) -> u64
     ensures asked { OverIndex s.now index.now (λ sheet. Asked buf.old fill.old
-        (ask sheet id (request_of request place leaf)) buf.new fill.new result line.new
+        (ask sheet id (request_of request place leaf) level) buf.new fill.new result line.new
         column.new) }
     ensures within { AskedWithin buf.old fill.old buf.new fill.new result }
 {
-    exports::kitlubas_answer_in(s, index, id, place, request, leaf, fill, line, column, buf)
+    exports::kitlubas_answer_in(
+        s, index, id, place, request, leaf, level, fill, line, column, buf,
+    )
 }
 
 #[unsafe(no_mangle)]
@@ -145,14 +149,15 @@ pub extern "C" fn kitlubas_text(
     field: &[u64],
     request: u64,
     leaf: u64,
+    level: usize,
     size: &mut usize,
     buf: &mut [u8],
 ) -> u64
     ensures told { TextTold s.now index.now node field.now
-        (accessor_numbered request leaf) buf.old buf.new result size.new }
+        (accessor_numbered request leaf) level buf.old buf.new result size.new }
     ensures within { result ≡ 0 → size.new ≤ length buf.old }
 {
-    exports::kitlubas_text(s, index, node, field, request, leaf, size, buf)
+    exports::kitlubas_text(s, index, node, field, request, leaf, level, size, buf)
 }
 
 #[unsafe(no_mangle)]

@@ -1,5 +1,5 @@
 -- A getter's outcome by those of its steps: the type's refusal, then the option's, then the default's, in the Rust's order; and
--- where there is none, the result type, a newline, the code and the declaration. Assumes nothing.
+-- where there is none, the margin, the result type, a newline, the code and the declaration. Assumes nothing.
 use Rattle.std.specs.Prelude.{◌≡◌, ℕ, ◌≤◌, Bool, true, false, eqb, leb, List, [], ◌++◌, drop}
 use mathlib.Core.Path.{refl, sym, ap, ◌∙◌}
 use Rattle.std.specs.Prelude.{None, Some, Ok}
@@ -7,10 +7,10 @@ use Rattle.codegen_types.specs.Written.{Writes}
 use borrow.Author.Tests.{eqb-true, leb-true}
 use Rattle.terms.specs.Kinds.{number_of}
 use Rattle.text.specs.Bytes.{Str, unit, cond}
-use Rattle.text.specs.Lines.{stringify}
-use Rattle.text.specs.Text.{Wrote}
+use Rattle.text.specs.Lines.{margin, stringify}
+use Rattle.text.specs.Text.{Wrote, WroteLines}
 use Rattle.text.specs.declared.Text.{Text}
-use Rattle.text.proofs.Laws.{◌⨾◌}
+use Rattle.text.proofs.Laws.{◌⋄◌, flat}
 use Rattle.names.specs.Names.{default_name}
 use Rattle.row.specs.Rows.{rows}
 use Rattle.tree.specs.Tree as tree
@@ -40,8 +40,8 @@ use Rattle.getter.proofs.ResultLaws.{at_plain, prim_text}
 
 -- a declaration by a slot's numbers is that of the tree's slot, where the default is of the slot's type
 pub declared-here : {l : List ℕ} {t : Text} {l' : List ℕ} {t' : Text} (root name bytes : Str) (r : Slot) (f : SlotField)
-    → SlotHere bytes r f → number_of r.kind ≡ number_of r.default → Wrote l t (declared_by root name bytes r) l' t'
-    → Wrote l t (declared (default_declaration root name f.slot)) l' t'
+    → SlotHere bytes r f → number_of r.kind ≡ number_of r.default → WroteLines l t (declared_by root name bytes r) l' t'
+    → WroteLines l t (declared (default_declaration root name f.slot)) l' t'
 declared-here {l} {t} {l'} {t'} root name bytes r f h k w =
     rw (h.slot.explicit, h.slot.kind) (go (has_words r.explicit (number_of r.kind)) refl w)
   where
@@ -49,8 +49,9 @@ declared-here {l} {t} {l'} {t'} root name bytes r f h k w =
     there = rows (drop r.words bytes)
 
     go : (b : Bool) → has_words r.explicit (number_of r.kind) ≡ b
-        → Wrote l t (cond b (declaration_text root (default_name name) r.count (words_at r.count there)) []) l' t'
-        → Wrote l t (declared (cond b (Some (word_array_declaration root (default_name name) f.slot.words true)) None)) l' t'
+        → WroteLines l t (λ n. cond b (declaration_text root (default_name name) r.count (words_at r.count there) n) []) l' t'
+        → WroteLines l t (declared (cond b (Some (word_array_declaration root (default_name name) f.slot.words true)) None))
+        l' t'
     go true e x =
         declaration_of root (default_name name) there r.count x f.slot.words (rw (← k, e) at h.words) h.count
     go false e x = x
@@ -79,7 +80,7 @@ fragment-typ sheet root name s is_reader is_fn r is leaf w e = go (leb (kind s.t
     go false f = rw f refl
 
 -- the code, by the text of a primitive type
-abbrev code_text : Str → Str → tree.Slot → Bool → Bool → Slot → Str
+abbrev code_text : Str → Str → tree.Slot → Bool → Bool → Slot → ℕ → Str
 code_text root name s is_reader is_fn r =
     stringify (getter_code s is_reader (cond (eqb s.option 0) false true)
     (fragment_of root name s is_reader is_fn (primitive_text (number_of r.kind))))
@@ -89,7 +90,7 @@ module _ (sheet : Sheet) (name : Str) (s : tree.Slot) (is_reader is_fn : Bool) (
   abbrev leaf : Leaf
   leaf = module_leaf is_reader
 
-  abbrev request : Out Str
+  abbrev request : ℕ → Out Str
   request = getter_request sheet name s is_reader is_fn
 
   -- a type that is not refused, its result type with it, and what that says
@@ -107,11 +108,11 @@ module _ (sheet : Sheet) (name : Str) (s : tree.Slot) (is_reader is_fn : Bool) (
       ok-is (result_type sheet s.ty (optional (yes (is_option_field s)) inner))
       (result_ok sheet s.ty r.id leaf (optional (yes (is_option_field s)) inner) is.id (ap refusal_of e))
 
-  pub type-refused : (k : ℕ) → result_out sheet s is_reader is_fn ≡ refused k → request ≡ refused k
+  pub type-refused : (k : ℕ) → result_out sheet s is_reader is_fn ≡ refused k → (level : ℕ) → request level ≡ refused k
   unfolding getter_request getter_text
-  type-refused k h = go (type_string s.ty sheet leaf) refl
+  type-refused k h level = go (type_string s.ty sheet leaf) refl
     where
-      go : (o : Out Str) → type_string s.ty sheet leaf ≡ o → request ≡ refused k
+      go : (o : Out Str) → type_string s.ty sheet leaf ≡ o → request level ≡ refused k
       go (refused j) e = rw e (rw e at h)
       go (ok inner) e = let typ = result-given inner e in absurd (not-ok (sym (rw (e, typ.is) at h)))
 
@@ -131,9 +132,9 @@ module _ (sheet : Sheet) (name : Str) (s : tree.Slot) (is_reader is_fn : Bool) (
               result-is = sym (ok-one (rw (e, typ.is) at h));
             }
 
-    pub option-refused : (k : ℕ) → Some k ≡ refusal_of (is_option_field s) → request ≡ refused k
+    pub option-refused : (k : ℕ) → Some k ≡ refusal_of (is_option_field s) → (level : ℕ) → request level ≡ refused k
     unfolding getter_request getter_text
-    option-refused k o = rw (given.inner-is, refused-is (is_option_field s) k (sym o)) refl
+    option-refused k o level = rw (given.inner-is, refused-is (is_option_field s) k (sym o)) refl
 
     module _ (allowed : None ≡ refusal_of (is_option_field s)) where
       option : Given (is_option_field s)
@@ -143,9 +144,10 @@ module _ (sheet : Sheet) (name : Str) (s : tree.Slot) (is_reader is_fn : Bool) (
       typ-is = rw option.is at given.typ-is
 
       pub default-refused : (k : ℕ)
-          → ((typ : Str) → Some k ≡ refusal_of (getter_fragment sheet.root name s is_reader is_fn typ)) → request ≡ refused k
+          → ((typ : Str) → Some k ≡ refusal_of (getter_fragment sheet.root name s is_reader is_fn typ))
+          → (level : ℕ) → request level ≡ refused k
       unfolding getter_request getter_text
-      default-refused k d =
+      default-refused k d level =
           rw (
             given.inner-is,
             option.is,
@@ -154,15 +156,15 @@ module _ (sheet : Sheet) (name : Str) (s : tree.Slot) (is_reader is_fn : Bool) (
           ) refl
 
       pub all-allowed : ((typ : Str) → None ≡ refusal_of (getter_fragment sheet.root name s is_reader is_fn typ))
-          → (s.default.kind ≡ kind s.ty)
-          × (request ≡ ok (result ++ unit 10 ++ code_text sheet.root name s is_reader is_fn r
-          ++ declared (default_declaration sheet.root name s)))
+          → (level : ℕ) → (s.default.kind ≡ kind s.ty)
+          × (request level ≡ ok (margin level ++ result ++ unit 10 ++ code_text sheet.root name s is_reader is_fn r level
+          ++ declared (default_declaration sheet.root name s) level))
       unfolding getter_request getter_text
-      all-allowed d = go (eqb (kind s.ty) s.default.kind) refl
+      all-allowed d level = go (eqb (kind s.ty) s.default.kind) refl
         where
           go : (b : Bool) → eqb (kind s.ty) s.default.kind ≡ b → (s.default.kind ≡ kind s.ty)
-              × (request ≡ ok (result ++ unit 10 ++ code_text sheet.root name s is_reader is_fn r
-              ++ declared (default_declaration sheet.root name s)))
+              × (request level ≡ ok (margin level ++ result ++ unit 10 ++ code_text sheet.root name s is_reader is_fn r level
+              ++ declared (default_declaration sheet.root name s) level))
           go true n = (
             sym (eqb-true (kind s.ty) s.default.kind n),
             rw (
@@ -173,24 +175,25 @@ module _ (sheet : Sheet) (name : Str) (s : tree.Slot) (is_reader is_fn : Bool) (
               option_is s option.given option.is,
               ← fragment-typ sheet sheet.root name s is_reader is_fn r is leaf given.inner given.inner-is,
             )
-                (ap (λ (x : Str). ok (x ++ unit 10 ++ code_text sheet.root name s is_reader is_fn r
-                ++ declared (default_declaration sheet.root name s))) (sym given.result-is)),
+                (ap (λ (x : Str). ok (margin level ++ x ++ unit 10 ++ code_text sheet.root name s is_reader is_fn r level
+                ++ declared (default_declaration sheet.root name s) level)) (sym given.result-is)),
           )
           go false n = let e = rw n at (d given.inner) in never cc
 
 -- the slot that was read, by its name's bytes, where nothing is refused
-pub getter-here : {l l₁ l₂ l₃ l₄ : List ℕ} {t u t₂ t₃ t₄ : Text} (bytes : Str) (r : Slot) (f : SlotField) → SlotHere bytes r f
-    → (sheet : Sheet) (name : Str) (is_reader is_fn : Bool) → name ≡ f.name
-    → Writes (result_out sheet f.slot is_reader is_fn) l t l₁ (Ok u)
-    → Wrote l₁ u (unit 10) l₂ t₂
-    → Wrote l₂ t₂ (stringify (code_by sheet.root name r is_reader is_fn)) l₃ t₃
-    → Wrote l₃ t₃ (declared_by sheet.root name bytes r) l₄ t₄
+pub getter-here : {l l₁ l₂ l₃ l₄ l₅ : List ℕ} {t t₁ t₂ t₃ t₄ t₅ : Text} (bytes : Str) (r : Slot) (f : SlotField)
+    → SlotHere bytes r f → (sheet : Sheet) (name : Str) (is_reader is_fn : Bool) → name ≡ f.name
+    → WroteLines l t margin l₁ t₁
+    → Writes (result_out sheet f.slot is_reader is_fn) l₁ t₁ l₂ (Ok t₂)
+    → Wrote l₂ t₂ (unit 10) l₃ t₃
+    → WroteLines l₃ t₃ (stringify (code_by sheet.root name r is_reader is_fn)) l₄ t₄
+    → WroteLines l₄ t₄ (declared_by sheet.root name bytes r) l₅ t₅
     → None ≡ refusal_of (is_option_field f.slot)
     → ((typ : Str) → None ≡ refusal_of (getter_fragment sheet.root f.name f.slot is_reader is_fn typ))
-    → Writes (getter_request sheet f.name f.slot is_reader is_fn) l t l₄ (Ok t₄)
-getter-here bytes r f h sheet name is_reader is_fn named x newline code decl o d =
+    → Writes (getter_request sheet f.name f.slot is_reader is_fn t.level) l t l₅ (Ok t₅)
+getter-here {t = t} bytes r f h sheet name is_reader is_fn named begun x newline code decl o d =
     let p = text-of (result_out sheet f.slot is_reader is_fn) x in
-    let q = all-allowed sheet f.name f.slot is_reader is_fn r h.slot p.text p.is o d in
+    let q = all-allowed sheet f.name f.slot is_reader is_fn r h.slot p.text p.is o d t.level in
     let coded = code_of r f.slot h.slot q.0 sheet.root f.name is_reader is_fn (rw named at code) in
     let declared = declared-here sheet.root f.name bytes r f h (sym h.slot.kind ∙ sym q.0 ∙ h.slot.default) (rw named at decl) in
-    rw q.1 (whole (p.wrote ⨾ newline ⨾ coded ⨾ declared))
+    rw q.1 (whole (begun ⋄ flat p.wrote ⋄ flat newline ⋄ coded ⋄ declared).lines)

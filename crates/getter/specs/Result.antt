@@ -1,5 +1,6 @@
--- The result type of a getter, as its writers write it, and its default's declaration by a slot's numbers. Assumes nothing.
-use Rattle.std.specs.Prelude.{Bool, true, false, [], ◌++◌, drop}
+-- The result type of a getter, as its writers write it, and its default's declaration by a slot's numbers and the level.
+-- Assumes nothing.
+use Rattle.std.specs.Prelude.{ℕ, Bool, true, false, [], ◌++◌, drop}
 use Rattle.terms.specs.Kinds.{number_of}
 use Rattle.text.specs.Bytes.{Str, ascii, cond}
 use Rattle.names.specs.Names.{default_name}
@@ -37,9 +38,9 @@ result_out sheet s is_reader is_fn =
     result_type sheet s.ty (optional (yes (is_option_field s)) inner_type) then λ result.
     ok (as_function is_fn result)
 
--- the declaration of the default of a slot r, its words those that stand in the sheet s
-abbrev pub declared_by : Str → Str → Str → Slot → Str
-declared_by root name s r =
+-- the declaration of the default of a slot r, its words those that stand in the sheet s, at a level
+abbrev pub declared_by : Str → Str → Str → Slot → ℕ → Str
+declared_by root name s r level =
     cond (has_words r.explicit (number_of r.kind))
-    (declaration_text root (default_name name) r.count (words_at r.count (rows (drop r.words s))))
+    (declaration_text root (default_name name) r.count (words_at r.count (rows (drop r.words s))) level)
     []

@@ -4,7 +4,7 @@
 ghost use Rattle.std.specs.Prelude.{◌≡◌, Bool, drop};
 ghost use Rattle.terms.specs.Kinds.{number_of};
 ghost use Rattle.text.specs.Bytes.{Str};
-ghost use Rattle.text.specs.Text.{Wrote};
+ghost use Rattle.text.specs.Text.{Wrote, WroteLines};
 ghost use Rattle.row.specs.Rows.{rows};
 ghost use Rattle.tree.specs.Tree as tree;
 ghost use Rattle.tree.specs.Read.{read_type};
@@ -171,7 +171,7 @@ fn result_type(
 
 // The declaration of the default, if there is one.
 fn declaration(source: &Source<'_>, name: &[u8], slot: Slot, t: Text, buf: &mut [u8]) -> Text
-    ensures { Wrote buf.old t
+    ensures { WroteLines buf.old t
         (declared_by source.now.root.now name.now source.now.bytes.now slot) buf.new result }
 {
     if tree::has_words(slot.explicit, slot.kind) {
@@ -187,8 +187,8 @@ fn declaration(source: &Source<'_>, name: &[u8], slot: Slot, t: Text, buf: &mut 
     t
 }
 
-// The text of a slot's getter: the result type, a newline, the code, and the declaration of the default if there is one. The
-// type's refusal is met first, then the option's, then the default's.
+// The text of a slot's getter, its lines at the level: the result type, a newline, the code, and the declaration of the default
+// if there is one. The type's refusal is met first, then the option's, then the default's.
 pub fn getter(
     source: &Source<'_>,
     slot: Slot,
@@ -199,10 +199,11 @@ pub fn getter(
 ) -> Result<Text, Refusal>
     ensures text { InSource source.now (λ sheet.
         (f : SlotField) → SlotHere source.now.bytes.now slot f
-        → Writes (getter_request sheet f.name f.slot is_reader is_fn) buf.old t buf.new result) }
+        → Writes (getter_request sheet f.name f.slot is_reader is_fn t.level) buf.old t buf.new result) }
     ensures within { Within buf.old t buf.new result }
 {
     let name = slot.name(source.bytes);
+    let t = t.margin(buf);
     let t = result_type(source, slot, is_reader, is_fn, t, buf)?;
     option_allowed(slot)?;
     default_allowed(slot)?;

@@ -1,6 +1,6 @@
 -- The parts of a getter's code, one after the other, are its text; which arm a slot's kind leads to; and the code of a slot of
 -- the tree is that of its numbers. Assumes nothing.
-use Rattle.std.specs.Prelude.{◌≡◌, ℕ, ◌<◌, Bool, true, false, not, eqb, List, [], ◌++◌}
+use Rattle.std.specs.Prelude.{◌≡◌, ℕ, ◌+◌, ◌<◌, Bool, true, false, not, eqb, List, [], ◌++◌}
 use mathlib.Core.Path.{refl, sym, ap, ◌∙◌}
 use mathlib.Core.Logic.{◌⊎◌, inl, inr}
 use mathlib.Core.List.{append_assoc}
@@ -11,11 +11,11 @@ use Rattle.terms.specs.Kinds.{number_of, is_primitive}
 use Rattle.terms.specs.declared.kinds.Kind.TheVariants as kinds
 use Rattle.terms.specs.declared.kinds.Unnamed.{Unnamed}
 use Rattle.text.specs.Bytes.{Str, ascii, unit, cond}
-use Rattle.text.specs.Text.{Wrote}
+use Rattle.text.specs.Text.{WroteLines}
 use Rattle.text.specs.declared.Text.{Text}
 use Rattle.text.specs.Decimal.{decimal}
-use Rattle.text.specs.Lines.{to_lines, flat_map, stringify, ended}
-use Rattle.text.proofs.LinesLaws.{stringify-lines}
+use Rattle.text.specs.Lines.{margin, broken, to_lines, flat_map, stringify, ended}
+use Rattle.text.proofs.LinesLaws.{margin-more, stringify-lines}
 use Rattle.tree.specs.Tree as tree
 use Rattle.tree.specs.Tree.{Ty, plain, list, enum, struct, interface, any_pointer, parameter, kind, Value}
 use Rattle.codegen_types.specs.TypeString.{is_parameter}
@@ -160,49 +160,48 @@ module _ (root name : Str) (r : Slot) (is_reader is_fn : Bool) where
 
 -- ---- the code with an option
 
-option_join : (i o b n sp x y p z m w : Str)
-    → (i ++ o ++ b) ++ (n ++ ((sp ++ x) ++ (n ++ (y ++ (n ++ ((sp ++ (p ++ z ++ m)) ++ (n ++ (w ++ n))))))))
-    ≡ i ++ o ++ (b ++ n ++ sp ++ x ++ n ++ y ++ n ++ sp ++ p) ++ z ++ (m ++ n ++ w ++ n)
-option_join i o b n sp x y p z m w = simp append_assoc
+-- its lines by their parts, where a margin one step in is a margin and four spaces
+option_join : (i o b n m sp step x y p z q w : Str) → step ≡ m ++ sp
+    → m ++ i ++ o ++ (b ++ n ++ (m ++ (sp ++ x ++ n ++ (m ++ (y ++ n ++ (m ++ (sp ++ p))))))) ++ z ++ (q ++ n ++ (m ++ (w ++ n)))
+    ≡ (m ++ (i ++ o ++ b)) ++ (n ++ ((step ++ x) ++ (n ++ ((m ++ y) ++ (n ++ ((step ++ (p ++ z ++ q))
+    ++ (n ++ ((m ++ w) ++ n))))))))
+option_join i o b n m sp step x y p z q w e = rw e (simp append_assoc)
 
-pub option-lines : (is_reader fallible : Bool) (o : ℕ) (fragment : Str)
-    → null_head is_reader ++ decimal o ++ absent fallible ++ fragment ++ some_end fallible
-    ≡ stringify (option_code is_reader fallible o fragment)
-unfolding to_lines flat_map ended
-option-lines is_reader fallible o fragment =
+pub option-lines : (is_reader fallible : Bool) (o : ℕ) (fragment : Str) (level : ℕ)
+    → margin level ++ null_head is_reader ++ decimal o ++ broken (absent fallible) level ++ fragment
+    ++ broken (some_end fallible) level
+    ≡ stringify (option_code is_reader fallible o fragment) level
+unfolding to_lines flat_map ended margin broken
+option-lines is_reader fallible o fragment level =
     go is_reader fallible
-    ∙ sym (stringify-lines (option_code is_reader fallible o fragment) (λ e. let z : ◌≡◌ {A = ℕ} 0 1 = cc in omega arith))
+    ∙ sym (stringify-lines (option_code is_reader fallible o fragment) level (λ e. let z : ◌≡◌ {A = ℕ} 0 1 = cc in omega arith))
   where
-    fallibles : (head : Str)
-        → head ++ decimal o ++ absent true ++ fragment ++ some_end true
-        ≡ (head ++ decimal o ++ ascii ") {")
-        ++ (unit 10 ++ ((ascii "    " ++ ascii "core::result::Result::Ok(core::option::Option::None)")
-        ++ (unit 10 ++ (ascii "} else {" ++
-        (unit 10 ++ ((ascii "    " ++ (fragment ++ ascii ".map(::core::option::Option::Some)"))
-        ++ (unit 10 ++ (ascii "}" ++ unit 10))))))))
-    fallibles head =
-        sym (option_join head (decimal o) (ascii ") {") (unit 10) (ascii "    ")
-        (ascii "core::result::Result::Ok(core::option::Option::None)") (ascii "} else {") []
-        fragment (ascii ".map(::core::option::Option::Some)") (ascii "}"))
-
-    others : (head : Str)
-        → head ++ decimal o ++ absent false ++ fragment ++ some_end false
-        ≡ (head ++ decimal o ++ ascii ") {") ++ (unit 10 ++ ((ascii "    " ++ ascii "::core::option::Option::None")
-        ++ (unit 10 ++ (ascii "} else {" ++
-        (unit 10 ++ ((ascii "    " ++ (ascii "::core::option::Option::Some(" ++ fragment ++ ascii ")"))
-        ++ (unit 10 ++ (ascii "}" ++ unit 10))))))))
-    others head =
-        sym (option_join head (decimal o) (ascii ") {") (unit 10) (ascii "    ")
-        (ascii "::core::option::Option::None") (ascii "} else {") (ascii "::core::option::Option::Some(") fragment (ascii ")")
-        (ascii "}"))
+    joined : (head x p q : Str)
+        → margin level ++ head ++ decimal o
+        ++ (ascii ") {" ++ unit 10 ++ (margin level ++ (ascii "    " ++ x ++ unit 10 ++ (margin level
+        ++ (ascii "} else {" ++ unit 10 ++ (margin level ++ (ascii "    " ++ p))))))) ++ fragment
+        ++ (q ++ unit 10 ++ (margin level ++ (ascii "}" ++ unit 10)))
+        ≡ (margin level ++ (head ++ decimal o ++ ascii ") {")) ++ (unit 10 ++ ((margin (level + 1) ++ x)
+        ++ (unit 10 ++ ((margin level ++ ascii "} else {") ++ (unit 10 ++ ((margin (level + 1) ++ (p ++ fragment ++ q))
+        ++ (unit 10 ++ ((margin level ++ ascii "}") ++ unit 10))))))))
+    joined head x p q =
+        option_join head (decimal o) (ascii ") {") (unit 10) (margin level) (ascii "    ") (margin (level + 1)) x
+        (ascii "} else {") p fragment q (ascii "}") (margin-more level)
 
     go : (is_reader fallible : Bool)
-        → null_head is_reader ++ decimal o ++ absent fallible ++ fragment ++ some_end fallible
-        ≡ ended (to_lines (option_code is_reader fallible o fragment) 0)
-    go true true = fallibles (null_head true)
-    go false true = fallibles (null_head false)
-    go true false = others (null_head true)
-    go false false = others (null_head false)
+        → margin level ++ null_head is_reader ++ decimal o ++ broken (absent fallible) level ++ fragment
+        ++ broken (some_end fallible) level
+        ≡ ended (to_lines (option_code is_reader fallible o fragment) level)
+    go true true =
+        joined (null_head true) (ascii "core::result::Result::Ok(core::option::Option::None)") []
+        (ascii ".map(::core::option::Option::Some)")
+    go false true =
+        joined (null_head false) (ascii "core::result::Result::Ok(core::option::Option::None)") []
+        (ascii ".map(::core::option::Option::Some)")
+    go true false =
+        joined (null_head true) (ascii "::core::option::Option::None") (ascii "::core::option::Option::Some(") (ascii ")")
+    go false false =
+        joined (null_head false) (ascii "::core::option::Option::None") (ascii "::core::option::Option::Some(") (ascii ")")
 
 -- ---- the code of a slot of the tree
 
@@ -237,7 +236,7 @@ module _ (r : Slot) (s : tree.Slot) (i : SlotIs r s) where
     ) refl
 
     pub code_of : {l : List ℕ} {t : Text} {l' : List ℕ} {t' : Text}
-        → Wrote l t (stringify (code_by root name r is_reader is_fn)) l' t'
-        → Wrote l t (stringify (getter_code s is_reader (cond (eqb s.option 0) false true)
+        → WroteLines l t (stringify (code_by root name r is_reader is_fn)) l' t'
+        → WroteLines l t (stringify (getter_code s is_reader (cond (eqb s.option 0) false true)
         (fragment_of root name s is_reader is_fn (primitive_text (number_of r.kind))))) l' t'
     code_of w = rw (i.option, ← same-fragment, ← same-fallible, i.offset) w

@@ -4,7 +4,7 @@
 ghost use Rattle.std.specs.Prelude.{◌≡◌};
 ghost use Rattle.terms.specs.Kinds.{number_of};
 ghost use Rattle.text.specs.Lines.{stringify};
-ghost use Rattle.text.specs.Text.{Wrote};
+ghost use Rattle.text.specs.Text.{Wrote, WroteLines};
 ghost use Rattle.codegen.specs.Getter.{void, pointer_default, from_pointer, capability, untyped};
 ghost use Rattle.codegen.specs.Getter.{is_fallible};
 ghost use Rattle.getter_code.specs.Parts.{from_pointer_head, capability_head, any_pointer_head};
@@ -215,9 +215,10 @@ pub fn code(
     t: Text,
     buf: &mut [u8],
 ) -> Text
-    ensures { Wrote buf.old t
+    ensures { WroteLines buf.old t
         (stringify (code_by root.now name.now slot is_reader is_fn)) buf.new result }
 {
+    let t = t.margin(buf);
     if slot.option == 0 {
         let t = fragment(root, name, slot, is_reader, is_fn, t, buf);
         return t.byte(buf, b'\n');
@@ -225,7 +226,7 @@ pub fn code(
     let fallible = is_fallible(slot);
     let t = t.bytes(buf, null_head(is_reader));
     let t = t.number(buf, slot.offset);
-    let t = t.bytes(buf, absent(fallible));
+    let t = t.broken(buf, absent(fallible));
     let t = fragment(root, name, slot, is_reader, is_fn, t, buf);
-    t.bytes(buf, some_end(fallible))
+    t.broken(buf, some_end(fallible))
 }

@@ -162,9 +162,9 @@ lines-ended nil = refl
 lines-ended (add l {ls = ls} h w) = line-end l (ended ls) h ∙ ap (λ (x : List Str). l ∷ x) (lines-ended w)
 
 pub lines-stringify : (ft : FormattedText) (l : Str) (ls : List Str) → to_lines ft 0 ≡ l ∷ ls → Wholes (l ∷ ls)
-    → lines (stringify ft) ≡ l ∷ ls
+    → lines (stringify ft 0) ≡ l ∷ ls
 lines-stringify ft l ls e w =
-    ap (λ (s : Str). lines s) (stringify-lines ft (λ n. cc) ∙ ap ended e) ∙ lines-ended w
+    ap (λ (s : Str). lines s) (stringify-lines ft 0 (λ n. cc) ∙ ap ended e) ∙ lines-ended w
 
 -- a first line, then a text
 pub lines-first : (l s : Str) → whole l ≡ true → lines (l ++ unit 10 ++ s) ≡ l ∷ lines s
@@ -175,7 +175,7 @@ abbrev pub indented : ℕ → List Str → List Str
 indented n [] = []
 indented n (l ∷ ls) = (spaces n ++ l) ∷ indented n ls
 
-trim-spaces : (n : ℕ) (l : Str) → trim (spaces n ++ l) ≡ trim l
+pub trim-spaces : (n : ℕ) (l : Str) → trim (spaces n ++ l) ≡ trim l
 trim-spaces zero l = refl
 trim-spaces (suc n) l = trim-spaces n l
 

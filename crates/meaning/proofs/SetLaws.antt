@@ -62,9 +62,9 @@ pub get_holds : TextGetHolds
 unfolding run_getter getter_lines
 get_holds typ is_reader k o m r h f =
     let l : Str = get_line is_reader k o (option_map (get_mask_text k) m) in
-    let code : lines (stringify (Line l)) ≡ l ∷ [] =
+    let code : lines (stringify (Line l) 0) ≡ l ∷ [] =
     lines-stringify (Line l) l [] (unfold to_lines in refl) (Wholes.add l (whole-get is_reader k o m) Wholes.nil) in
-    rw (lines-first typ (stringify (Line l)) h, code, gets-line is_reader k o m f)
+    rw (lines-first typ (stringify (Line l) 0) h, code, gets-line is_reader k o m f)
 
 -- ---- the tag
 

@@ -175,9 +175,9 @@ indented-none [] = refl
 indented-none (l ∷ ls) = ap (λ (x : List Str). l ∷ x) (indented-none ls)
 
 zeroing-runs : (zs : List Zero) (ft : FormattedText) (r : Record) → to_lines ft 0 ≡ zero_texts zs
-    → run_zeroing (stringify ft) r ≡ run_ops None (ops zs) r
+    → run_zeroing (stringify ft 0) r ≡ run_ops None (ops zs) r
 unfolding run_zeroing run_lines run_line run_ops
-zeroing-runs [] ft r e = rw (stringify-none ft e)
+zeroing-runs [] ft r e = rw (stringify-none ft 0 e)
 zeroing-runs (z ∷ zs) ft r e =
     ap (λ (x : List Str). run_lines None x r)
     (lines-stringify ft (zeroing_line z) (zero_texts zs) e (wholes_saying (saying_zeros (z ∷ zs)))

@@ -182,11 +182,11 @@ ZeroClears (of_slot k o) j = ⊥
 ZeroClears (of_tag o) j = ⊥
 ZeroClears (of_pointer i) j = j ≡ i
 
--- The zeroing's text runs. A slot with bits whose line is among its lines then reads as its default, the getter's mask; a pointer
--- slot tests absent, and each of its hasers says false. What no line touches stays.
+-- The zeroing's text, of level 0, runs. A slot with bits whose line is among its lines then reads as its default, the getter's
+-- mask; a pointer slot tests absent, and each of its hasers says false. What no line touches stays.
 pub record TextZeroed (zs : List Zero) (ft : FormattedText) (r : Record) : Type 0 where
   pub left : Record
-  pub runs : run_zeroing (stringify ft) r ≡ Some left
+  pub runs : run_zeroing (stringify ft 0) r ≡ Some left
   pub defaults : (k : Kind) (o : ℕ) → In (zero_call k o) (zero_texts zs) → (mg : Option ℕ) → MaskFits k mg
       → (typ : Str) → whole typ ≡ true → (is_reader : Bool)
       → run_getter (getter_lines typ (get_line is_reader k o (option_map (get_mask_text k) mg))) left ≡ Some (mask_bits mg)

@@ -246,7 +246,7 @@ zeros (z ∷ zs) = Line (zeroing_line z) & zeros zs
 pub zeroed :
     option_map (λ r. r.pointers)
     (run_zeroing
-    (stringify (Branch (zeros (of_tag 4 ∷ of_slot (num (uint Two)) 4 ∷ of_slot enum 4 ∷ of_slot bool 0 ∷ of_pointer 1 ∷ []))))
+    (stringify (Branch (zeros (of_tag 4 ∷ of_slot (num (uint Two)) 4 ∷ of_slot enum 4 ∷ of_slot bool 0 ∷ of_pointer 1 ∷ []))) 0)
     some16)
     ≡ Some (false ∷ false ∷ [])
 unfolding to_lines flat_map join stringify decimal set_bool_field set_data_field clear_pointer found stored put_bits clear_flag

@@ -83,7 +83,7 @@ padded : (m : ℕ) (s : Str) → length s ≤ m → m < 2 ^ 64 → put (replicat
 unfolding placed
 padded m s h b =
     let e = length-replicate {A = ℕ} m 0 in
-    put-placed (replicate m 0) 0 s (omega arith) (omega arith) ∙ rw (zero-add, drop-replicate)
+    put-placed (replicate m 0) (state_at 0) s (omega arith) (omega arith) ∙ rw (zero-add, drop-replicate)
 
 abbrev snake : Str → ℕ → Snake
 snake l n = record { bytes = l; len = n }
@@ -93,7 +93,7 @@ held-wrote : (s l : Str) (t : Text) → length s ≤ 128 → Wrote (replicate 12
 unfolding held
 held-wrote s l t h w =
     ap₂ snake (w.bytes ∙ padded 128 s h (omega arith))
-    (ap (λ (u : Text). u.at) (w.state ∙ adv-fits 0 s (omega arith)) ∙ zero-add (length s))
+    (ap (λ (u : Text). u.at) (w.state ∙ adv-fits (state_at 0) s (omega arith)) ∙ zero-add (length s))
 
 -- the two ends of `camel_to_snake_case`: a name that is taken, and one that is not
 pub held-taken : (name l : Str) (t : Text) → taken name ≡ true → Wrote (replicate 128 0) (state_at 0) (snake_from true name) l t

@@ -17,7 +17,7 @@ use Rattle.text.specs.declared.Text.{Text}
 use Rattle.text.proofs.Laws.{kept}
 use Rattle.text.proofs.Places.{put-placed}
 use Rattle.text.proofs.DecimalLaws.{decimal-length}
-pub use Rattle.requests.proofs.LentLaws.{text-end, lent, back}
+pub use Rattle.requests.proofs.LentLaws.{start-at, text-end, lent, back}
 use Rattle.parts.specs.Program.{opening, header_text, refused_text, refused_sheet_text}
 use Rattle.parts.specs.Fit.{fit_of, TakesAtMost, Puts}
 use Rattle.parts.specs.declared.Part.{Part}
@@ -68,8 +68,8 @@ module _ {l w l' : Str} {t₀ t : Text} (z : t₀ ≡ state_at 0) (e : Wrote l t
   module _ (b : length l < 2 ^ 63) where
     pub text-whole : t.at ≤ length l → take t.at l' ≡ w
     text-whole h =
-        let g : t.at ≡ length w = omega (arith, text-end z e) in
-        rw (g, e.bytes, z, put-placed l 0 w (omega arith) (omega arith)) (placed_first l w)
+        let g : t.at ≡ length w = omega (arith, text-end (start-at z) e) in
+        rw (g, e.bytes, z, put-placed l (state_at 0) w (omega arith) (omega arith)) (placed_first l w)
 
     pub taken-puts : (r : Option ℕ) → r ≡ fit_of t.at (length l') → Puts w l' r
     taken-puts r i = rw i (go (ltb (length l') t.at) refl)

@@ -1,7 +1,7 @@
 -- Laws of the parts of a field: what stands under a header, a part, and the parts from one on. Assumes nothing.
-use mathlib.Core.Path.{◌≡◌, refl, sym, ap, ◌∙◌}
+use mathlib.Core.Path.{◌≡◌, refl, sym, ap, subst, ◌∙◌}
 use mathlib.Core.List.{List, [], ◌∷◌, ◌++◌, append_assoc, append-nil}
-use Rattle.std.specs.Prelude.{Some, Ok, Err}
+use Rattle.std.specs.Prelude.{Some, Result, Ok, Err}
 use Prim.Native.Nat.{ℕ, ◌+◌, ◌*◌, ◌^◌, ◌≤◌, ◌<◌}
 use native.Mathlib.Omega.{arith}
 use borrow.Author.Tests.{lt-ltb, le-ltb}
@@ -23,38 +23,51 @@ use Rattle.requests.specs.Requests.{accessor_text}
 use Rattle.parts.specs.Program.{accessor_of, header_text, refused_text, part_text, printed_part, each_text}
 use Rattle.parts.specs.Fit.{part_most, Named, PartPut, PartsPut}
 use Rattle.parts.specs.declared.Part.{Part}
-use Rattle.parts.proofs.FitLaws.{text-end, lent, back, back-length, on-within, taken-on}
+use Rattle.parts.proofs.FitLaws.{start-at, text-end, lent, back, back-length, on-within, taken-on}
+
+-- what is written at the start, at its level, is written at level 0
+at-start : {l l' : Str} {t : Text} {r : Result Text Refusal} (o : ℕ → Out Str) → t ≡ state_at 0 → Writes (o t.level) l t l' r
+    → Writes (o 0) l t l' r
+at-start {l} {l'} {t} {r} o e = subst (λ (n : ℕ). Writes (o n) l t l' r) (ap (λ (u : Text). u.level) e)
 
 -- ---- what stands under a header, over the outcome of the accessor's text, which left l' and r
 
 module _ {l l' : Str} {t₀ : Text} (z : t₀ ≡ state_at 0) where
   -- it is refused
-  pub refused-part : (o : Out Str) (e : Refusal) → Writes o l t₀ l' (Err e) → refused_text (number e) ≡ part_text o
+  pub refused-part : (o : ℕ → Out Str) (e : Refusal) → Writes (o t₀.level) l t₀ l' (Err e)
+      → refused_text (number e) ≡ part_text (o 0)
   unfolding part_text
-  refused-part o e h = rw (refusal-is o h) refl
+  refused-part o e h = rw (refusal-is (o 0) (at-start o z h)) refl
 
   -- it is longer than a text may be
-  pub long-part : (o : Out Str) (t : Text) → Writes o l t₀ l' (Ok t) → 65536 < t.at → refused_text 22 ≡ part_text o
+  pub long-part : (o : ℕ → Out Str) (t : Text) → Writes (o t₀.level) l t₀ l' (Ok t) → 65536 < t.at
+      → refused_text 22 ≡ part_text (o 0)
   unfolding part_text
-  long-part (ok w) t h g =
-      let f : 65536 < length w = omega (arith, text-end z (h.text w t refl refl)) in rw (lt-ltb 65536 (length w) f)
-  long-part (refused j) t h g = let f = h.refusal in cc
+  long-part o t h g = go (o 0) (at-start o z h)
+    where
+      go : (o : Out Str) → Writes o l t₀ l' (Ok t) → refused_text 22 ≡ part_text o
+      go (ok w) h =
+          let f : 65536 < length w = omega (arith, text-end (start-at z) (h.text w t refl refl)) in rw (lt-ltb 65536 (length w) f)
+      go (refused j) h = let f = h.refusal in cc
 
   -- it is whole
-  pub whole_part : (o : Out Str) (t : Text) → Writes o l t₀ l' (Ok t) → t.at ≤ 65536 → length l < 2 ^ 63
-      → Wrote l (state_at 0) (part_text o) l' t
+  pub whole_part : (o : ℕ → Out Str) (t : Text) → Writes (o t₀.level) l t₀ l' (Ok t) → t.at ≤ 65536 → length l < 2 ^ 63
+      → Wrote l (state_at 0) (part_text (o 0)) l' t
   unfolding part_text
-  whole_part (ok w) t h g b =
-      let v = h.text w t refl refl in
-      let f : length w ≤ 65536 = omega (arith, text-end z v) in
-      rw (le-ltb 65536 (length w) f, ← z) v
-  whole_part (refused j) t h g b = let f = h.refusal in cc
+  whole_part o t h g b = go (o 0) (at-start o z h)
+    where
+      go : (o : Out Str) → Writes o l t₀ l' (Ok t) → Wrote l (state_at 0) (part_text o) l' t
+      go (ok w) h =
+          let v = h.text w t refl refl in
+          let f : length w ≤ 65536 = omega (arith, text-end (start-at z) v) in
+          rw (le-ltb 65536 (length w) f, ← z) v
+      go (refused j) h = let f = h.refusal in cc
 
 -- ---- a part: a header of n bytes, and under it a text of m bytes of what was lent from n on
 
 pub part-whole :
     (sheet : Sheet) (at : Node × tree.Field) (part : Part) (name l l' : Str) (n m : ℕ) → name ≡ at.1.name → n ≤ length l
-    → m ≤ length l' → take n l ≡ header_text part name → take m l' ≡ part_text (accessor_text sheet at (accessor_of part))
+    → m ≤ length l' → take n l ≡ header_text part name → take m l' ≡ part_text (accessor_text sheet at (accessor_of part) 0)
     → take (n + m) (back l n l') ≡ printed_part sheet at part
 unfolding printed_part
 part-whole sheet at part name l l' n m i h g header text = taken-on l l' n h m g ∙ rw (header, text, i)

@@ -3,7 +3,7 @@ use Rattle.std.specs.Prelude.{◌-◌, ◌≡◌, refl, List, [], ◌∷◌, len
 use Prim.Native.String.{String}
 use Rattle.text.specs.Bytes.{Str, ascii}
 use Rattle.text.specs.Decimal.{decimal}
-use Rattle.text.specs.Lines.{to_lines, flat_map, join, stringify, ended}
+use Rattle.text.specs.Lines.{margin, to_lines, flat_map, join, stringify, ended}
 use Rattle.names.specs.Names.{taken, snake_from, camel_to_snake_case}
 use Rattle.column.specs.Number.{trimmed, digits, unpadded, column_of, padded}
 use Rattle.column.specs.Texts.{is_word, is_graphic, all, are_chars, is_name, is_field_name, is_graphic_text, ends_in}
@@ -57,7 +57,7 @@ unfolding program_text node_text field_text each_text printed_part part_text ref
     fields_up_to read_fields group_ids read_params read_members read_node read_nodes read_sheet admitted row_text columns
     text_at text_of text_start line_at line_of reader most_bits most_c most_b most_a value_line type_line field_line node_line
     root_line joined rest_of onto rows ends_in is_graphic_text is_name is_field_name are_chars all is_graphic is_word padded
-    column_of unpadded digits trimmed camel_to_snake_case snake_from taken ended stringify join flat_map to_lines decimal
+    column_of unpadded digits trimmed camel_to_snake_case snake_from taken ended margin stringify join flat_map to_lines decimal
 example = refl
 
 pub torn : program_text (admitted (take (length is_free - 1) is_free)) ≡ ascii "refused 2 line 5 column 1\n"

@@ -56,7 +56,7 @@ part_text (refused k) = refused_text k
 
 -- a part of a field of a node: its header, and what stands under it
 unfoldable pub printed_part : Sheet → Node × Field → Part → Str
-printed_part sheet at part = header_text part at.1.name ++ part_text (accessor_text sheet at (accessor_of part))
+printed_part sheet at part = header_text part at.1.name ++ part_text (accessor_text sheet at (accessor_of part) 0)
 
 -- the text of each, one after the other
 unfoldable pub each_text : {A : Type 0} → (A → Str) → List A → Str

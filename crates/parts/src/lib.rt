@@ -150,7 +150,7 @@ fn write_text(
     buf: &mut [u8],
 ) -> Result<Text, Refusal>
     ensures under { OfField source.now located.now.tag located.now.field
-        (λ sheet at. Under (accessor_text sheet at (accessor_of part)) buf.old buf.new result) }
+        (λ sheet at. Under (accessor_text sheet at (accessor_of part) 0) buf.old buf.new result) }
     ensures fits { NotLong result }
 {
     let t = requests::field_accessor(source, located, asked(part), Text::at(0), buf)?;
@@ -163,7 +163,7 @@ fn write_text(
 // The refusal of a part's text, if it is refused: it is measured over an empty buffer.
 fn measure(source: &Source<'_>, located: &Located, part: Part) -> Result<(), Refusal>
     ensures { OfField source.now located.now.tag located.now.field
-        (λ sheet at. SaidUnder result (part_text (accessor_text sheet at (accessor_of part)))) }
+        (λ sheet at. SaidUnder result (part_text (accessor_text sheet at (accessor_of part) 0))) }
 {
     let mut empty = [0u8; 0];
     write_text(source, located, part, &mut empty)?;
@@ -178,7 +178,7 @@ fn job_text(
     buf: &mut [u8],
 ) -> Result<Text, Refusal>
     ensures under { OfField source.now located.now.tag located.now.field
-        (λ sheet at. Under (accessor_text sheet at (accessor_of job.part)) buf.old buf.new result) }
+        (λ sheet at. Under (accessor_text sheet at (accessor_of job.part) 0) buf.old buf.new result) }
     ensures fits { NotLong result }
 {
     if job.measured {
@@ -193,7 +193,7 @@ fn under_header(source: &Source<'_>, located: &Located, job: Job, buf: &mut [u8]
     ensures within { Within result buf.new }
     ensures fits { TakesAtMost 65536 buf.old result }
     ensures said { OfField source.now located.now.tag located.now.field
-        (λ sheet at. Puts (part_text (accessor_text sheet at (accessor_of job.part))) buf.new result) }
+        (λ sheet at. Puts (part_text (accessor_text sheet at (accessor_of job.part) 0)) buf.new result) }
 {
     match job_text(source, located, job, buf) {
         Ok(t) => taken(t, buf),

@@ -16,9 +16,10 @@ use Rattle.std.proofs.Math.Nat.{div-div-eq-div-mul, pow-suc}
 use Rattle.row.specs.declared.BadLine.{BadLine}
 use Rattle.text.specs.Bytes.{Str, ascii, unit}
 use Rattle.text.specs.Decimal.{decimal}
-use Rattle.text.specs.Text.{Wrote}
+use Rattle.text.specs.Text.{WroteLines}
 use Rattle.text.specs.declared.Text.{Text}
-use Rattle.text.specs.Lines.{to_lines, flat_map, stringify, ended}
+use Rattle.text.specs.Lines.{margin, to_lines, flat_map, stringify, ended}
+use Rattle.text.proofs.Laws.{reworded}
 use Rattle.text.proofs.LinesLaws.{ended_append, stringify-lines}
 use Rattle.row.specs.Rows.{rest_of}
 use Rattle.row.specs.Line as content
@@ -127,13 +128,14 @@ module _ (rs rest : Rows) (l : Result RowLine BadLine) (here : line_said l ≡ l
       go (Err b) f = refl
 
 -- and of their text
-pub text-more : (root : Str) (xs ws : List ℕ) (w : ℕ) → xs ≡ w ∷ ws → words_text root xs ≡ word_code root w ++ words_text root ws
+pub text-more : (root : Str) (level : ℕ) (xs ws : List ℕ) (w : ℕ) → xs ≡ w ∷ ws
+    → words_text root xs level ≡ word_code root w level ++ words_text root ws level
 unfolding words_text
-text-more root xs ws w e = rw e refl
+text-more root level xs ws w e = rw e refl
 
-pub text-none : (root : Str) (xs : List ℕ) → xs ≡ [] → words_text root xs ≡ []
+pub text-none : (root : Str) (level : ℕ) (xs : List ℕ) → xs ≡ [] → words_text root xs level ≡ []
 unfolding words_text
-text-none root xs e = rw e refl
+text-none root level xs e = rw e refl
 
 -- ---- bytes
 
@@ -168,40 +170,43 @@ word-text bs b w e f = rw (f, e) (ap (λ (x : Str). decimal (w % 256) ++ x) (sym
 
 -- ---- the declaration
 
-words_lines_lem : (root : Str) (ws : List ℕ) → ended (flat_map (words_lines root ws) 1) ≡ words_text root ws
-unfolding to_lines flat_map ended words_lines words_text
-words_lines_lem root [] = refl
-words_lines_lem root (w ∷ ws) =
-    ap (λ (x : Str). (ascii "    " ++ (root ++ ascii "::word(" ++ word_bytes w ++ ascii "),")) ++ (unit 10 ++ x))
-    (words_lines_lem root ws)
-    ∙ joined (ascii "    ") root (ascii "::word(") (word_bytes w) (ascii "),") (unit 10) (words_text root ws)
+words_lines_lem : (root : Str) (ws : List ℕ) (level : ℕ)
+    → ended (flat_map (words_lines root ws) (level + 1)) ≡ words_text root ws level
+unfolding to_lines flat_map ended margin words_lines words_text
+words_lines_lem root [] level = refl
+words_lines_lem root (w ∷ ws) level =
+    let m = margin (level + 1) in
+    ap (λ (x : Str). (m ++ (root ++ ascii "::word(" ++ word_bytes w ++ ascii "),")) ++ (unit 10 ++ x))
+    (words_lines_lem root ws level)
+    ∙ joined m root (ascii "::word(") (word_bytes w) (ascii "),") (unit 10) (words_text root ws level)
   where
-    joined : (sp root a b c n more : Str) → (sp ++ (root ++ a ++ b ++ c)) ++ (n ++ more)
-        ≡ sp ++ root ++ a ++ b ++ (c ++ n) ++ more
-    joined sp root a b c n more = simp append_assoc
+    joined : (m root a b c n more : Str) → (m ++ (root ++ a ++ b ++ c)) ++ (n ++ more)
+        ≡ m ++ root ++ a ++ b ++ (c ++ n) ++ more
+    joined m root a b c n more = simp append_assoc
 
-declaration : (root name : Str) (ws : List ℕ)
-    → declaration_text root name (length ws) ws ≡ stringify (word_array_declaration root name ws true)
-unfolding to_lines flat_map ended word_array_declaration
-declaration root name ws =
-    sym (stringify-lines (word_array_declaration root name ws true) (λ e. let z : ◌≡◌ {A = ℕ} 0 1 = cc in omega arith)
-    ∙ ap (λ (x : Str). head ++ (unit 10 ++ x)) (ended_append (flat_map (words_lines root ws) 1) (ascii "];" ∷ [])
-    ∙ ap (λ (x : Str). x ++ ascii "];\n") (words_lines_lem root ws))
-    ∙ joined (ascii "pub(crate) ") (ascii "static ") name (ascii ": [") root (ascii "::Word; ") (decimal (length ws))
-    (ascii "] = [") (unit 10)
-    (words_text root ws) (ascii "];\n"))
+declaration : (root name : Str) (ws : List ℕ) (level : ℕ)
+    → declaration_text root name (length ws) ws level ≡ stringify (word_array_declaration root name ws true) level
+unfolding to_lines flat_map ended margin word_array_declaration
+declaration root name ws level =
+    sym (stringify-lines (word_array_declaration root name ws true) level (λ e. let z : ◌≡◌ {A = ℕ} 0 1 = cc in omega arith)
+    ∙ ap (λ (x : Str). (margin level ++ head) ++ (unit 10 ++ x))
+    (ended_append (flat_map (words_lines root ws) (level + 1)) ((margin level ++ ascii "];") ∷ [])
+    ∙ ap (λ (x : Str). x ++ ((margin level ++ ascii "];") ++ unit 10)) (words_lines_lem root ws level))
+    ∙ joined (margin level) (ascii "pub(crate) ") (ascii "static ") name (ascii ": [") root (ascii "::Word; ")
+    (decimal (length ws)) (ascii "] = [") (unit 10) (words_text root ws level) (ascii "];"))
   where
     head : Str
     head = ascii "pub(crate) " ++ ascii "static " ++ name ++ ascii ": [" ++ root ++ ascii "::Word; " ++ decimal (length ws)
         ++ ascii "] = ["
 
-    joined : (a b name c root d m e n text z : Str)
-        → (a ++ b ++ name ++ c ++ root ++ d ++ m ++ e) ++ (n ++ (text ++ z))
-        ≡ (a ++ b) ++ name ++ c ++ root ++ d ++ m ++ (e ++ n) ++ text ++ z
-    joined a b name c root d m e n text z = simp append_assoc
+    joined : (m a b name c root d k e n text z : Str)
+        → (m ++ (a ++ b ++ name ++ c ++ root ++ d ++ k ++ e)) ++ (n ++ (text ++ ((m ++ z) ++ n)))
+        ≡ m ++ (a ++ b) ++ name ++ c ++ root ++ d ++ k ++ (e ++ n) ++ text ++ m ++ (z ++ n)
+    joined m a b name c root d k e n text z = simp append_assoc
 
 -- of a slot's words it is `word_array_declaration`'s
 pub declaration_of : {l : List ℕ} {t : Text} {l' : List ℕ} {t' : Text} (root name : Str) (rs : Rows) (n : ℕ)
-    → Wrote l t (declaration_text root name n (words_at n rs)) l' t' → (ws : List ℕ) → Has (read_words true rs) (λ x. x ≡ ws)
-    → n ≡ length ws → Wrote l t (stringify (word_array_declaration root name ws true)) l' t'
-declaration_of root name rs n w ws h e = rw (← declaration root name ws, ← e, ← words_of rs ws n h e) w
+    → WroteLines l t (declaration_text root name n (words_at n rs)) l' t' → (ws : List ℕ)
+    → Has (read_words true rs) (λ x. x ≡ ws) → n ≡ length ws
+    → WroteLines l t (stringify (word_array_declaration root name ws true)) l' t'
+declaration_of root name rs n w ws h e = reworded (declaration root name ws) (rw (← e, ← words_of rs ws n h e) w)

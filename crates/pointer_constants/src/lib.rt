@@ -3,7 +3,7 @@
 #![tactic(auto)]
 
 ghost use Rattle.std.specs.Prelude.{drop};
-ghost use Rattle.text.specs.Text.{Wrote};
+ghost use Rattle.text.specs.Text.{Wrote, WroteLines};
 ghost use Rattle.row.specs.Rows.{rows};
 ghost use Rattle.names.specs.Names.{default_name};
 ghost use Rattle.codegen.specs.WordArray.{word_bytes};
@@ -15,9 +15,9 @@ use text::Text;
 
 // A word's line: its eight bytes, from the lowest on.
 fn word(root: &[u8], w: u64, t: Text, buf: &mut [u8]) -> Text
-    ensures { Wrote buf.old t (word_code root.now w) buf.new result }
+    ensures { WroteLines buf.old t (word_code root.now w) buf.new result }
 {
-    let t = t.bytes(buf, b"    ");
+    let t = t.inner_margin(buf);
     let t = t.bytes(buf, root);
     let t = t.bytes(buf, b"::word(");
     let t = bytes(w, t, buf);
@@ -39,7 +39,7 @@ fn bytes(w: u64, t: Text, buf: &mut [u8]) -> Text
 
 // The lines of the W rows that stand there, up to so many.
 fn words(root: &[u8], s: &[u8], from: usize, most: u64, t: Text, buf: &mut [u8]) -> Text
-    ensures { Wrote buf.old t
+    ensures { WroteLines buf.old t
         (words_text root.now (words_at most (rows (drop from s.now)))) buf.new result }
 {
     let mut t = t;
@@ -65,10 +65,11 @@ pub fn word_array_declaration(
     t: Text,
     buf: &mut [u8],
 ) -> Text
-    ensures { Wrote buf.old t
+    ensures { WroteLines buf.old t
         (declaration_text root.now (default_name name.now) slot.count
         (words_at slot.count (rows (drop slot.words s.now)))) buf.new result }
 {
+    let t = t.margin(buf);
     let t = t.bytes(buf, b"pub(crate) static ");
     let t = names::default_name(name, t, buf);
     let t = t.bytes(buf, b": [");
@@ -77,5 +78,6 @@ pub fn word_array_declaration(
     let t = t.number(buf, slot.count);
     let t = t.bytes(buf, b"] = [\n");
     let t = words(root, s, slot.words, slot.count, t, buf);
+    let t = t.margin(buf);
     t.bytes(buf, b"];\n")
 }

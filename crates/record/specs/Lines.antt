@@ -36,7 +36,7 @@ zeroing_line (of_slot k o) = zero_call k o
 zeroing_line (of_tag o) = zero_tag o
 zeroing_line (of_pointer i) = clear_pointer i
 
--- ---- texts, as `stringify` makes them
+-- ---- texts, as `stringify` makes them, of level 0
 
 -- a union's tag: its offset, and the member's discriminant value
 abbrev pub Tag : Type 0
@@ -45,7 +45,7 @@ Tag = ℕ × ℕ
 -- A function of an accessor: `#[inline]`, the opening line, the body moved in, a brace.
 unfoldable pub function_text : Str → FormattedTexts → Str
 function_text opening body =
-    stringify (Branch (Line (ascii "#[inline]") & Line opening & Indent (Branch body) & Line (ascii "}") & no_more))
+    stringify (Branch (Line (ascii "#[inline]") & Line opening & Indent (Branch body) & Line (ascii "}") & no_more)) 0
 
 -- a setter's body: the tag's line where the slot is a union's member, then the set; a Void slot has no set
 abbrev pub tag_then : Option Tag → FormattedTexts → FormattedTexts
@@ -60,7 +60,7 @@ void_setter_text opening tag = function_text opening (tag_then tag no_more)
 
 -- A getter: the result type, a newline, then `stringify` of the line of its get.
 unfoldable pub getter_lines : Str → Str → Str
-getter_lines typ line = typ ++ unit 10 ++ stringify (Line line)
+getter_lines typ line = typ ++ unit 10 ++ stringify (Line line) 0
 
 -- a haser's body: the test of the tag where there is one, then that the pointer is not null
 abbrev pub haser_body : Bool → Option Tag → ℕ → FormattedTexts

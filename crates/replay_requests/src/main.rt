@@ -1,8 +1,8 @@
 // Replays single requests through the static library's entry: reads sheets from standard input, each after a line with its
-// length in decimal and before its requests, which stand after a line with theirs. A request is a letter and six numbers in 21
-// columns each: the node's id, the place, the request's number, the leaf, the fill count, and the length of a buffer of points.
-// Its answer is printed as the refusal's number, its line, its column and the fill count afterwards, and then the whole buffer.
-// The files stdin and stdout beside src/ are written by the comparison in oracle/, by capnpc's own functions.
+// length in decimal and before its requests, which stand after a line with theirs. A request is a letter and seven numbers in 21
+// columns each: the node's id, the place, the request's number, the leaf, the level, the fill count, and the length of a buffer
+// of points. Its answer is printed as the refusal's number, its line, its column and the fill count afterwards, and then the
+// whole buffer. The files stdin and stdout beside src/ are written by the comparison in oracle/, by capnpc's own functions.
 #![tactic(auto)]
 
 use programs::Sheet;
@@ -37,7 +37,7 @@ fn print_numbers(
 
 // Prints the answer to a request over a buffer.
 fn print_answer(rt: &HostRuntime, sheet: &[u8], asked: &[u8], buf: &mut [u8]) -> io::Result<()> {
-    let mut fill = number(asked, 85) as usize;
+    let mut fill = number(asked, 106) as usize;
     let mut line: usize = 0;
     let mut column: usize = 0;
     let refusal = exports::kitlubas_answer(
@@ -46,6 +46,7 @@ fn print_answer(rt: &HostRuntime, sheet: &[u8], asked: &[u8], buf: &mut [u8]) ->
         number(asked, 22),
         number(asked, 43),
         number(asked, 64),
+        number(asked, 85) as usize,
         &mut fill,
         &mut line,
         &mut column,
@@ -58,7 +59,7 @@ fn print_answer(rt: &HostRuntime, sheet: &[u8], asked: &[u8], buf: &mut [u8]) ->
 
 // Prints the answer to a request over as much of a buffer as it asks for; it is an error where there is less.
 fn print_part(rt: &HostRuntime, sheet: &[u8], asked: &[u8], buf: &mut [u8]) -> io::Result<()> {
-    let size = number(asked, 106) as usize;
+    let size = number(asked, 127) as usize;
     if buf.len() < size {
         return Err(io::Error::from(ErrorKind::InvalidInput));
     }
@@ -93,7 +94,7 @@ fn replay(rt: &HostRuntime, input: &[u8]) -> io::Result<()> {
 }
 
 fn main(rt: HostRuntime) -> io::Result<()> {
-    let mut input = [0u8; 65536];
+    let mut input = [0u8; 131072];
     let Ok(n) = programs::read_input(&rt, &mut input) else {
         return rt
             .stderr()

@@ -7,7 +7,8 @@ use Rattle.std.specs.Prelude.{Option, None, Some, Result, Ok, Err}
 use Prim.Native.Nat.{ℕ}
 use lib.ListN.{drop}
 use Rattle.text.specs.Bytes.{Str}
-use Rattle.text.specs.Lines.{Branch, stringify}
+use Rattle.text.specs.Lines.{Branch, stringify, margin}
+use Rattle.text.specs.Text.{Wrote}
 use Rattle.text.specs.declared.Text.{Text}
 use Rattle.row.specs.Rows.{rows}
 use Rattle.tree.specs.Tree as tree
@@ -20,6 +21,8 @@ use Rattle.codegen_types.specs.TypeString.{type_string}
 use Rattle.codegen_types.specs.Written.{Writes}
 use Rattle.codegen_types.specs.declared.Leaf.{Leaf}
 use Rattle.terms.specs.declared.refusals.Refusal.{Refusal}
+use Rattle.terms.specs.declared.refusals.Refusal.TheVariants.{NotThere}
+use Rattle.sheet.specs.declared.Refused.{Refused}
 use Rattle.codegen_types.proofs.WrittenLaws as written
 use Rattle.nodes.specs.Index.{by_id, nth, Indexed, Finds, lookup}
 use Rattle.nodes.specs.declared.Entry.{Entry}
@@ -34,7 +37,9 @@ use Rattle.codegen.specs.Zeroing as zero
 use Rattle.codegen.specs.Zeroing.{zero_fields_of_group, zeroing_request}
 use Rattle.zeroing.specs.Told.{Zeroes}
 use Rattle.zeroing.specs.declared.Zeroed.{Zeroed}
-use Rattle.requests.specs.Requests.{there, field_at, type_text, slot_named, slot_field, group_of, accessor_text}
+use Rattle.requests.specs.Requests.{there, field_at, type_text, slot_named, slot_field, group_of, accessor_text, outcome}
+use Rattle.requests.specs.Told.{Answered, StateAllowed, unplaced}
+use Rattle.requests.proofs.AnswerLaws.{own-refusal}
 use Rattle.requests.specs.declared.Accessor.{Accessor}
 use Rattle.requests.specs.declared.Accessor.TheVariants.{TypeText, Getter, Setter, Haser, Zeroing}
 use Rattle.requests.specs.Parts.{may_have_scopes, Locates}
@@ -84,6 +89,19 @@ module _ (s : Str) (index : List ℕ) (nodes : List Node) (id place : ℕ) (x : 
       go (Some n) h = absurd h
       go None h = refl
 
+-- what is asked of it: 15 where there is no field
+module _ (l : Str) (t : Text) (s : Str) (f : Node × tree.Field → Out Str) where
+  pub nowhere : StateAllowed l t → (o : Out (Node × tree.Field)) → Locates s None o
+      → Answered l t (outcome (o then f)) l (Err (unplaced NotThere))
+  nowhere free (ok at) h = absurd h
+  nowhere free (refused k) h = rw h (own-refusal l t free (unplaced NotThere))
+
+  pub somewhere : (o : Out (Node × tree.Field)) (r : Located) → Locates s (Some r) o → (l' : Str) (q : Result Text Refused)
+      → ((at : Node × tree.Field) → at.0.tag_offset ≡ r.tag → FieldIs s r.field at.1 → Answered l t (outcome (f at)) l' q)
+      → Answered l t (outcome (o then f)) l' q
+  somewhere (ok at) r h l' q k = k at h.0 h.1
+  somewhere (refused k) r h l' q g = absurd h
+
 -- ---- what its requests come to
 
 -- what is read at a position, where it is known
@@ -127,65 +145,68 @@ module _ (s : Str) (f : tree.Field) {l : List ℕ} {t : Text} {l' : List ℕ} {q
       go (slot sl) h = absurd h
       go (group id) h = rw h.id-is k
 
-  pub slot-type : (sheet : Sheet) (r : code.Slot) (leaf : Leaf) → FieldIs s (field.Slot r) f
-      → On (read_type 16 (rows (drop r.typ s))) (λ ty. Writes (type_string ty sheet leaf) l t l' q)
-      → Writes (type_text sheet f.arm (Some leaf)) l t l' q
+  pub slot-type : (sheet : Sheet) (r : code.Slot) (leaf : Leaf) (level : ℕ) {l₁ : List ℕ} {t₁ : Text} → FieldIs s (field.Slot r) f
+      → Wrote l t (margin level) l₁ t₁
+      → On (read_type 16 (rows (drop r.typ s))) (λ ty. Writes (type_string ty sheet leaf) l₁ t₁ l' q)
+      → Writes (type_text sheet f.arm (Some leaf) level) l t l' q
   unfolding type_text
-  slot-type sheet r leaf h k = go f.arm h
+  slot-type sheet r leaf level {l₁} {t₁} h m k = go f.arm h
     where
-      go : (a : Arm) → SlotIn s r f.name f.discriminant a → Writes (type_text sheet a (Some leaf)) l t l' q
+      go : (a : Arm) → SlotIn s r f.name f.discriminant a → Writes (type_text sheet a (Some leaf) level) l t l' q
       go (slot sl) h =
-          on-has (λ ty. Writes (type_string ty sheet leaf) l t l' q) (read_type 16 (rows (drop r.typ s))) sl.ty k h.typ
+          written.in_front (type_string sl.ty sheet leaf) m
+          (on-has (λ ty. Writes (type_string ty sheet leaf) l₁ t₁ l' q) (read_type 16 (rows (drop r.typ s))) sl.ty k h.typ)
       go (group id) h = absurd h
 
-  pub slot-no-leaf : (sheet : Sheet) (r : code.Slot) → FieldIs s (field.Slot r) f → Writes (refused 15) l t l' q
-      → Writes (type_text sheet f.arm None) l t l' q
+  pub slot-no-leaf : (sheet : Sheet) (r : code.Slot) (level : ℕ) → FieldIs s (field.Slot r) f → Writes (refused 15) l t l' q
+      → Writes (type_text sheet f.arm None level) l t l' q
   unfolding type_text
-  slot-no-leaf sheet r h k = go f.arm h
+  slot-no-leaf sheet r level h k = go f.arm h
     where
-      go : (a : Arm) → SlotIn s r f.name f.discriminant a → Writes (type_text sheet a None) l t l' q
+      go : (a : Arm) → SlotIn s r f.name f.discriminant a → Writes (type_text sheet a None level) l t l' q
       go (slot sl) h = k
       go (group id) h = absurd h
 
-  pub group-no-type : (sheet : Sheet) (r : Group) (leaf : Option Leaf) → FieldIs s (field.Group r) f
-      → Writes (refused 15) l t l' q → Writes (type_text sheet f.arm leaf) l t l' q
+  pub group-no-type : (sheet : Sheet) (r : Group) (leaf : Option Leaf) (level : ℕ) → FieldIs s (field.Group r) f
+      → Writes (refused 15) l t l' q → Writes (type_text sheet f.arm leaf level) l t l' q
   unfolding type_text
-  group-no-type sheet r leaf h k = go f.arm h
+  group-no-type sheet r leaf level h k = go f.arm h
     where
-      go : (a : Arm) → GroupIn s r f.name f.discriminant a → Writes (type_text sheet a leaf) l t l' q
+      go : (a : Arm) → GroupIn s r f.name f.discriminant a → Writes (type_text sheet a leaf level) l t l' q
       go (slot sl) h = absurd h
       go (group id) h = k
 
 -- a zeroing as a request: its text, or its refusal
 pub zeroed-text : (sheet : Sheet) (id : ℕ) {l : List ℕ} {t : Text} {l' : List ℕ} (z : Zeroed)
-    → Zeroes (zero_fields_of_group sheet 16 id) l t l' (Ok z) → Writes (zeroing_request sheet id) l t l' (Ok z.text)
+    → Zeroes (zero_fields_of_group sheet 16 id) l t l' (Ok z) → Writes (zeroing_request sheet id t.level) l t l' (Ok z.text)
 unfolding zeroing_request
 zeroed-text sheet id {l} {t} {l'} z h = go (zero_fields_of_group sheet 16 id) h
   where
     go : (o : Out zero.Zeroing) → Zeroes o l t l' (Ok z)
-        → Writes (o then λ y. ok (stringify (Branch y.result))) l t l' (Ok z.text)
-    go (ok y) h = written.whole h.text
+        → Writes (o then λ y. ok (stringify (Branch y.result) t.level)) l t l' (Ok z.text)
+    go (ok y) h = written.whole h.text.lines
     go (refused k) h = absurd h
 
 pub zeroed-refusal : (sheet : Sheet) (id : ℕ) {l : List ℕ} {t : Text} {l' : List ℕ} (e : Refusal)
-    → Zeroes (zero_fields_of_group sheet 16 id) l t l' (Err e) → Writes (zeroing_request sheet id) l t l' (Err e)
+    → Zeroes (zero_fields_of_group sheet 16 id) l t l' (Err e) → Writes (zeroing_request sheet id t.level) l t l' (Err e)
 unfolding zeroing_request
 zeroed-refusal sheet id {l} {t} {l'} e h = go (zero_fields_of_group sheet 16 id) h
   where
-    go : (o : Out zero.Zeroing) → Zeroes o l t l' (Err e) → Writes (o then λ y. ok (stringify (Branch y.result))) l t l' (Err e)
+    go : (o : Out zero.Zeroing) → Zeroes o l t l' (Err e)
+        → Writes (o then λ y. ok (stringify (Branch y.result) t.level)) l t l' (Err e)
     go (ok y) h = absurd h
     go (refused k) h = written.refused-text h
 
 -- a group has no other accessor
-pub group-alone : (s : Str) (sheet : Sheet) (at : Node × tree.Field) (r : Group) (a : Accessor) → (a ≡ Zeroing → ⊥)
+pub group-alone : (s : Str) (sheet : Sheet) (at : Node × tree.Field) (r : Group) (a : Accessor) (level : ℕ) → (a ≡ Zeroing → ⊥)
     → FieldIs s (field.Group r) at.1 → {l : List ℕ} {t : Text} {l' : List ℕ} {q : Result Text Refusal}
-    → Writes (refused 15) l t l' q → Writes (accessor_text sheet at a) l t l' q
+    → Writes (refused 15) l t l' q → Writes (accessor_text sheet at a level) l t l' q
 unfolding accessor_text
-group-alone s sheet at r (TypeText leaf) n h w = group-no-type s at.1 sheet r leaf h w
-group-alone s sheet at r (Getter b f) n h w = group-no_accessor s at.1 r _ h w
-group-alone s sheet at r Setter n h w = group-no_accessor s at.1 r _ h w
-group-alone s sheet at r (Haser b) n h w = group-no_accessor s at.1 r _ h w
-group-alone s sheet at r Zeroing n h w = absurd (n refl)
+group-alone s sheet at r (TypeText leaf) level n h w = group-no-type s at.1 sheet r leaf level h w
+group-alone s sheet at r (Getter b f) level n h w = group-no_accessor s at.1 r _ h w
+group-alone s sheet at r Setter level n h w = group-no_accessor s at.1 r _ h w
+group-alone s sheet at r (Haser b) level n h w = group-no_accessor s at.1 r _ h w
+group-alone s sheet at r Zeroing level n h w = absurd (n refl)
 
 -- a field that is no slot has no scopes
 pub scopes-none : (f : Field) → ((r : code.Slot) → f ≡ field.Slot r → ⊥) → false ≡ may_have_scopes f

@@ -8,15 +8,17 @@ use lib.ListN.{length, take, drop, length-drop, drop_of_length-le}
 use lib.Seq.{take_all, drop-drop}
 use Rattle.text.specs.Answer.{placed}
 use Rattle.text.specs.Bytes.{Str}
-use Rattle.text.specs.Text.{put, state_at, Wrote}
+use Rattle.text.specs.Text.{put, state_at, with_fill, Wrote}
 use Rattle.text.specs.declared.Text.{Text}
 use Rattle.text.proofs.Places.{adv-at, adv-fits, put-placed}
 
--- where the state stands after a text from the start on
-pub text-end : {l w l' : Str} {t₀ t : Text} → t₀ ≡ state_at 0 → Wrote l t₀ w l' t → t.at ≡ min (length w) (2 ^ 64 - 1)
-text-end {w = w} {t = t} z e =
-    let f : t.at ≡ min (0 + length w) (2 ^ 64 - 1)
-    = ap (λ (t : Text). t.at) (e.state ∙ rw z (adv-at (state_at 0) w (omega arith))) in
+-- the state from the start on, and where it stands after a text
+pub start-at : {t : Text} → t ≡ state_at 0 → t.at ≡ 0
+start-at e = ap (λ (t : Text). t.at) e
+
+pub text-end : {l w l' : Str} {t₀ t : Text} → t₀.at ≡ 0 → Wrote l t₀ w l' t → t.at ≡ min (length w) (2 ^ 64 - 1)
+text-end {w = w} {t₀ = t₀} {t = t} z e =
+    let f : t.at ≡ min (t₀.at + length w) (2 ^ 64 - 1) = ap (λ (u : Text). u.at) (e.state ∙ adv-at t₀ w (omega arith)) in
     omega arith
 
 -- the bytes that are lent, and the buffer once they are back as l'
@@ -35,28 +37,28 @@ back_is l n l' =
     ∙ ap (λ (x : Str). take n l ++ x) (append-nil l')
 
 -- the text w, of which all is within the buffer
-module _ (l : Str) (n : ℕ) (w : Str) (h : n + length w ≤ length l) (b : length l < 2 ^ 64 - 1) where
-  put_first : put (lent l n) (state_at 0) w ≡ w ++ drop (n + length w) l
+module _ (l : Str) (t : Text) (w : Str) (h : t.at + length w ≤ length l) (b : length l < 2 ^ 64 - 1) where
+  put_first : put (lent l t.at) (with_fill t 0) w ≡ w ++ drop (t.at + length w) l
   unfolding placed
   put_first =
-      let x = length-drop n l in
+      let x = length-drop t.at l in
       let z : 0 + length w ≡ length w = omega arith in
-      ap (λ (d : Str). put d (state_at 0) w) (lent_is l n)
-      ∙ put-placed (drop n l) 0 w (omega (arith, x)) (omega (arith, x))
-      ∙ ap (λ (k : ℕ). w ++ drop k (drop n l)) z
-      ∙ ap (λ (d : Str). w ++ d) (drop-drop (length w) n l)
+      ap (λ (d : Str). put d (with_fill t 0) w) (lent_is l t.at)
+      ∙ put-placed (drop t.at l) (with_fill t 0) w (omega (arith, x)) (omega (arith, x))
+      ∙ ap (λ (k : ℕ). w ++ drop k (drop t.at l)) z
+      ∙ ap (λ (d : Str). w ++ d) (drop-drop (length w) t.at l)
 
-  put-lent : back l n (put (lent l n) (state_at 0) w) ≡ put l (state_at n) w
+  put-lent : back l t.at (put (lent l t.at) (with_fill t 0) w) ≡ put l t w
   unfolding placed
   put-lent =
-      back_is l n _
-      ∙ ap (λ (d : Str). take n l ++ d) put_first
-      ∙ sym (append_assoc (take n l) w (drop (n + length w) l))
-      ∙ sym (put-placed l n w h (omega arith))
+      back_is l t.at _
+      ∙ ap (λ (d : Str). take t.at l ++ d) put_first
+      ∙ sym (append_assoc (take t.at l) w (drop (t.at + length w) l))
+      ∙ sym (put-placed l t w h (omega arith))
 
-  pub lent-wrote : {t₀ t₂ : Text} {l₂ : Str} → t₀ ≡ state_at 0 → Wrote (lent l n) t₀ w l₂ t₂
-      → Wrote l (state_at n) w (back l n l₂) (state_at (n + length w))
-  lent-wrote z e = record {
-    bytes = ap (back l n) (rw z at e.bytes) ∙ put-lent;
-    state = sym (adv-fits n w (omega arith));
+  pub lent-wrote : {t₂ : Text} {l₂ : Str} → Wrote (lent l t.at) (with_fill t 0) w l₂ t₂
+      → Wrote l t w (back l t.at l₂) (with_fill t (t.at + length w))
+  lent-wrote e = record {
+    bytes = ap (back l t.at) e.bytes ∙ put-lent;
+    state = sym (adv-fits t w (omega arith));
   }

@@ -3,3 +3,4 @@ pub mod AnswerLaws
 pub mod FieldLaws
 pub mod PassLaws
 pub mod SheetLaws
+pub mod LevelLaws

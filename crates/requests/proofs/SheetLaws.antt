@@ -1,5 +1,5 @@
 -- Laws of what is admitted: a sheet's root is the text of its first row, and its answer is that of its nodes. Assumes nothing.
-use mathlib.Core.Path.{◌≡◌, refl, sym, ap}
+use mathlib.Core.Path.{◌≡◌, refl, sym, ap, subst}
 use mathlib.Core.Bool.{Bool, true, false}
 use mathlib.Core.List.{List, []}
 use Prim.Native.Nat.{ℕ}
@@ -15,13 +15,15 @@ use Rattle.tree.specs.Reader.{Rows, Reading, got, no, ◌then◌, On}
 use Rattle.tree.specs.Read.{read_nodes, Admitted, sheet, refused, numbered, admitted}
 use Rattle.tree.specs.Read as read
 use Rattle.tree.proofs.OtherLines.{never}
-use Rattle.std.specs.Prelude.{Option, Result, Ok, ⊤}
+use Rattle.std.specs.Prelude.{Option, Result, Ok, Err, ⊤}
 use Rattle.nodes.specs.Index.{Indexed, sheet_of, IsSource}
 use Rattle.nodes.specs.declared.Source.{Source}
 use Rattle.sheet.specs.declared.Refused.{Refused}
 use Rattle.sheet.specs.Admission.{answer_numbers, refusal_in, IndexOf}
-use Rattle.requests.specs.Requests.{outcome_of}
-use Rattle.requests.specs.Told.{Answered, RequestAnswered}
+use Rattle.requests.specs.Requests.{refuses, outcome_of}
+use Rattle.requests.specs.Told.{Answered, StateAllowed, RequestAnswered}
+use Rattle.requests.proofs.AnswerLaws.{own-refusal}
+use Rattle.terms.specs.Refusals.{number}
 use Rattle.requests.specs.declared.Request.{Request}
 
 root-read : (rs : Rows) → On (read.read_sheet rs) (λ sh. sh.root ≡ text_at rs)
@@ -79,11 +81,22 @@ of_sheet s x P u e d h = go (admitted s) (admitted-root s) e d
         rw z at (h sh.nodes d)
     go (refused k line column) root e d = never cc
 
+-- a sheet that is refused
+pub sheet-refused : (s : Str) (id : ℕ) (request : Option Request) (l : Str) (t : Text) → StateAllowed l t → (e : Refused)
+    → answer_numbers (Err e) ≡ refusal_in (admitted s) → Answered l t (outcome_of (admitted s) id request t.level) l (Err e)
+sheet-refused s id request l t free e h = go (admitted s) h
+  where
+    go : (a : Admitted) → answer_numbers (Err e) ≡ refusal_in a → Answered l t (outcome_of a id request t.level) l (Err e)
+    go (sheet sh) h = never cc
+    go (refused k row column) h =
+        let z : ◌≡◌ {A = ℕ × ℕ × ℕ} (number e.refusal, e.line, e.column) (k, row, column) = cc in
+        subst (λ (p : ℕ × ℕ × ℕ). Answered l t (refuses p.0 p.1 p.2) l (Err e)) z (own-refusal l t free e)
+
 module _ (s : Str) (x : List ℕ) (id : ℕ) (request : Option Request) (l : Str) (t : Text) where
   pub sheet-answered :
       (l' : Str) (a : Result Text Refused) (u : ⊤) → answer_numbers (Ok u) ≡ refusal_in (admitted s)
       → IndexOf s (admitted s) x → (y : Source) → IsSource s x y → RequestAnswered y id request l t l' a
-      → Answered l t (outcome_of (admitted s) id request) l' a
+      → Answered l t (outcome_of (admitted s) id request t.level) l' a
   sheet-answered l' a u e index y is h =
-      of_sheet s x (λ b. Answered l t (outcome_of b id request) l' a) u e index
+      of_sheet s x (λ b. Answered l t (outcome_of b id request t.level) l' a) u e index
       (λ nodes d. rw is.root-is at (h nodes (rw (is.bytes-are, is.index-is) d)))

@@ -1,3 +1,4 @@
 pub mod Requests
 pub mod Told
+pub mod Levels
 pub mod Parts

@@ -40,9 +40,9 @@ module _ (x : Source) where
   -- the answer for a field that was found
   abbrev pub FieldAnswered : ℕ → Field → Accessor → List ℕ → Text → List ℕ → Result Text Refusal → Type 0
   FieldAnswered tag f accessor l t l' r =
-      OfField x tag f (λ sheet at. Answered l t (outcome (accessor_text sheet at accessor)) l' (all_unplaced r))
+      OfField x tag f (λ sheet at. Answered l t (outcome (accessor_text sheet at accessor t.level)) l' (all_unplaced r))
 
   -- the answer to any request
   abbrev pub RequestAsked : ℕ → Option Request → List ℕ → Text → List ℕ → Result Text Refusal → Type 0
   RequestAsked id request l t l' r =
-      InSource x (λ sheet. Answered l t (outcome (request_text sheet id request)) l' (all_unplaced r))
+      InSource x (λ sheet. Answered l t (outcome (request_text sheet id request t.level)) l' (all_unplaced r))

@@ -1,7 +1,9 @@
--- What can be requested and what it comes to: document 01, 'What can be requested' and the order of refusals. Assumes nothing.
-use Rattle.std.specs.Prelude.{Bool, List, ℕ, ltb, length}
+-- What can be requested and what it comes to: document 01, 'What can be requested' and the order of refusals; N14 of document 02,
+-- the level of indentation. Assumes nothing.
+use Rattle.std.specs.Prelude.{Bool, List, ℕ, ◌++◌, ltb, length}
 use Rattle.std.specs.Prelude.{Option, None, Some}
 use Rattle.text.specs.Bytes.{Str, cond}
+use Rattle.text.specs.Lines.{margin}
 use Rattle.text.specs.Answer as text
 use Rattle.tree.specs.Tree.{Arm, slot, group, Field, Node, Sheet}
 use Rattle.tree.specs.Read as read
@@ -28,10 +30,10 @@ there = or_refused 15
 unfoldable pub field_at : List Node → ℕ → ℕ → Out (Node × Field)
 field_at nodes id place = there (by_id id nodes) then λ n. there (nth place n.fields) then λ f. ok (n, f)
 
--- a type's text, of a slot alone: `type_string`; where no leaf is named, 15
-unfoldable pub type_text : Sheet → Arm → Option Leaf → Out Str
-type_text sheet (slot s) leaf = there leaf then type_string s.ty sheet
-type_text sheet (group id) leaf = refused 15
+-- a type's text at a level, of a slot alone: the margin and `type_string`; where no leaf is named, 15
+unfoldable pub type_text : Sheet → Arm → Option Leaf → ℕ → Out Str
+type_text sheet (slot s) leaf level = there leaf then type_string s.ty sheet then λ typ. ok (margin level ++ typ)
+type_text sheet (group id) leaf level = refused 15
 
 -- a slot with its field's name and discriminant; accessors of a group are 15
 abbrev pub slot_named : Str → ℕ → Arm → Out SlotField
@@ -46,38 +48,38 @@ abbrev pub group_of : Arm → Out ℕ
 group_of (slot s) = refused 15
 group_of (group id) = ok id
 
--- the accessors of a slot; `tag` is the offset of its node's tag
-abbrev pub slot_getter : Sheet → Bool → Bool → SlotField → Out Str
-slot_getter sheet is_reader is_fn f = getter_request sheet f.name f.slot is_reader is_fn
+-- the accessors of a slot at a level; `tag` is the offset of its node's tag
+abbrev pub slot_getter : Sheet → Bool → Bool → ℕ → SlotField → Out Str
+slot_getter sheet is_reader is_fn level f = getter_request sheet f.name f.slot is_reader is_fn level
 
-abbrev pub slot_setter : Sheet → ℕ → SlotField → Out Str
-slot_setter sheet tag f = setter_request sheet tag f.name f.discriminant f.slot
+abbrev pub slot_setter : Sheet → ℕ → ℕ → SlotField → Out Str
+slot_setter sheet tag level f = setter_request sheet tag f.name f.discriminant f.slot level
 
-abbrev pub slot_haser : ℕ → Bool → SlotField → Out Str
-slot_haser tag is_reader f = ok (haser_request tag f.name f.discriminant f.slot is_reader)
+abbrev pub slot_haser : ℕ → Bool → ℕ → SlotField → Out Str
+slot_haser tag is_reader level f = ok (haser_request tag f.name f.discriminant f.slot is_reader level)
 
--- what is asked of a field: its type's text, or an accessor
-unfoldable pub accessor_text : Sheet → Node × Field → Accessor → Out Str
-accessor_text sheet at (TypeText leaf) = type_text sheet at.1.arm leaf
-accessor_text sheet at (Getter is_reader is_fn) = slot_field at.1 then slot_getter sheet is_reader is_fn
-accessor_text sheet at Setter = slot_field at.1 then slot_setter sheet at.0.tag_offset
-accessor_text sheet at (Haser is_reader) = slot_field at.1 then slot_haser at.0.tag_offset is_reader
-accessor_text sheet at Zeroing = group_of at.1.arm then zeroing_request sheet
+-- what is asked of a field, at a level: its type's text, or an accessor
+unfoldable pub accessor_text : Sheet → Node × Field → Accessor → ℕ → Out Str
+accessor_text sheet at (TypeText leaf) level = type_text sheet at.1.arm leaf level
+accessor_text sheet at (Getter is_reader is_fn) level = slot_field at.1 then slot_getter sheet is_reader is_fn level
+accessor_text sheet at Setter level = slot_field at.1 then slot_setter sheet at.0.tag_offset level
+accessor_text sheet at (Haser is_reader) level = slot_field at.1 then slot_haser at.0.tag_offset is_reader level
+accessor_text sheet at Zeroing level = group_of at.1.arm then λ id. zeroing_request sheet id level
 
 -- the request for a text of the field at a place
 abbrev pub of_field : ℕ → Accessor → Option Request
 of_field place accessor = Some (request.Field place accessor)
 
--- the text of a request of the node with an id, or the number of its refusal; where there is no request, 15
-abbrev pub request_text : Sheet → ℕ → Option Request → Out Str
-request_text sheet id (Some (request.Field place accessor)) =
-    field_at sheet.nodes id place then λ at. accessor_text sheet at accessor
-request_text sheet id None = refused 15
+-- the text of a request of the node with an id, at a level, or the number of its refusal; where there is no request, 15
+abbrev pub request_text : Sheet → ℕ → Option Request → ℕ → Out Str
+request_text sheet id (Some (request.Field place accessor)) level =
+    field_at sheet.nodes id place then λ at. accessor_text sheet at accessor level
+request_text sheet id None level = refused 15
 
 -- ---- the answer
 
--- what a request comes to before the text state is looked at: a text, or the number, the line and the
--- column of a refusal
+-- what a request comes to at a level, the fill count and the room apart: a text, or the number, the line and the column of a
+-- refusal
 pub data Outcome : Type 0 where
   gives : Str → Outcome
   refuses : ℕ → ℕ → ℕ → Outcome
@@ -87,16 +89,29 @@ abbrev pub outcome : Out Str → Outcome
 outcome (ok s) = gives s
 outcome (refused k) = refuses k 0 0
 
-abbrev pub outcome_of : Admitted → ℕ → Option Request → Outcome
-outcome_of (read.refused k line column) id request = refuses k line column
-outcome_of (read.sheet sheet) id request = outcome (request_text sheet id request)
+abbrev pub outcome_of : Admitted → ℕ → Option Request → ℕ → Outcome
+outcome_of (read.refused k line column) id request level = refuses k line column
+outcome_of (read.sheet sheet) id request level = outcome (request_text sheet id request level)
 
--- over the buffer l and a fill count: 21 comes first, 22 last
-abbrev pub entry_answer : Str → ℕ → Outcome → text.Answer
-entry_answer l fill (gives s) = text.answer_of l fill s
-entry_answer l fill (refuses k line column) = cond (ltb (length l) fill) (text.refused 21 0 0) (text.refused k line column)
+-- the refusal of a fill count and a level over a buffer of so many bytes: 21 comes first, then 36
+unfoldable pub state_refusal : ℕ → ℕ → ℕ → Option ℕ
+state_refusal size fill level = cond (ltb size fill) (Some 21) (cond (ltb 8 level) (Some 36) None)
+
+-- the answer over the buffer l and a fill count, by the state's refusal: that, the outcome's own, and 22 last
+abbrev pub answer_by : Option ℕ → Str → ℕ → Outcome → text.Answer
+answer_by (Some k) l fill o = text.refused k 0 0
+answer_by None l fill (gives s) = text.answer_of l fill s
+answer_by None l fill (refuses k line column) = text.refused k line column
 
 -- the buffer afterwards
-abbrev pub entry_buffer : Str → ℕ → Outcome → Str
-entry_buffer l fill (gives s) = text.buffer_of l fill s
-entry_buffer l fill (refuses k line column) = l
+abbrev pub buffer_by : Option ℕ → Str → ℕ → Outcome → Str
+buffer_by (Some k) l fill o = l
+buffer_by None l fill (gives s) = text.buffer_of l fill s
+buffer_by None l fill (refuses k line column) = l
+
+-- over the buffer l, a fill count and a level
+abbrev pub entry_answer : Str → ℕ → ℕ → Outcome → text.Answer
+entry_answer l fill level = answer_by (state_refusal (length l) fill level) l fill
+
+abbrev pub entry_buffer : Str → ℕ → ℕ → Outcome → Str
+entry_buffer l fill level = buffer_by (state_refusal (length l) fill level) l fill

@@ -1,18 +1,19 @@
 // The public entry: a request of a node of a sheet, over any bytes, any text state and any buffer. The answer is the whole
-// text, or one refusal of document 01 that changes nothing. A request is measured over an empty buffer, which finds its refusal
-// or its length, before the first byte is written. Whoever holds a sheet's index asks over it, and has the text of a field that
-// was read from the start of a buffer on.
+// text, or one refusal of documents 01 and 02 that changes nothing. A request is measured over an empty buffer, which finds its
+// refusal or its length, before the first byte is written. Whoever holds a sheet's index asks over it, and has the text of a
+// field that was read from the start of a buffer on.
 #![tactic(auto)]
 
 ghost use Rattle.std.specs.Prelude.{◌≡◌, ℕ, ◌^◌, ◌≤◌, ◌<◌, length};
 ghost use Rattle.tree.specs.Read.{admitted};
 ghost use Rattle.nodes.specs.Index.{index_size};
-ghost use Rattle.codegen_types.specs.Written.{Within};
+ghost use Rattle.codegen_types.specs.Written.{Within, refusal_number};
 ghost use Rattle.field.specs.declared.Field.TheVariants as field_is;
-ghost use Rattle.requests.specs.Requests.{of_field, outcome_of};
+ghost use Rattle.requests.specs.Requests.{of_field, outcome_of, state_refusal};
 ghost use Rattle.requests.specs.Parts.{may_have_scopes, LocatedIn, FieldAnswered, RequestAsked};
 ghost use Rattle.requests.specs.Told.{AccessorWritten, AccessorMeasured, RequestAnswered, Answered, AnswerWithin};
-ghost use Rattle.requests.specs.Told.{TextPassed, unplaced};
+ghost use Rattle.requests.specs.Told.{StateAllowed, TextPassed, unplaced};
+ghost use Rattle.requests.specs.Levels.{LevelsHold};
 ghost use Rattle.requests.specs.declared.Accessor.TheVariants.{TypeText};
 
 use codegen_types::Leaf;
@@ -95,6 +96,7 @@ fn type_text(
     let Some(leaf) = leaf else {
         return Err(Refusal::NotThere);
     };
+    let t = t.margin(buf);
     type_string::type_string(source, slot.typ, leaf, t, buf)
 }
 
@@ -177,12 +179,18 @@ pub fn may_have_scopes(field: Field) -> bool
     size != ONE_ROW && size != TWO_ROWS
 }
 
-// The refusal of an accessor of a field that was read, or the length of its text: it is written over an empty buffer.
-fn measure(source: &Source<'_>, located: &Located, accessor: Accessor) -> Result<usize, Refusal>
-    ensures { AccessorMeasured source.now located.now.tag located.now.field accessor result }
+// The refusal of an accessor of a field that was read, or the length of its text at a level: it is written over an empty buffer.
+fn measure(
+    source: &Source<'_>,
+    located: &Located,
+    accessor: Accessor,
+    level: usize,
+) -> Result<usize, Refusal>
+    ensures { AccessorMeasured source.now located.now.tag located.now.field accessor level result }
 {
     let mut empty = [0u8; 0];
-    let measured = field_accessor(source, located, accessor, Text::at(0), &mut empty)?;
+    let start = Text::at_level(0, level);
+    let measured = field_accessor(source, located, accessor, start, &mut empty)?;
     Ok(measured.fill())
 }
 
@@ -201,14 +209,14 @@ pub fn write_accessor(
     ensures within { Within buf.old t buf.new result }
 {
     if may_have_scopes(located.field) {
-        measure(source, located, accessor)?;
+        measure(source, located, accessor, t.level())?;
     }
     field_accessor(source, located, accessor, t, buf)
 }
 
 // The answer for a field that was found: its refusal, 22, or its text. What is written is written into the free part of the
-// buffer, so that no byte before the fill count can change. That there is one is a premise of this and two functions below, and
-// no value's fact, as the buffer is lent.
+// buffer, so that no byte before the fill count can change. That there is one, and that the level is at most 8, is a premise of
+// this and two functions below, and no value's fact, as the buffer is lent.
 fn answer_found(
     source: &Source<'_>,
     located: &Located,
@@ -216,20 +224,20 @@ fn answer_found(
     t: Text,
     buf: &mut [u8],
 ) -> Result<Text, Refusal>
-    requires { t.at ≤ length buf.old }
+    requires { StateAllowed buf.old t }
     ensures indexed { FieldAnswered source.now located.now.tag located.now.field accessor
         buf.old t buf.new result }
     ensures within { AnswerWithin buf.old t buf.new result }
 {
-    let n = measure(source, located, accessor)?;
+    let n = measure(source, located, accessor, t.level())?;
     let fill = t.fill();
     if buf.len() - fill < n {
         return Err(Refusal::NoRoom);
     }
     let free = &mut buf[fill..];
     // What was measured is not refused now.
-    let _ = field_accessor(source, located, accessor, Text::at(0), free);
-    Ok(Text::at(fill + n))
+    let _ = field_accessor(source, located, accessor, t.with_fill(0), free);
+    Ok(t.with_fill(fill + n))
 }
 
 // The answer for the field at a place of the node with an id: 15 where there is none.
@@ -241,7 +249,7 @@ fn answer_field(
     t: Text,
     buf: &mut [u8],
 ) -> Result<Text, Refusal>
-    requires { t.at ≤ length buf.old }
+    requires { StateAllowed buf.old t }
     ensures indexed { RequestAsked source.now id (of_field place accessor) buf.old t buf.new result }
     ensures within { AnswerWithin buf.old t buf.new result }
 {
@@ -251,7 +259,20 @@ fn answer_field(
     answer_found(source, &located, accessor, t, buf)
 }
 
-// The answer to a request of the node with an id: 21 before anything is looked at; where there is no request, 15.
+// The refusal of a text state over a buffer of so many bytes: 21, and then 36.
+fn state_allowed(t: Text, size: usize) -> Result<(), Refusal>
+    ensures { refusal_number result ≡ state_refusal size t.at t.level }
+{
+    if size < t.fill() {
+        return Err(Refusal::FillPastEnd);
+    }
+    if limits::LEVEL < t.level() {
+        return Err(Refusal::LevelTooHigh);
+    }
+    Ok(())
+}
+
+// The answer to a request of the node with an id: 21 and 36 before anything is looked at; where there is no request, 15.
 fn answer_asked(
     source: &Source<'_>,
     id: u64,
@@ -262,9 +283,7 @@ fn answer_asked(
     ensures indexed { RequestAsked source.now id request buf.old t buf.new result }
     ensures within { AnswerWithin buf.old t buf.new result }
 {
-    if buf.len() < t.fill() {
-        return Err(Refusal::FillPastEnd);
-    }
+    state_allowed(t, buf.len())?;
     match request {
         Some(Request::Field { place, accessor }) => {
             answer_field(source, id, place, accessor, t, buf)
@@ -297,8 +316,8 @@ fn answer_over<const N: usize>(
     t: Text,
     buf: &mut [u8],
 ) -> Result<Text, Refused>
-    requires { (t.at ≤ length buf.old) × (index_size (length s.now) ≤ N) × (N < 2 ^ 60) }
-    ensures { Answered buf.old t (outcome_of (admitted s.now) id request)
+    requires { (index_size (length s.now) ≤ N) × (N < 2 ^ 60) × StateAllowed buf.old t }
+    ensures { Answered buf.old t (outcome_of (admitted s.now) id request t.level)
         buf.new result }
 {
     let mut index = [0u64; N];
@@ -307,8 +326,8 @@ fn answer_over<const N: usize>(
     answer_in(&source, id, request, t, buf)
 }
 
-// The answer to a request of the node with an id: 21 before the sheet is looked at, the sheet's own refusal, 15, the request's
-// own, 22. Of the index no more is cleared than a sheet of this length may need.
+// The answer to a request of the node with an id: 21 and 36 before the sheet is looked at, the sheet's own refusal, 15, the
+// request's own, 22. Of the index no more is cleared than a sheet of this length may need.
 pub fn answer_request(
     s: &[u8],
     id: u64,
@@ -316,11 +335,11 @@ pub fn answer_request(
     t: Text,
     buf: &mut [u8],
 ) -> Result<Text, Refused>
-    ensures { Answered buf.old t (outcome_of (admitted s.now) id request)
+    ensures { Answered buf.old t (outcome_of (admitted s.now) id request t.level)
         buf.new result }
 {
-    if buf.len() < t.fill() {
-        return Err(unplaced(Refusal::FillPastEnd));
+    if let Err(refusal) = state_allowed(t, buf.len()) {
+        return Err(unplaced(refusal));
     }
     if s.len() <= SHORT_SHEET {
         return answer_over::<SHORT_INDEX>(s, id, request, t, buf);
@@ -328,26 +347,34 @@ pub fn answer_request(
     answer_over::<{ nodes::INDEX_SIZE }>(s, id, request, t, buf)
 }
 
-// The length of the text of a field that was read, in the node with a number, from 0, which is written from the start of the
-// buffer on: it is whole where the buffer has so many bytes. 15 where there is no such node or no field. There are at most 64
-// nodes.
+// The length of a text, at a level, of a field that was read, in the node with a number, from 0. It is written from the start of
+// the buffer on, and is whole where the buffer has so many bytes. 36 comes first; 15 where there is no such node, field or text.
+// There are at most 64 nodes.
 pub fn text(
     source: &Source<'_>,
     node: usize,
     field: Option<Field>,
-    accessor: Accessor,
+    accessor: Option<Accessor>,
+    level: usize,
     buf: &mut [u8],
 ) -> Result<usize, Refusal>
-    ensures passed { TextPassed source.now node field accessor
+    ensures passed { TextPassed source.now node field accessor level
         buf.old buf.new result }
 {
-    let (Some(entry), Some(field)) = (source.nth(node), field) else {
+    let start = Text::at_level(0, level);
+    state_allowed(start, buf.len())?;
+    let (Some(entry), Some(field), Some(accessor)) = (source.nth(node), field, accessor) else {
         return Err(Refusal::NotThere);
     };
     let located = Located {
         tag: entry.tag_offset,
         field,
     };
-    let end = write_accessor(source, &located, accessor, Text::at(0), buf)?;
+    let end = write_accessor(source, &located, accessor, start, buf)?;
     Ok(end.fill())
 }
+
+// Makes it a promise of this crate that a level moves in the lines of whatever is asked, and changes nothing else.
+pub fn claims()
+    ensures { LevelsHold }
+{}

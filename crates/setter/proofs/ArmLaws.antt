@@ -1,10 +1,10 @@
 -- The arms of a setter, by the kind of its slot: what the match of `generate_setter` gives for that kind's types, and what the
--- code leaves at each of its ends. Assumes nothing.
+-- code leaves at each of its ends, at the level of the state that the arm begins in. Assumes nothing.
 use mathlib.Core.Path.{◌≡◌, refl, sym, ap, ◌∙◌}
 use mathlib.Core.Bool.{Bool, true, false}
 use mathlib.Core.List.{List, ◌++◌, append_assoc}
 use Rattle.std.specs.Prelude.{Option, Some, Result, Ok, Err}
-use Prim.Native.Nat.{ℕ, ◌≤◌}
+use Prim.Native.Nat.{ℕ, ◌+◌, ◌≤◌}
 use native.Mathlib.Omega.{arith}
 use borrow.Author.Tests.{ne_eqb, eqb-true, eqb-false}
 use lib.Dec.{eqb, leb}
@@ -13,8 +13,8 @@ use Rattle.terms.specs.Kinds.{number_of}
 use Rattle.text.specs.Bytes.{Str, ascii, either}
 use Rattle.text.specs.Decimal.{decimal}
 use Rattle.text.specs.Lines as lines
-use Rattle.text.specs.Lines.{stringify}
-use Rattle.text.specs.Text.{Wrote}
+use Rattle.text.specs.Lines.{margin, broken, stringify}
+use Rattle.text.specs.Text.{Wrote, WroteLines}
 use Rattle.text.specs.declared.Text.{Text}
 use Rattle.row.specs.Rows.{rows, rest_of}
 use Rattle.names.specs.Names.{held, camel_to_snake_case, name_of}
@@ -78,15 +78,16 @@ module _ (bytes : Str) (r : Slot) (f : SlotField) (here : SlotHere bytes r f) wh
   pub typed : (P : Ty → Type 0) → On (read_type 16 (rows (drop r.typ bytes))) P → P f.slot.ty
   typed P x = on-has P (read_type 16 (rows (drop r.typ bytes))) f.slot.ty x here.typ
 
-  module _ (sheet : Sheet) (tag : ℕ) (name : Str) where
+  -- a setter that begins in the state t
+  module _ (sheet : Sheet) (tag : ℕ) (name : Str) (t : Text) where
     abbrev is : SlotIs r f.slot
     is = here.slot
 
     abbrev text : Out Str
-    text = setter_text_of sheet tag name r.discriminant f.slot
+    text = setter_text_of sheet tag name r.discriminant f.slot t.level
 
     abbrev from : Out Parts → Out Str
-    from o = made sheet.root tag name r.discriminant o
+    from o = made sheet.root tag name r.discriminant o t.level
 
     abbrev typ : Leaf → Out Str
     typ leaf = type_string f.slot.ty sheet leaf
@@ -151,27 +152,27 @@ module _ (bytes : Str) (r : Slot) (f : SlotField) (here : SlotHere bytes r f) wh
 
     -- what is written of whatever type is read at the slot's
     abbrev There : (Ty → Out Str) → List ℕ → Text → List ℕ → Result Text Refusal → Type 0
-    There o l t l' q = On (read_type 16 (rows (drop r.typ bytes))) (λ ty. Writes (o ty) l t l' q)
+    There o l u l' q = On (read_type 16 (rows (drop r.typ bytes))) (λ ty. Writes (o ty) l u l' q)
 
-    there : (o : Ty → Out Str) (l : List ℕ) (t : Text) (l' : List ℕ) (q : Result Text Refusal) → There o l t l' q
-        → Writes (o f.slot.ty) l t l' q
-    there o l t l' q x = typed (λ ty. Writes (o ty) l t l' q) x
+    there : (o : Ty → Out Str) (l : List ℕ) (u : Text) (l' : List ℕ) (q : Result Text Refusal) → There o l u l' q
+        → Writes (o f.slot.ty) l u l' q
+    there o l u l' q x = typed (λ ty. Writes (o ty) l u l' q) x
 
     abbrev read : Leaf → Ty → Out Str
     read leaf ty = type_string ty sheet leaf
 
     -- a list's setter takes what is chosen by its element
     abbrev ListReader : List ℕ → Text → List ℕ → Result Text Refusal → Type 0
-    ListReader l t l' q =
+    ListReader l u l' q =
         On (read_type 16 (rows (drop r.typ bytes))) (λ ty. (el : Ty) → ty ≡ list el
-        → Writes (list_reader_type sheet el ty) l t l' q)
+        → Writes (list_reader_type sheet el ty) l u l' q)
 
-    list_reader : (l : List ℕ) (t : Text) (l' : List ℕ) (q : Result Text Refusal) → ListReader l t l' q → (el : Ty)
+    list_reader : (l : List ℕ) (u : Text) (l' : List ℕ) (q : Result Text Refusal) → ListReader l u l' q → (el : Ty)
         → f.slot.ty ≡ list el
-        → Writes (list_reader_type sheet el f.slot.ty) l t l' q
-    list_reader l t l' q x el z = typed (λ ty. (el : Ty) → ty ≡ list el → Writes (list_reader_type sheet el ty) l t l' q) x el z
+        → Writes (list_reader_type sheet el f.slot.ty) l u l' q
+    list_reader l u l' q x el z = typed (λ ty. (el : Ty) → ty ≡ list el → Writes (list_reader_type sheet el ty) l u l' q) x el z
 
-    module _ {l l' : List ℕ} {t : Text} (l₁ : List ℕ) (t₁ : Text) (l₂ : List ℕ) where
+    module _ {l l' : List ℕ} (l₁ : List ℕ) (t₁ : Text) (l₂ : List ℕ) where
       -- the first type is refused
       module _ (e : Refusal) where
         pub struct-first : number_of r.kind ≡ 16 → There (read (Reader Anonymous)) l₁ t₁ l₂ (Err e) → Writes text l t l' (Err e)
@@ -218,61 +219,62 @@ module _ (bytes : Str) (r : Slot) (f : SlotField) (here : SlotHere bytes r f) wh
           let p = text-of (get_qualified_module sheet r.id) x in rw (enum-is k, p.is, ← m) (refused-text refl)
 
     -- the first type is not refused, and what follows it may be
-    abbrev follow : Bool → Str → Ty → Out Str
-    follow sized size ty =
+    abbrev follow : Bool → Str → ℕ → Ty → Out Str
+    follow sized size level ty =
         read (Builder A) ty then λ b.
-        ok (behind_set sheet.root tag name r.discriminant r.offset sized (init_pointer sheet.root r.offset size) b)
+        ok (behind_set sheet.root tag name r.discriminant r.offset sized (init_pointer sheet.root r.offset size) b level)
 
-    module _ {l l₁ l₃ : List ℕ} {t t₁ : Text} {q : Result Text Refusal} (l₂ : List ℕ) (v : Text) where
-      followed : (sized : Bool) (size : Str) (o : Out Str) → Wrote l t (set_open name) l₁ t₁ → Writes o l₁ t₁ l₂ (Ok v)
-          → There (follow sized size) l₂ v l₃ q
+    module _ {l l₁ l₃ : List ℕ} {t₁ : Text} {q : Result Text Refusal} (l₂ : List ℕ) (v : Text) where
+      followed : (sized : Bool) (size : Str) (o : Out Str) → WroteLines l t (set_open name) l₁ t₁ → Writes o l₁ t₁ l₂ (Ok v)
+          → There (follow sized size v.level) l₂ v l₃ q
           → Writes (from (o then λ a. typ (Builder A) then λ b. ok (both sized size a b))) l t l₃ q
       followed sized size o a x y =
           both-writes sheet.root tag name r.discriminant r.offset sized (init_pointer sheet.root r.offset size)
-          o (typ (Builder A)) a x (there (follow sized size) l₂ v l₃ q y)
+          o (typ (Builder A)) a x (there (follow sized size v.level) l₂ v l₃ q y)
 
-      pub struct-here : number_of r.kind ≡ 16 → Wrote l t (set_open name) l₁ t₁
-          → There (read (Reader Anonymous)) l₁ t₁ l₂ (Ok v) → There (follow false (ascii "0")) l₂ v l₃ q → Writes text l t l₃ q
+      pub struct-here : number_of r.kind ≡ 16 → WroteLines l t (set_open name) l₁ t₁
+          → There (read (Reader Anonymous)) l₁ t₁ l₂ (Ok v) → There (follow false (ascii "0") v.level) l₂ v l₃ q
+          → Writes text l t l₃ q
       struct-here k a x y =
           rw (struct-is k)
           (followed false (ascii "0") (typ (Reader Anonymous)) a (there (read (Reader Anonymous)) l₁ t₁ l₂ (Ok v) x) y)
 
-      pub list-here : number_of r.kind ≡ 14 → Wrote l t (set_open name) l₁ t₁ → ListReader l₁ t₁ l₂ (Ok v)
-          → There (follow true (ascii "size")) l₂ v l₃ q → Writes text l t l₃ q
+      pub list-here : number_of r.kind ≡ 14 → WroteLines l t (set_open name) l₁ t₁ → ListReader l₁ t₁ l₂ (Ok v)
+          → There (follow true (ascii "size") v.level) l₂ v l₃ q → Writes text l t l₃ q
       list-here k a x y =
           let arm = list-is k in
           rw arm.2
           (followed true (ascii "size") (list_reader_type sheet arm.0 f.slot.ty) a (list_reader l₁ t₁ l₂ (Ok v) x arm.0 arm.1) y)
 
     -- nothing is refused
-    pub interface-here : {l l₁ l₂ l₃ : List ℕ} {t t₁ u t₃ : Text} → number_of r.kind ≡ 17 → Wrote l t (set_open name) l₁ t₁
+    pub interface-here : {l l₁ l₂ l₃ : List ℕ} {t₁ u t₃ : Text} → number_of r.kind ≡ 17 → WroteLines l t (set_open name) l₁ t₁
         → There (read Client) l₁ t₁ l₂ (Ok u)
-        → Wrote l₂ u (only_end tag r.discriminant (reborrowed r.offset ++ ascii ".set_capability(value.client.hook);")) l₃ t₃
+        → WroteLines l₂ u (only_end tag r.discriminant (reborrowed r.offset ++ ascii ".set_capability(value.client.hook);")) l₃ t₃
         → Writes text l t l₃ (Ok t₃)
-    interface-here {l} {l₁} {l₂} {l₃} {t} {t₁} {u} {t₃} k a x b =
+    interface-here {l} {l₁} {l₂} {l₃} {t₁} {u} {t₃} k a x b =
         rw (interface-is k)
         (only-writes sheet.root tag name r.discriminant (ok tt) tt
         (λ (z : Unit {0}). reborrowed r.offset ++ ascii ".set_capability(value.client.hook);") (typ Client) refl a
         (there (read Client) l₁ t₁ l₂ (Ok u) x) b)
 
-    pub enum-here : {l l₁ l₂ l₃ : List ℕ} {t t₁ u t₃ : Text} (mask : Option Str) → number_of r.kind ≡ 15
-        → ok mask ≡ explicit_mask r.explicit (value (number_of r.default) r.bits) → Wrote l t (set_open name) l₁ t₁
+    pub enum-here : {l l₁ l₂ l₃ : List ℕ} {t₁ u t₃ : Text} (mask : Option Str) → number_of r.kind ≡ 15
+        → ok mask ≡ explicit_mask r.explicit (value (number_of r.default) r.bits) → WroteLines l t (set_open name) l₁ t₁
         → Writes (get_qualified_module sheet r.id) l₁ t₁ l₂ (Ok u)
-        → Wrote l₂ u (only_end tag r.discriminant (line mask)) l₃ t₃ → Writes text l t l₃ (Ok t₃)
+        → WroteLines l₂ u (only_end tag r.discriminant (line mask)) l₃ t₃ → Writes text l t l₃ (Ok t₃)
     enum-here mask k m a x b =
         rw (enum-is k)
         (only-writes sheet.root tag name r.discriminant (explicit_mask r.explicit (value (number_of r.default) r.bits)) mask line
         (get_qualified_module sheet r.id) (sym m) a x b)
 
-    pub parameter-here : {l l₁ l₂ l₃ l₄ l₅ l₆ l₇ l₈ l₉ : List ℕ} {t t₁ t₃ t₄ t₆ t₇ t₉ u v w : Text}
+    pub parameter-here : {l l₁ l₂ l₃ l₄ l₅ l₆ l₇ l₈ l₉ : List ℕ} {t₁ t₃ t₄ t₆ t₇ t₉ u v w : Text}
         → number_of r.kind ≡ 18 → (r.id ≡ 0 → ⊥)
-        → Wrote l t (initn_open name) l₁ t₁ → There (read (Builder A)) l₁ t₁ l₂ (Ok u)
-        → Wrote l₂ u (init_end tag r.discriminant (new (ascii ".initn_as(length)"))) l₃ t₃
-        → Wrote l₃ t₃ (set_open name) l₄ t₄ → There (input_type sheet) l₄ t₄ l₅ (Ok v)
-        → Wrote l₅ v (set_end sheet.root tag r.discriminant r.offset) l₆ t₆
-        → Wrote l₆ t₆ (init_open name false) l₇ t₇ → There (read (Builder A)) l₇ t₇ l₈ (Ok w)
-        → Wrote l₈ w (init_end tag r.discriminant (new (ascii ".init_as()"))) l₉ t₉ → Writes text l t l₉ (Ok t₉)
-    parameter-here {l} {l₁} {l₂} {l₃} {l₄} {l₅} {l₆} {l₇} {l₈} {l₉} {t} {t₁} {t₃} {t₄} {t₆} {t₇} {t₉} {u} {v} {w}
+        → WroteLines l t (initn_open name) l₁ t₁ → There (read (Builder A)) l₁ t₁ l₂ (Ok u)
+        → WroteLines l₂ u (init_end tag r.discriminant (new (ascii ".initn_as(length)"))) l₃ t₃
+        → WroteLines l₃ t₃ (set_open name) l₄ t₄ → There (input_type sheet) l₄ t₄ l₅ (Ok v)
+        → WroteLines l₅ v (set_end sheet.root tag r.discriminant r.offset) l₆ t₆
+        → WroteLines l₆ t₆ (init_open name false) l₇ t₇ → There (read (Builder A)) l₇ t₇ l₈ (Ok w)
+        → WroteLines l₈ w (init_end tag r.discriminant (new (ascii ".init_as()"))) l₉ t₉ → Writes text l t l₉ (Ok t₉)
+    parameter-here {l} {l₁} {l₂} {l₃} {l₄} {l₅} {l₆} {l₇} {l₈} {l₉} {t₁} {t₃} {t₄} {t₆} {t₇} {t₉} {u} {v} {w}
         k n a x b c y e g z h =
         rw (parameter-is k n)
         (three_writes sheet.root tag name r.discriminant r.offset (new (ascii ".initn_as(length)")) (new (ascii ".init_as()"))
@@ -281,14 +283,15 @@ module _ (bytes : Str) (r : Slot) (f : SlotField) (here : SlotHere bytes r f) wh
         g (there (read (Builder A)) l₇ t₇ l₈ (Ok w) z) h)
 
 -- the line of an interface's setter, its constants merged
-pub capability-line : (x : Str) (offset : ℕ)
-    → x ++ ascii "    " ++ ascii "self.builder.reborrow().get_pointer_field(" ++ decimal offset
-    ++ ascii ").set_capability(value.client.hook);\n}\n"
-    ≡ x ++ ascii "    " ++ (reborrowed offset ++ ascii ".set_capability(value.client.hook);") ++ ascii "\n}\n"
-capability-line x offset =
-    joined x (ascii "    ") (ascii "self.builder.reborrow().get_pointer_field(") (decimal offset) (ascii ")")
-    (ascii ".set_capability(value.client.hook);")
-    (ascii "\n}\n")
+pub capability-line : (x : Str) (offset level : ℕ)
+    → x ++ margin (level + 1) ++ ascii "self.builder.reborrow().get_pointer_field(" ++ decimal offset
+    ++ broken (ascii ").set_capability(value.client.hook);\n}\n") level
+    ≡ x ++ margin (level + 1) ++ (reborrowed offset ++ ascii ".set_capability(value.client.hook);")
+    ++ broken (ascii "\n}\n") level
+unfolding broken
+capability-line x offset level =
+    joined x (margin (level + 1)) (ascii "self.builder.reborrow().get_pointer_field(") (decimal offset) (ascii ")")
+    (ascii ".set_capability(value.client.hook);") (broken (ascii "\n}\n") level)
   where
     joined : (x sp p o q u z : Str) → x ++ sp ++ p ++ o ++ (q ++ u ++ z) ≡ x ++ sp ++ (p ++ o ++ q ++ u) ++ z
     joined x sp p o q u z = simp append_assoc
@@ -349,31 +352,31 @@ module _ (sheet : Sheet) (s : tree.Slot) (r : Slot) (is : SlotIs r s) (tag : ℕ
       setter_only (ascii "value") (line_alone (set_data_field (primitive_text (number_of r.kind)) r.offset (ascii "value") mask))
       (primitive_text (number_of r.kind))
 
-  abbrev out : Out Str
+  abbrev out : ℕ → Out Str
   out = setter_text_of sheet tag name d s
 
-  -- these parts are written whole
+  -- these parts are written whole, from the level of the state on
   abbrev Whole : List ℕ → Text → List ℕ → Text → Parts → Type 0
-  Whole l t l' t' p = Wrote l t (stringify (setter_functions sheet.root tag name d p)) l' t'
+  Whole l t l' t' p = WroteLines l t (stringify (setter_functions sheet.root tag name d p)) l' t'
 
   whole_here : {l l' : List ℕ} {t t' : Text} (p : Parts) → setter_parts sheet s s.ty ≡ ok p → Whole l t l' t' p
-      → Writes out l t l' (Ok t')
+      → Writes (out t.level) l t l' (Ok t')
   unfolding generate_setter
-  whole_here p e w = rw e (whole w)
+  whole_here p e w = rw e (whole w.lines)
 
   module _ {l l' : List ℕ} {t t' : Text} where
     pub void-here : number_of r.kind ≡ 0 → Whole l t l' t' (setter_only (ascii "_value") lines.none (ascii "()"))
-        → Writes out l t l' (Ok t')
+        → Writes (out t.level) l t l' (Ok t')
     void-here e w = whole_here _ (parts_at 0 e (omega arith)) w
 
-    pub text-here : number_of r.kind ≡ 12 → Whole l t l' t' (text_parts sheet.root r.offset) → Writes out l t l' (Ok t')
+    pub text-here : number_of r.kind ≡ 12 → Whole l t l' t' (text_parts sheet.root r.offset) → Writes (out t.level) l t l' (Ok t')
     text-here e w = whole_here (text_parts sheet.root r.offset) (parts_at 12 e (omega arith) ∙ rw is.offset refl) w
 
-    pub data-here : number_of r.kind ≡ 13 → Whole l t l' t' (data_parts sheet.root r.offset) → Writes out l t l' (Ok t')
+    pub data-here : number_of r.kind ≡ 13 → Whole l t l' t' (data_parts sheet.root r.offset) → Writes (out t.level) l t l' (Ok t')
     data-here e w = whole_here (data_parts sheet.root r.offset) (parts_at 13 e (omega arith) ∙ rw is.offset refl) w
 
     pub any_here : number_of r.kind ≡ 18 → r.id ≡ 0 → Whole l t l' t' (pointer_parts sheet.root r.offset)
-        → Writes out l t l' (Ok t')
+        → Writes (out t.level) l t l' (Ok t')
     any_here e i w =
         whole_here (pointer_parts sheet.root r.offset)
         (at-any (λ ty. setter_parts sheet s ty ≡ ok (pointer_parts sheet.root r.offset)) s.ty r.id is.id
@@ -397,21 +400,21 @@ module _ (sheet : Sheet) (s : tree.Slot) (r : Slot) (is : SlotIs r s) (tag : ℕ
 
   module _ {l l' : List ℕ} {t : Text} where
     pub prim-refused : {e : Refusal} → (number_of r.kind ≡ 0 → ⊥) → number_of r.kind ≤ 11 → refused (number e) ≡ default
-        → Writes out l t l' (Err e)
+        → Writes (out t.level) l t l' (Err e)
     unfolding generate_setter
     prim-refused {e} n0 le h = go (eqb (number_of r.kind) 1) refl
       where
-        go : (b : Bool) → eqb (number_of r.kind) 1 ≡ b → Writes out l t l' (Err e)
+        go : (b : Bool) → eqb (number_of r.kind) 1 ≡ b → Writes (out t.level) l t l' (Err e)
         go true k = rw (bool-is (eqb-true (number_of r.kind) 1 k), ← h) (refused-text refl)
         go false k = rw (number-is n0 (eqb-false (number_of r.kind) 1 k) le, ← h) (refused-text refl)
 
     module _ {t' : Text} (mask : Option Str) (h : ok mask ≡ default) where
-      pub bool-here : number_of r.kind ≡ 1 → Whole l t l' t' (bool_parts (mask_or default)) → Writes out l t l' (Ok t')
+      pub bool-here : number_of r.kind ≡ 1 → Whole l t l' t' (bool_parts (mask_or default)) → Writes (out t.level) l t l' (Ok t')
       bool-here e w = whole_here (bool_parts mask) (bool-is e ∙ rw (← h) refl) (rw (← h) at w)
 
       pub number-here : (number_of r.kind ≡ 0 → ⊥) → (number_of r.kind ≡ 1 → ⊥) → number_of r.kind ≤ 11
           → Whole l t l' t' (number_parts (mask_or default))
-          → Writes out l t l' (Ok t')
+          → Writes (out t.level) l t l' (Ok t')
       number-here n0 n1 le w = whole_here (number_parts mask) (number-is n0 n1 le ∙ rw (← h) refl) (rw (← h) at w)
 
 -- ---- the request
@@ -419,8 +422,8 @@ module _ (sheet : Sheet) (s : tree.Slot) (r : Slot) (is : SlotIs r s) (tag : ℕ
 pub setter-here : {l l' : List ℕ} {t : Text} {q : Result Text Refusal} (bytes : Str) (r : Slot) (f : SlotField)
     → SlotHere bytes r f
     → (sheet : Sheet) (tag : ℕ) (name : Str) (snake : Snake) → name ≡ f.name → snake ≡ held (camel_to_snake_case name)
-    → Writes (setter_text_of sheet tag (name_of snake) r.discriminant f.slot) l t l' q
-    → Writes (setter_request sheet tag f.name f.discriminant f.slot) l t l' q
+    → Writes (setter_text_of sheet tag (name_of snake) r.discriminant f.slot t.level) l t l' q
+    → Writes (setter_request sheet tag f.name f.discriminant f.slot t.level) l t l' q
 unfolding setter_request
 setter-here bytes r f here sheet tag name snake text held-is x =
     rw (← text, ← name_of_lem snake (camel_to_snake_case name) held-is, here.discriminant) x

@@ -1,7 +1,8 @@
--- Texts with a type that is read in the sheet, and the ends of the functions that have one. Assumes nothing.
-use Rattle.std.specs.Prelude.{Bool, true, false, List, ◌++◌, ℕ, drop, Result}
+-- Texts with a type that is read in the sheet, and the ends of the functions that have one. Those in which lines begin have the
+-- level last. Assumes nothing.
+use Rattle.std.specs.Prelude.{Bool, true, false, List, ◌++◌, ℕ, ◌+◌, drop, Result}
 use Rattle.text.specs.Bytes.{Str, ascii}
-use Rattle.text.specs.Lines.{stringify}
+use Rattle.text.specs.Lines.{margin, broken, stringify}
 use Rattle.text.specs.declared.Text.{Text}
 use Rattle.row.specs.Rows.{rows}
 use Rattle.tree.specs.Tree as tree
@@ -31,16 +32,17 @@ abbrev pub input_type : Sheet → Ty → Out Str
 input_type sheet ty = type_string ty sheet Owned then λ owned. ok (setter_input sheet.root owned)
 
 -- a setter of a pointer, after its value's type
-abbrev pub set_end : Str → ℕ → ℕ → ℕ → Str
-set_end root tag discriminant offset =
-    set_close root true ++ tag_line tag discriminant ++ ascii "    " ++ set_pointer root offset ++ ascii "\n}\n"
+abbrev pub set_end : Str → ℕ → ℕ → ℕ → ℕ → Str
+set_end root tag discriminant offset level =
+    set_close root true ++ tag_line tag discriminant level ++ margin (level + 1) ++ set_pointer root offset
+    ++ broken (ascii "\n}\n") level
 
 -- an initializer from its result's type up to its last line, and up to its end
-abbrev pub init_start : ℕ → ℕ → Str
+abbrev pub init_start : ℕ → ℕ → ℕ → Str
 init_start tag discriminant = start (ascii " {\n") tag discriminant
 
-abbrev pub init_end : ℕ → ℕ → Str → Str
-init_end tag discriminant line = init_start tag discriminant ++ line ++ ascii "\n}\n"
+abbrev pub init_end : ℕ → ℕ → Str → ℕ → Str
+init_end tag discriminant line level = init_start tag discriminant level ++ line ++ broken (ascii "\n}\n") level
 
 -- what an initializer passes as the size: its parameter, where it has one
 abbrev pub size_argument : Bool → Str
@@ -49,18 +51,19 @@ size_argument false = ascii "0"
 
 -- a list's or a struct's functions after the type of what is set: the setter's end, and the initializer of an object, with a size
 -- or not
-abbrev pub object_end : Target → Bool → Sheet → Ty → Out Str
-object_end target sized sheet ty =
+abbrev pub object_end : Target → Bool → Sheet → Ty → ℕ → Out Str
+object_end target sized sheet ty level =
     type_string ty sheet (Builder A) then λ builder_type.
-    ok (set_end sheet.root target.tag target.slot.discriminant target.slot.offset ++ init_open (name_of target.name) sized
+    ok (set_end sheet.root target.tag target.slot.discriminant target.slot.offset level
+    ++ init_open (name_of target.name) sized level
     ++ builder_type
-    ++ init_end target.tag target.slot.discriminant (init_pointer sheet.root target.slot.offset (size_argument sized)))
+    ++ init_end target.tag target.slot.discriminant (init_pointer sheet.root target.slot.offset (size_argument sized)) level)
 
--- the text of a setter by its styled name
-abbrev pub setter_text_of : Sheet → ℕ → Str → ℕ → tree.Slot → Out Str
-setter_text_of sheet tag_offset styled_name discriminant s =
-    generate_setter sheet tag_offset styled_name discriminant s then λ ft. ok (stringify ft)
+-- the text of a setter by its styled name, at a level
+abbrev pub setter_text_of : Sheet → ℕ → Str → ℕ → tree.Slot → ℕ → Out Str
+setter_text_of sheet tag_offset styled_name discriminant s level =
+    generate_setter sheet tag_offset styled_name discriminant s then λ ft. ok (stringify ft level)
 
 -- the same, for what a setter is written for
-abbrev pub setter_for : Sheet → Target → tree.Slot → Out Str
+abbrev pub setter_for : Sheet → Target → tree.Slot → ℕ → Out Str
 setter_for sheet target s = setter_text_of sheet target.tag (name_of target.name) target.slot.discriminant s

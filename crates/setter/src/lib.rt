@@ -5,7 +5,7 @@
 ghost use Rattle.std.specs.Prelude.{◌≡◌, ◌++◌, List, ◌<◌, eqb, leb, drop};
 ghost use Rattle.terms.specs.Kinds.{number_of};
 ghost use Rattle.terms.specs.declared.kinds.Kind.TheVariants as kind;
-ghost use Rattle.text.specs.Text.{Wrote};
+ghost use Rattle.text.specs.Text.{WroteLines};
 ghost use Rattle.text.specs.Bytes.{Str, either};
 ghost use Rattle.row.specs.Rows.{rest_of, rows};
 ghost use Rattle.tree.specs.Tree as tree;
@@ -32,7 +32,7 @@ use text::Text;
 fn prim_setter(target: &Target, t: Text, buf: &mut [u8]) -> Result<Text, Refusal>
     ensures text { (root : Str) (ns : List tree.Node) (sl : tree.Slot) → SlotIs target.now.slot sl
         → (number_of target.now.slot.kind ≡ 0 → ⊥) → number_of target.now.slot.kind < 12
-        → Writes (setter_for (sheet_of root ns) target.now sl) buf.old t buf.new result }
+        → Writes (setter_for (sheet_of root ns) target.now sl t.level) buf.old t buf.new result }
     ensures within { Within buf.old t buf.new result }
 {
     codegen::prim_default(target.slot.default, target.slot.bits)?;
@@ -45,7 +45,7 @@ fn prim_setter(target: &Target, t: Text, buf: &mut [u8]) -> Result<Text, Refusal
 // The setter of a slot whose type has one row: Void to Data.
 fn plain_setter(root: &[u8], target: &Target, t: Text, buf: &mut [u8]) -> Result<Text, Refusal>
     ensures text { (ns : List tree.Node) (sl : tree.Slot) → SlotIs target.now.slot sl → number_of target.now.slot.kind < 14
-        → Writes (setter_for (sheet_of root.now ns) target.now sl) buf.old t buf.new result }
+        → Writes (setter_for (sheet_of root.now ns) target.now sl t.level) buf.old t buf.new result }
     ensures within { Within buf.old t buf.new result }
 {
     match target.slot.kind {
@@ -70,33 +70,33 @@ fn setter_input(source: &Source<'_>, at: usize, t: Text, buf: &mut [u8]) -> Resu
 
 // A setter of a pointer, after its value's type.
 fn set_end(root: &[u8], target: &Target, t: Text, buf: &mut [u8]) -> Text
-    ensures { Wrote buf.old t
+    ensures { WroteLines buf.old t
         (set_end root.now target.now.tag target.now.slot.discriminant target.now.slot.offset) buf.new result }
 {
     let t = setter_code::set_close(root, t, buf);
     let t = target.tag_line(t, buf);
-    let t = t.bytes(buf, b"    ");
+    let t = t.inner_margin(buf);
     let t = target.set_pointer(root, t, buf);
-    t.bytes(buf, b"\n}\n")
+    t.broken(buf, b"\n}\n")
 }
 
 // An initializer from its result's type up to its last line.
 fn init_start(target: &Target, t: Text, buf: &mut [u8]) -> Text
-    ensures { Wrote buf.old t (init_start target.now.tag target.now.slot.discriminant) buf.new result }
+    ensures { WroteLines buf.old t (init_start target.now.tag target.now.slot.discriminant) buf.new result }
 {
     target.start(b" {\n", t, buf)
 }
 
 // An initializer of a parameter's type, after its result's type; `call` is what it calls on the new pointer.
 fn new_end(root: &[u8], target: &Target, call: &[u8], t: Text, buf: &mut [u8]) -> Text
-    ensures { Wrote buf.old t
+    ensures { WroteLines buf.old t
         (init_end target.now.tag target.now.slot.discriminant (new_pointer root.now target.now.slot.offset ++ call.now))
         buf.new result }
 {
     let t = init_start(target, t, buf);
     let t = target.new_pointer(root, t, buf);
     let t = t.bytes(buf, call);
-    t.bytes(buf, b"\n}\n")
+    t.broken(buf, b"\n}\n")
 }
 
 // The kind of the element of the list type at a position.
@@ -143,7 +143,7 @@ fn object_end(
     t: Text,
     buf: &mut [u8],
 ) -> Result<Text, Refusal>
-    ensures text { Types source.now target.now.slot.typ (object_end target.now sized)
+    ensures text { Types source.now target.now.slot.typ (λ sheet ty. object_end target.now sized sheet ty t.level)
         buf.old t buf.new result }
     ensures within { Within buf.old t buf.new result }
 {
@@ -153,7 +153,7 @@ fn object_end(
     let init = type_string::type_string(source, target.slot.typ, builder, t, buf)?;
     let t = init_start(target, init, buf);
     let t = target.init_pointer(source.root, size_argument(sized), t, buf);
-    Ok(t.bytes(buf, b"\n}\n"))
+    Ok(t.broken(buf, b"\n}\n"))
 }
 
 // A list's setter and initializer. A struct's setter is these three lines too but for the type that is taken, which another
@@ -166,7 +166,7 @@ fn list_setter(
 ) -> Result<Text, Refusal>
     ensures text { InSource source.now (λ sheet.
         (f : SlotField) → SlotHere source.now.bytes.now target.now.slot f → target.now.slot.kind ≡ kind.List
-        → Writes (setter_for sheet target.now f.slot) buf.old t buf.new result) }
+        → Writes (setter_for sheet target.now f.slot t.level) buf.old t buf.new result) }
     ensures within { Within buf.old t buf.new result }
 {
     let t = target.set_open(t, buf);
@@ -196,7 +196,7 @@ fn enum_setter(
 ) -> Result<Text, Refusal>
     ensures text { InSource source.now (λ sheet.
         (f : SlotField) → SlotHere source.now.bytes.now target.now.slot f → target.now.slot.kind ≡ kind.Enum
-        → Writes (setter_for sheet target.now f.slot) buf.old t buf.new result) }
+        → Writes (setter_for sheet target.now f.slot t.level) buf.old t buf.new result) }
     ensures within { Within buf.old t buf.new result }
 {
     let t = target.set_open(t, buf);
@@ -204,7 +204,7 @@ fn enum_setter(
     let mask = enum_mask(target.slot)?;
     let t = target.start(b")  {\n", t, buf);
     let t = calls::set_data_field(b"u16", target.slot.offset, b"value as u16", mask, t, buf);
-    Ok(t.bytes(buf, b"\n}\n"))
+    Ok(t.broken(buf, b"\n}\n"))
 }
 
 // A struct's setter and initializer.
@@ -216,7 +216,7 @@ fn struct_setter(
 ) -> Result<Text, Refusal>
     ensures text { InSource source.now (λ sheet.
         (f : SlotField) → SlotHere source.now.bytes.now target.now.slot f → target.now.slot.kind ≡ kind.Struct
-        → Writes (setter_for sheet target.now f.slot) buf.old t buf.new result) }
+        → Writes (setter_for sheet target.now f.slot t.level) buf.old t buf.new result) }
     ensures within { Within buf.old t buf.new result }
 {
     let t = target.set_open(t, buf);
@@ -234,7 +234,7 @@ fn interface_setter(
 ) -> Result<Text, Refusal>
     ensures text { InSource source.now (λ sheet.
         (f : SlotField) → SlotHere source.now.bytes.now target.now.slot f → target.now.slot.kind ≡ kind.Interface
-        → Writes (setter_for sheet target.now f.slot) buf.old t buf.new result) }
+        → Writes (setter_for sheet target.now f.slot t.level) buf.old t buf.new result) }
     ensures within { Within buf.old t buf.new result }
 {
     let t = target.set_open(t, buf);
@@ -242,7 +242,7 @@ fn interface_setter(
     let t = target.start(b")  {\n", t, buf);
     let t = t.bytes(buf, b"self.builder.reborrow().get_pointer_field(");
     let t = t.number(buf, target.slot.offset);
-    Ok(t.bytes(buf, b").set_capability(value.client.hook);\n}\n"))
+    Ok(t.broken(buf, b").set_capability(value.client.hook);\n}\n"))
 }
 
 // A parameter's setter and initializers. The last of its three types is the first again.
@@ -255,7 +255,7 @@ fn parameter_setter(
     ensures text { InSource source.now (λ sheet.
         (f : SlotField) → SlotHere source.now.bytes.now target.now.slot f → target.now.slot.kind ≡ kind.AnyPointer
         → (target.now.slot.id ≡ 0 → ⊥)
-        → Writes (setter_for sheet target.now f.slot) buf.old t buf.new result) }
+        → Writes (setter_for sheet target.now f.slot t.level) buf.old t buf.new result) }
     ensures within { Within buf.old t buf.new result }
 {
     let root = source.root;
@@ -278,7 +278,7 @@ fn parameter_setter(
 fn setter_of(source: &Source<'_>, target: &Target, t: Text, buf: &mut [u8]) -> Result<Text, Refusal>
     ensures text { InSource source.now (λ sheet.
         (f : SlotField) → SlotHere source.now.bytes.now target.now.slot f
-        → Writes (setter_for sheet target.now f.slot) buf.old t buf.new result) }
+        → Writes (setter_for sheet target.now f.slot t.level) buf.old t buf.new result) }
     ensures within { Within buf.old t buf.new result }
 {
     match target.slot.kind {
@@ -306,7 +306,7 @@ pub fn setter(
 ) -> Result<Text, Refusal>
     ensures text { InSource source.now (λ sheet.
         (f : SlotField) → SlotHere source.now.bytes.now slot f
-        → Writes (setter_request sheet tag f.name f.discriminant f.slot) buf.old t buf.new result) }
+        → Writes (setter_request sheet tag f.name f.discriminant f.slot t.level) buf.old t buf.new result) }
     ensures within { Within buf.old t buf.new result }
 {
     let name = names::camel_to_snake_case(slot.name(source.bytes));

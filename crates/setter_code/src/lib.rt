@@ -6,7 +6,7 @@ ghost use Rattle.std.specs.Prelude.{◌++◌, true, false};
 ghost use Rattle.terms.specs.Kinds.{number_of};
 ghost use Rattle.text.specs.Bytes.{Str, ascii};
 ghost use Rattle.text.specs.Lines.{stringify};
-ghost use Rattle.text.specs.Text.{Wrote};
+ghost use Rattle.text.specs.Text.{Wrote, WroteLines};
 ghost use Rattle.names.specs.Names.{name_of};
 ghost use Rattle.calls.specs.Calls.{set_bool_field, set_data_field};
 ghost use Rattle.codegen.specs.Default.{value, prim_default};
@@ -15,7 +15,8 @@ ghost use Rattle.codegen_types.specs.Primitive.{primitive_text};
 ghost use Rattle.codegen.specs.Setter.{set_pointer, init_pointer, new_pointer, setter_input, pointer_field, reborrowed};
 ghost use Rattle.codegen.specs.Setter.{setter_functions, setter_only, line_alone, text_parts, data_parts, pointer_parts};
 ghost use Rattle.text.specs.Lines as lines;
-ghost use Rattle.setter_code.specs.Parts.{tag_line, start, set_open, set_close, set_text, init_open, init_text, initn_open};
+ghost use Rattle.setter_code.specs.Parts.{tag_line, start, named, set_open, set_close, set_text, init_open, init_text};
+ghost use Rattle.setter_code.specs.Parts.{initn_open};
 
 use field::Slot;
 use names::Snake;
@@ -39,26 +40,27 @@ pub fn set_close(root: &[u8], t: Text, buf: &mut [u8]) -> Text
 }
 
 impl Target {
-    // The field's name between two texts, as each function's head has it. It is written out where it is called, as is `start`,
-    // so that the length of each text is known there: as calls the two take 0.4 % more instructions (on examples/nodes.sheet
-    // 1,178,823 for 1,173,935).
+    // A function's head, from its first line on: the field's name between two texts. It is written out where it is called, as is
+    // `start`, so that the length of each text is known there: as calls the two take 0.4 % more instructions (on
+    // examples/nodes.sheet 1,178,823 for 1,173,935).
     #[inline(always)]
     fn named(&self, before: &[u8], after: &[u8], t: Text, buf: &mut [u8]) -> Text
-        ensures { Wrote buf.old t (before.now ++ name_of self.now.name ++ after.now) buf.new result }
+        ensures { WroteLines buf.old t (named before.now (name_of self.now.name) after.now) buf.new result }
     {
-        let t = t.bytes(buf, before);
+        let t = t.margin(buf);
+        let t = t.broken(buf, before);
         let t = self.name.write(t, buf);
         t.bytes(buf, after)
     }
 
     // The line that sets the tag, where the field has a discriminant.
     pub fn tag_line(&self, t: Text, buf: &mut [u8]) -> Text
-        ensures { Wrote buf.old t (tag_line self.now.tag self.now.slot.discriminant) buf.new result }
+        ensures { WroteLines buf.old t (tag_line self.now.tag self.now.slot.discriminant) buf.new result }
     {
         if self.slot.discriminant == codegen::NO_DISCRIMINANT {
             return t;
         }
-        let t = t.bytes(buf, b"    ");
+        let t = t.inner_margin(buf);
         let t = calls::set_tag(self.tag, self.slot.discriminant, t, buf);
         t.bytes(buf, b"\n")
     }
@@ -66,23 +68,23 @@ impl Target {
     // The end of a function's head, the line that sets the tag, and the start of the next line.
     #[inline(always)]
     pub fn start(&self, head_end: &[u8], t: Text, buf: &mut [u8]) -> Text
-        ensures { Wrote buf.old t (start head_end.now self.now.tag self.now.slot.discriminant) buf.new result }
+        ensures { WroteLines buf.old t (start head_end.now self.now.tag self.now.slot.discriminant) buf.new result }
     {
         let t = t.bytes(buf, head_end);
         let t = self.tag_line(t, buf);
-        t.bytes(buf, b"    ")
+        t.inner_margin(buf)
     }
 
     // A setter up to its value's type.
     pub fn set_open(&self, t: Text, buf: &mut [u8]) -> Text
-        ensures { Wrote buf.old t (set_open (name_of self.now.name)) buf.new result }
+        ensures { WroteLines buf.old t (set_open (name_of self.now.name)) buf.new result }
     {
         self.named(b"#[inline]\npub fn set_", b"(&mut self, value: ", t, buf)
     }
 
     // An initializer up to its result's type; with a size or not.
     pub fn init_open(&self, sized: bool, t: Text, buf: &mut [u8]) -> Text
-        ensures { Wrote buf.old t (init_open (name_of self.now.name) sized) buf.new result }
+        ensures { WroteLines buf.old t (init_open (name_of self.now.name) sized) buf.new result }
     {
         let after: &[u8] = if sized {
             b"(self, size: u32) -> "
@@ -94,7 +96,7 @@ impl Target {
 
     // The initializer of a list of a parameter's type, up to its result's type.
     pub fn initn_open(&self, t: Text, buf: &mut [u8]) -> Text
-        ensures { Wrote buf.old t (initn_open (name_of self.now.name)) buf.new result }
+        ensures { WroteLines buf.old t (initn_open (name_of self.now.name)) buf.new result }
     {
         let after = b"(self, length: u32) -> ";
         self.named(b"#[inline]\npub fn initn_", after, t, buf)
@@ -145,19 +147,20 @@ impl Target {
 
     // Void: the value is not looked at.
     pub fn void(&self, t: Text, buf: &mut [u8]) -> Text
-        ensures { (root : Str) → Wrote buf.old t
+        ensures { (root : Str) → WroteLines buf.old t
             (stringify (setter_functions root self.now.tag (name_of self.now.name) self.now.slot.discriminant
             (setter_only (ascii "_value") lines.none (ascii "()")))) buf.new result }
     {
         let after = b"(&mut self, _value: ())  {\n";
         let t = self.named(b"#[inline]\npub fn set_", after, t, buf);
         let t = self.tag_line(t, buf);
+        let t = t.margin(buf);
         t.bytes(buf, b"}\n")
     }
 
     // Bool, with a default of any primitive kind; without a mask where the default is refused.
     pub fn boolean(&self, t: Text, buf: &mut [u8]) -> Text
-        ensures { (root : Str) → Wrote buf.old t
+        ensures { (root : Str) → WroteLines buf.old t
             (stringify (setter_functions root self.now.tag (name_of self.now.name) self.now.slot.discriminant
             (setter_only (ascii "value") (line_alone (set_bool_field self.now.slot.offset (ascii "value")
             (mask_or (prim_default (value (number_of self.now.slot.default) self.now.slot.bits)))))
@@ -166,12 +169,12 @@ impl Target {
         let t = self.set_open(t, buf);
         let t = self.start(b"bool)  {\n", t, buf);
         let t = codegen::set_bool(self.slot.offset, self.slot.default, self.slot.bits, t, buf);
-        t.bytes(buf, b"\n}\n")
+        t.broken(buf, b"\n}\n")
     }
 
     // A number, with a default of any primitive kind; without a mask where the default is refused.
     pub fn number(&self, t: Text, buf: &mut [u8]) -> Text
-        ensures { (root : Str) → Wrote buf.old t
+        ensures { (root : Str) → WroteLines buf.old t
             (stringify (setter_functions root self.now.tag (name_of self.now.name) self.now.slot.discriminant
             (setter_only (ascii "value")
             (line_alone (set_data_field (primitive_text (number_of self.now.slot.kind)) self.now.slot.offset (ascii "value")
@@ -189,12 +192,12 @@ impl Target {
             t,
             buf,
         );
-        t.bytes(buf, b"\n}\n")
+        t.broken(buf, b"\n}\n")
     }
 
     // The setter of a Text.
     fn set_text(&self, root: &[u8], t: Text, buf: &mut [u8]) -> Text
-        ensures { Wrote buf.old t
+        ensures { WroteLines buf.old t
             (set_text root.now (name_of self.now.name)
             (setter_input root.now (root.now ++ ascii "::text::Owned")) false
             (tag_line self.now.tag self.now.slot.discriminant)
@@ -207,12 +210,12 @@ impl Target {
         let t = t.bytes(buf, root);
         let t = self.start(b"::text::Owned>)  {\n", t, buf);
         let t = self.set_pointer(root, t, buf);
-        t.bytes(buf, b".unwrap()\n}\n")
+        t.broken(buf, b".unwrap()\n}\n")
     }
 
     // The initializer of a Text or Data: its builder's type below the root, and the call that makes one of a size.
     fn init_sized(&self, root: &[u8], typ: &[u8], call: &[u8], t: Text, buf: &mut [u8]) -> Text
-        ensures { Wrote buf.old t
+        ensures { WroteLines buf.old t
             (init_text (name_of self.now.name) true (root.now ++ typ.now)
             (tag_line self.now.tag self.now.slot.discriminant) (pointer_field self.now.slot.offset ++ call.now))
             buf.new result }
@@ -225,12 +228,12 @@ impl Target {
         let t = t.number(buf, self.slot.offset);
         let t = t.byte(buf, b')');
         let t = t.bytes(buf, call);
-        t.bytes(buf, b"\n}\n")
+        t.broken(buf, b"\n}\n")
     }
 
     // Text.
     pub fn text(&self, root: &[u8], t: Text, buf: &mut [u8]) -> Text
-        ensures { Wrote buf.old t
+        ensures { WroteLines buf.old t
             (stringify (setter_functions root.now self.now.tag (name_of self.now.name) self.now.slot.discriminant
             (text_parts root.now self.now.slot.offset))) buf.new result }
     {
@@ -240,7 +243,7 @@ impl Target {
 
     // The setter of a Data: other than a Text's by the value's type and by the call that sets it.
     fn set_data(&self, root: &[u8], t: Text, buf: &mut [u8]) -> Text
-        ensures { Wrote buf.old t
+        ensures { WroteLines buf.old t
             (set_text root.now (name_of self.now.name) (root.now ++ ascii "::data::Reader<'_>") false
             (tag_line self.now.tag self.now.slot.discriminant)
             (reborrowed self.now.slot.offset ++ ascii ".set_data(value);")) buf.new result }
@@ -250,12 +253,12 @@ impl Target {
         let t = self.start(b"::data::Reader<'_>)  {\n", t, buf);
         let t = t.bytes(buf, b"self.builder.reborrow().get_pointer_field(");
         let t = t.number(buf, self.slot.offset);
-        t.bytes(buf, b").set_data(value);\n}\n")
+        t.broken(buf, b").set_data(value);\n}\n")
     }
 
     // Data.
     pub fn data(&self, root: &[u8], t: Text, buf: &mut [u8]) -> Text
-        ensures { Wrote buf.old t
+        ensures { WroteLines buf.old t
             (stringify (setter_functions root.now self.now.tag (name_of self.now.name) self.now.slot.discriminant
             (data_parts root.now self.now.slot.offset))) buf.new result }
     {
@@ -265,7 +268,7 @@ impl Target {
 
     // AnyPointer that is no parameter: an initializer alone.
     pub fn any_pointer(&self, root: &[u8], t: Text, buf: &mut [u8]) -> Text
-        ensures { Wrote buf.old t
+        ensures { WroteLines buf.old t
             (stringify (setter_functions root.now self.now.tag (name_of self.now.name) self.now.slot.discriminant
             (pointer_parts root.now self.now.slot.offset))) buf.new result }
     {
@@ -274,6 +277,6 @@ impl Target {
         let t = self.start(b"::any_pointer::Builder<'a> {\n", t, buf);
         let t = t.bytes(buf, b"let mut result = ");
         let t = self.new_pointer(root, t, buf);
-        t.bytes(buf, b";\n    result.clear();\n    result\n}\n")
+        t.broken(buf, b";\n    result.clear();\n    result\n}\n")
     }
 }

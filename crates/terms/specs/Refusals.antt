@@ -4,7 +4,7 @@ use Rattle.terms.specs.declared.refusals.Refusal.{Refusal}
 use Rattle.terms.specs.declared.refusals.Refusal.TheVariants.{SheetTooLong, BadLine, SecondId, TooDeep, NoNode, ListOfAnyPointer}
 use Rattle.terms.specs.declared.refusals.Refusal.TheVariants.{ParameterLeaf, BindingsDiffer, OptionMisplaced, GetterDefault}
 use Rattle.terms.specs.declared.refusals.Refusal.TheVariants.{SetterDefault, EnumDefault, ParameterIndex, NoStruct, NotThere}
-use Rattle.terms.specs.declared.refusals.Refusal.TheVariants.{BadNumber, BadText, FillPastEnd, NoRoom}
+use Rattle.terms.specs.declared.refusals.Refusal.TheVariants.{BadNumber, BadText, FillPastEnd, NoRoom, LevelTooHigh}
 
 abbrev pub number : Refusal → ℕ
 number SheetTooLong = 1
@@ -26,3 +26,4 @@ number BadNumber = 16
 number BadText = 17
 number FillPastEnd = 21
 number NoRoom = 22
+number LevelTooHigh = 36

@@ -3,7 +3,7 @@ ghost use Rattle.std.specs.Prelude.{◌≡◌};
 ghost use Rattle.terms.specs.Refusals.{number};
 
 // Why a sheet, a request or a buffer is refused: 1 to 4, 16 and 17 are of a sheet's lines, 4 to 15 of a request, 21 and 22 of the
-// buffer.
+// buffer, 36 of the level of indentation.
 #[derive(Clone, Copy)]
 pub enum Refusal {
     SheetTooLong = 1,
@@ -25,6 +25,7 @@ pub enum Refusal {
     BadText = 17,
     FillPastEnd = 21,
     NoRoom = 22,
+    LevelTooHigh = 36,
 }
 
 impl Refusal {

@@ -3,4 +3,5 @@ pub mod Laws
 pub mod Places
 pub mod DecimalLaws
 pub mod LinesLaws
+pub mod LevelLaws
 pub mod AnswerLaws

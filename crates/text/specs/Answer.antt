@@ -3,7 +3,7 @@
 use Rattle.std.specs.Prelude.{◌≡◌, ◌++◌, ℕ, ◌+◌, ltb, length, take, drop}
 use Rattle.text.specs.Bytes.{Str, cond}
 
--- the fill count past the text; or document 01's number of a refusal, its line and its column, 0 where it names none
+-- the fill count past the text; or the papers' number of a refusal, its line and its column, 0 where it names none
 pub data Answer : Type 0 where
   done : ℕ → Answer
   refused : ℕ → ℕ → ℕ → Answer

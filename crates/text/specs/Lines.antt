@@ -1,6 +1,6 @@
 -- Lines of generated code: `FormattedText`, `to_lines` and `stringify` of codegen.rs. Assumes nothing.
-use Rattle.std.specs.Prelude.{List, [], ◌∷◌, ◌++◌, ℕ, ◌+◌, ◌*◌, replicate}
-use Rattle.text.specs.Bytes.{Str, unit}
+use Rattle.std.specs.Prelude.{List, [], ◌∷◌, ◌++◌, ℕ, ◌+◌, ◌*◌, ◌==◌, replicate}
+use Rattle.text.specs.Bytes.{Str, unit, cond}
 
 infixr 50 ◌&◌
 mutual
@@ -37,8 +37,19 @@ join between [] = []
 join between (l ∷ []) = l
 join between (l ∷ m ∷ ls) = l ++ between ++ join between (m ∷ ls)
 
-unfoldable pub stringify : FormattedText → Str
-stringify ft = join (unit 10) (to_lines ft 0) ++ unit 10
+-- `stringify`, with the level of indentation at which `to_lines` begins: the Rust's own is 0
+unfoldable pub stringify : FormattedText → ℕ → Str
+stringify ft level = join (unit 10) (to_lines ft level) ++ unit 10
+
+-- what a line at a level begins with
+unfoldable pub margin : ℕ → Str
+margin level = spaces (level * 4)
+
+-- a part of a text in which lines end, by the level: each line that begins behind a byte 10 of it has its margin
+unfoldable pub broken : Str → ℕ → Str
+broken [] level = []
+broken (x ∷ []) level = x ∷ []
+broken (x ∷ (y ∷ s)) level = x ∷ cond (x == 10) (margin level) [] ++ broken (y ∷ s) level
 
 -- lines, each with its byte 10: what writing one after the other gives. It is `stringify` where there is a line
 -- (proofs/LinesLaws.antt)

@@ -1,15 +1,17 @@
 // Text into a lent buffer, by a state that is passed by value. Every writer has one contract: the buffer and the state
-// afterwards are those after its text (`Wrote`). Over an empty buffer the same writer measures.
+// afterwards are those after its text (`Wrote`), which for lines hangs on the state's level (`WroteLines`). Over an empty buffer
+// the same writer measures.
 #![tactic(auto)]
 
-ghost use Rattle.std.specs.Prelude.{◌≡◌, ◌+◌, ◌-◌, ◌*◌, ◌^◌, ◌<◌, ◌≤◌, min, length};
-ghost use Rattle.text.specs.Bytes.{unit};
+ghost use Rattle.std.specs.Prelude.{◌≡◌, [], ◌+◌, ◌++◌, ◌-◌, ◌*◌, ◌^◌, ◌<◌, ◌≤◌, min, length};
+ghost use Rattle.text.specs.Bytes.{unit, cond};
 ghost use Rattle.text.specs.Decimal.{decimal, signed};
-ghost use Rattle.text.specs.Lines.{Line, BlankLine, Branch, none, spaces, to_lines, stringify, ended};
-ghost use Rattle.text.specs.Text.{Wrote, state_at};
+ghost use Rattle.text.specs.Lines.{Line, BlankLine, Branch, none, spaces, margin, broken, to_lines, stringify, ended};
+ghost use Rattle.text.specs.Levels.{StringifyMovesHolds};
+ghost use Rattle.text.specs.Text.{Wrote, WroteLines, state_at, state_at_level, with_fill};
 
 // Where the next byte goes: the fill count. Past the end of the buffer bytes are counted and not written, and the count
-// stops at the largest usize.
+// stops at the largest usize. Beside it stands the level of indentation at which lines begin, which no writer changes.
 //
 // The buffer is no field of it. After a refusal the state of before is still there (the chain of a brand goes on from it), and
 // in a struct that holds the `&mut` each writer would owe a second clause, that the buffer is the same one. Speed says nothing
@@ -18,14 +20,22 @@ ghost use Rattle.text.specs.Text.{Wrote, state_at};
 #[derive(Clone, Copy)]
 pub struct Text {
     at: usize,
+    level: usize,
 }
 
 impl Text {
-    // the state at a fill count
+    // the state at a fill count, at level 0
     pub fn at(fill: usize) -> Text
         ensures { result ≡ state_at fill }
     {
-        Text { at: fill }
+        Text { at: fill, level: 0 }
+    }
+
+    // the state at a fill count and a level
+    pub fn at_level(fill: usize, level: usize) -> Text
+        ensures { result ≡ state_at_level fill level }
+    {
+        Text { at: fill, level }
     }
 
     // the fill count
@@ -35,6 +45,20 @@ impl Text {
         self.at
     }
 
+    // the level
+    pub fn level(self) -> usize
+        ensures { result ≡ self.level }
+    {
+        self.level
+    }
+
+    // the state at another fill count, at the same level
+    pub fn with_fill(self, fill: usize) -> Text
+        ensures { result ≡ with_fill self fill }
+    {
+        Text { at: fill, ..self }
+    }
+
     // one byte
     pub fn byte(self, buf: &mut [u8], b: u8) -> Text
         ensures { Wrote buf.old self (unit b) buf.new result }
@@ -42,7 +66,7 @@ impl Text {
         let at = self.at;
         if at < buf.len() {
             buf[at] = b;
-            return Text { at: at + 1 };
+            return Text { at: at + 1, ..self };
         }
         self.past(1)
     }
@@ -58,17 +82,18 @@ impl Text {
         if s.len() <= buf.len() - at {
             let end = at + s.len();
             buf[at..end].copy_from_slice(s);
-            return Text { at: end };
+            return Text { at: end, ..self };
         }
         self.each(buf, s)
     }
 
-    // n bytes past the end
-    fn past(self, n: usize) -> Text
-        ensures { result ≡ state_at (min (self.at + n) (2 ^ 64 - 1)) }
+    // the state after n bytes, all of them past the end of the buffer
+    pub fn past(self, n: usize) -> Text
+        ensures { result ≡ with_fill self (min (self.at + n) (2 ^ 64 - 1)) }
     {
         Text {
             at: self.at.saturating_add(n),
+            ..self
         }
     }
 
@@ -120,7 +145,7 @@ impl Text {
         t.number(buf, half.saturating_sub(n - half))
     }
 
-    // the start of a line: four spaces for each step of its indent
+    // four spaces for each step of an indent
     fn indent(self, buf: &mut [u8], indent: usize) -> Text
         ensures { Wrote buf.old self (spaces (indent * 4)) buf.new result }
     {
@@ -131,26 +156,83 @@ impl Text {
         t
     }
 
+    // the start of a line at the level
+    pub fn margin(self, buf: &mut [u8]) -> Text
+        ensures { WroteLines buf.old self margin buf.new result }
+    {
+        if self.level == 0 {
+            return self;
+        }
+        self.indent(buf, self.level)
+    }
+
+    // the start of a line one step in
+    pub fn inner_margin(self, buf: &mut [u8]) -> Text
+        ensures { WroteLines buf.old self (λ level. margin (level + 1)) buf.new result }
+    {
+        let t = self.margin(buf);
+        t.bytes(buf, b"    ")
+    }
+
+    // A part of a text in which lines end: each line that begins in it has its margin. Behind a last byte 10 none begins.
+    pub fn broken(self, buf: &mut [u8], s: &[u8]) -> Text
+        ensures { WroteLines buf.old self (broken s.now) buf.new result }
+    {
+        if self.level == 0 {
+            return self.bytes(buf, s);
+        }
+        self.broken_lines(buf, s)
+    }
+
+    // one byte, and the margin where a line begins behind it
+    fn byte_then_margin(self, buf: &mut [u8], b: u8, begins: bool) -> Text
+        ensures { WroteLines buf.old self (λ level. unit b ++ cond begins (margin level) []) buf.new result }
+    {
+        let t = self.byte(buf, b);
+        if !begins {
+            return t;
+        }
+        t.margin(buf)
+    }
+
+    // the same part at any level
+    fn broken_lines(self, buf: &mut [u8], s: &[u8]) -> Text
+        ensures { WroteLines buf.old self (broken s.now) buf.new result }
+    {
+        let mut t = self;
+        for i in 0..s.len() {
+            let begins = (s[i] == b'\n') & (i + 1 < s.len());
+            t = t.byte_then_margin(buf, s[i], begins);
+        }
+        t
+    }
+
     // a `Line` at this indent, with its byte 10
     pub fn line(self, buf: &mut [u8], indent: usize, s: &[u8]) -> Text
-        ensures { Wrote buf.old self (ended (to_lines (Line s.now) indent)) buf.new result }
+        ensures { WroteLines buf.old self (λ level. ended (to_lines (Line s.now) (level + indent))) buf.new result }
     {
-        let t = self.indent(buf, indent);
+        let t = self.margin(buf);
+        let t = t.indent(buf, indent);
         let t = t.bytes(buf, s);
         t.byte(buf, b'\n')
     }
 
     // a `BlankLine`, with its byte 10
     pub fn blank_line(self, buf: &mut [u8]) -> Text
-        ensures { Wrote buf.old self (ended (to_lines BlankLine 0)) buf.new result }
+        ensures { WroteLines buf.old self (λ level. ended (to_lines BlankLine level)) buf.new result }
     {
         self.byte(buf, b'\n')
     }
 
     // `stringify` of no lines: the same byte, but of another clause, and C has both
     pub fn no_lines(self, buf: &mut [u8]) -> Text
-        ensures { Wrote buf.old self (stringify (Branch none)) buf.new result }
+        ensures { WroteLines buf.old self (stringify (Branch none)) buf.new result }
     {
         self.byte(buf, b'\n')
     }
 }
+
+// Makes it a promise of this crate that a level moves in each line of a text but a `BlankLine`.
+pub fn claims()
+    ensures { StringifyMovesHolds }
+{}

@@ -8,7 +8,7 @@ use native.Mathlib.Nat.{suc-mul, zero-mul}
 use native.Mathlib.Omega.{arith}
 use lib.ListN.{length, drop, replicate, length-append, length-drop, length-replicate}
 use Rattle.text.specs.Bytes.{Str, ascii, unit}
-use Rattle.text.specs.Text.{next, put, adv, state_at, WroteSome}
+use Rattle.text.specs.Text.{next, put, adv, with_fill, WroteSome}
 use Rattle.text.specs.declared.Text.{Text}
 use Rattle.text.proofs.Places.{counted}
 use Rattle.text.proofs.Laws.{some-text}
@@ -82,7 +82,7 @@ sep-some b (w ∷ ws) h = refl
 
 -- arguments that begin past the end of l, after which the count is n further on
 module _ (l : List ℕ) (p : Arguments) (h : length l ≤ p.text.at) (b : p.text.at ≤ 2 ^ 64 - 1) (n : ℕ) (t : Text) where
-  at_once : (ws : List Str) → 0 < length ws → n ≡ taken ws → t ≡ state_at (min (p.text.at + n) (2 ^ 64 - 1))
+  at_once : (ws : List Str) → 0 < length ws → n ≡ taken ws → t ≡ with_fill p.text (min (p.text.at + n) (2 ^ 64 - 1))
       → Listed l p ws l (record { text = t; sep = 44 })
   at_once ws m e f = record {
     text = rw (f, e, ← listed-length p.sep ws) (counted l p.text (listed p.sep ws) h b);
@@ -97,13 +97,13 @@ taken-same (suc n) w = omega (arith, taken-same n w, suc-mul n (1 + length w))
 -- parameters that are not bound
 pub unbound-counted : (root l : List ℕ) (p : Arguments) (n bytes : ℕ) (t : Text) → length l ≤ p.text.at
     → p.text.at ≤ 2 ^ 64 - 1 → 0 < n → bytes ≡ min ((1 + length root + 20) * n) (2 ^ 64 - 1)
-    → t ≡ state_at (min (p.text.at + bytes) (2 ^ 64 - 1))
+    → t ≡ with_fill p.text (min (p.text.at + bytes) (2 ^ 64 - 1))
     → Listed l p (replicate n (any_owned root)) l (record { text = t; sep = 44 })
 unbound-counted root l p n bytes t h b m f e =
     let z : 1 + length root + 20 ≡ 1 + length (any_owned root) = omega
     (arith, length-append root (ascii "::any_pointer::Owned")) in
     at_once l p h b (n * (1 + length root + 20)) t (replicate n (any_owned root)) (rw (length-replicate n (any_owned root)) m)
-    (rw z (sym (taken-same n (any_owned root)))) (e ∙ ap state_at (omega (arith, f)))
+    (rw z (sym (taken-same n (any_owned root)))) (e ∙ ap (with_fill p.text) (omega (arith, f)))
 
 -- names of P rows: each has three bytes fewer than its row, and takes one more
 names-taken : (n : ℕ) (rs : Rows) → n ≡ length (names_of rs) → size rs ≡ 2 * n + taken (names_of rs) + size (rows_after n rs)
@@ -124,7 +124,7 @@ names-taken (suc n) rs h =
 
 pub names-counted : (s : Str) (at n end : ℕ) (l : List ℕ) (p : Arguments) (t : Text) → length l ≤ p.text.at
     → p.text.at ≤ 2 ^ 64 - 1 → ParamsAt s at n end → 0 < n
-    → t ≡ state_at (min (p.text.at + (min end (length s) - at - 2 * n)) (2 ^ 64 - 1))
+    → t ≡ with_fill p.text (min (p.text.at + (min end (length s) - at - 2 * n)) (2 ^ 64 - 1))
     → Listed l p (names_of (rows (drop at s))) l (record { text = t; sep = 44 })
 names-counted s at n end l p t h b w m e =
     let fits : min end (length s) - at - 2 * n ≡ taken (names_of (rows (drop at s))) = omega (
@@ -140,7 +140,7 @@ names-counted s at n end l p t h b w m e =
 
 -- whatever is counted, it is some text of so many bytes
 pub some-counted : (l : List ℕ) (t : Text) (n : ℕ) (u : Text) → length l ≤ t.at → t.at ≤ 2 ^ 64 - 1
-    → u ≡ state_at (min (t.at + n) (2 ^ 64 - 1)) → WroteSome l t l u
+    → u ≡ with_fill t (min (t.at + n) (2 ^ 64 - 1)) → WroteSome l t l u
 some-counted l t n u h b e =
     let text : List ℕ = replicate n 0 in
     let long : length text ≡ n = length-replicate n 0 in

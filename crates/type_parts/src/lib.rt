@@ -1,10 +1,10 @@
 // The parts of a type's text that lie outside the cycle of `type_string` and `do_branding`.
 #![tactic(auto)]
 
-ghost use Rattle.std.specs.Prelude.{◌≡◌, ◌++◌, ◌+◌, ◌-◌, ◌*◌, ◌^◌, min, length, drop, replicate};
+ghost use Rattle.std.specs.Prelude.{◌≡◌, ◌++◌, ◌+◌, ◌-◌, ◌*◌, min, length, drop, replicate};
 ghost use Rattle.terms.specs.Kinds.{number_of};
 ghost use Rattle.text.specs.Bytes.{Str, ascii};
-ghost use Rattle.text.specs.Text.{Wrote, WroteSome, state_at};
+ghost use Rattle.text.specs.Text.{Wrote, WroteSome};
 ghost use Rattle.row.specs.Rows.{rows};
 ghost use Rattle.tree.specs.Tree.{parameter};
 ghost use Rattle.nodes.specs.Index.{names_of, ForAll, InSource};
@@ -154,13 +154,6 @@ pub fn qualified_module(
     Ok(t.bytes(buf, source.module(node)))
 }
 
-// The state after so many bytes, all of them past the end of the buffer: they are counted at once.
-fn counted(bytes: usize, t: Text) -> Text
-    ensures { result ≡ state_at (min (t.at + bytes) (2 ^ 64 - 1)) }
-{
-    Text::at(t.fill().saturating_add(bytes))
-}
-
 // How many bytes the names of so many P rows have, each with `<` or a comma before it: two a row fewer than the rows, which
 // have a letter, a space and byte 10 beside a name. Where the rows end is known, so none of them is looked at.
 fn names_size(s: &[u8], from: usize, count: u64, end: usize) -> usize
@@ -187,7 +180,7 @@ pub fn inherited(
     let mut p = first;
     for done in 0..count {
         if buf.len() <= p.text.fill() {
-            let t = counted(names_size(s, at, count - done, end), p.text);
+            let t = p.text.past(names_size(s, at, count - done, end));
             return Arguments { text: t, sep: b',' };
         }
         let g = row::next(s, at);
@@ -208,7 +201,7 @@ pub fn unbound(root: &[u8], count: u64, first: Arguments, buf: &mut [u8]) -> Arg
     for done in 0..count {
         if buf.len() <= p.text.fill() {
             let each = 1 + root.len() + ANY_OWNED_BYTES;
-            let t = counted(each.saturating_mul((count - done) as usize), p.text);
+            let t = p.text.past(each.saturating_mul((count - done) as usize));
             return Arguments { text: t, sep: b',' };
         }
         let t = p.text.byte(buf, p.sep);

@@ -1,6 +1,6 @@
 -- Laws of the lines of a group: what a slot, a group inside it and no more fields add, what the tag's line and the fields'
 -- lines come to for its node, and which refusal is met. By cases on what the Rust gives. Assumes nothing.
-use mathlib.Core.Path.{◌≡◌, refl, sym, ap, ◌∙◌}
+use mathlib.Core.Path.{◌≡◌, refl, sym, ap, subst, ◌∙◌}
 use mathlib.Core.Bool.{Bool, true, false}
 use mathlib.Core.List.{List, [], ◌∷◌, ◌++◌}
 use Rattle.std.specs.Prelude.{Option, None, Some, Result, Ok, Err}
@@ -12,11 +12,11 @@ use lib.Dec.{eqb}
 use lib.ListN.{drop}
 use Rattle.std.proofs.lemmas.Bool.Decides.{nat_tests}
 use Rattle.text.specs.Bytes.{Str, unit, cond, either}
-use Rattle.text.specs.Lines.{Branch, Line, to_lines, flat_map, stringify, ended}
+use Rattle.text.specs.Lines.{Branch, Line, to_lines, flat_map, stringify, ended, margin}
 use Rattle.text.specs.Lines as lines
-use Rattle.text.specs.Text.{Wrote, adv, put}
+use Rattle.text.specs.Text.{Wrote, WroteLines, adv, put}
 use Rattle.text.specs.declared.Text.{Text}
-use Rattle.text.proofs.Laws.{◌⨾◌}
+use Rattle.text.proofs.Laws.{◌⨾◌, level, at}
 use Rattle.text.proofs.LinesLaws.{ended_append, stringify-lines, stringify-none}
 use Rattle.row.specs.Rows.{rows}
 use Rattle.tree.specs.Tree.{Slot, slot, group, Field, Node, Sheet}
@@ -31,7 +31,7 @@ use Rattle.terms.specs.declared.refusals.Refusal.{Refusal}
 use Rattle.calls.specs.Calls.{zero_tag}
 use Rattle.codegen.specs.Zeroing.{Zeroing, zero_line, contains, push, no_push, zero_slot, zero_fields, zero_node}
 use Rattle.codegen.specs.Zeroing.{zero_fields_of_group}
-use Rattle.zeroing.specs.Lines.{zero_text, slot_lines, tag_lines}
+use Rattle.zeroing.specs.Lines.{zero_text, slot_lines, tag_lines, with_margin}
 use Rattle.zeroing.specs.Added.{is_any, Added, Adds}
 use Rattle.zeroing.specs.Told.{Zeroes}
 use Rattle.zeroing.specs.declared.Lines.{Lines}
@@ -69,28 +69,34 @@ is_any_append (x ∷ a) b = refl
 
 -- what a group gives after some lines: with no line before it, or with the lines that f puts before it
 module _ {l : List ℕ} {p : Lines} {l₁ : List ℕ} {p₁ : Lines} (l₂ : List ℕ) where
+  -- its lines begin at the level of those before them
+  adds-lines : {lines : List Str} {clear : Bool} → Added lines clear l p l₁ p₁ → (w : Zeroing) (q : Lines)
+      → Adds (ok w) l₁ p₁ l₂ (Ok q) → Added (lines ++ flat_map w.result p.text.level) (either clear w.clear) l p l₂ q
+  adds-lines a w q h = a ⊞ subst (λ (n : ℕ). Added (flat_map w.result n) w.clear l₁ p₁ l₂ q) (level a.text) h
+
   adds-alone : (o : Out Zeroing) (r : Result Lines Refusal) → Added [] false l p l₁ p₁ → Adds o l₁ p₁ l₂ r → Adds o l p l₂ r
-  adds-alone (ok w) (Ok q) a h = a ⊞ h
+  adds-alone (ok w) (Ok q) a h = adds-lines a w q h
   adds-alone (ok w) (Err e) a h = h
   adds-alone (refused k) (Ok q) a h = h
   adds-alone (refused k) (Err e) a h = h
 
   adds-after : (f : Zeroing → Zeroing) (lines : List Str) (clear : Bool)
-      → ((w : Zeroing) → flat_map (f w).result 0 ≡ lines ++ flat_map w.result 0)
+      → ((w : Zeroing) → flat_map (f w).result p.text.level ≡ lines ++ flat_map w.result p.text.level)
       → ((w : Zeroing) → (f w).clear ≡ either clear w.clear)
       → Added lines clear l p l₁ p₁ → (o : Out Zeroing) (r : Result Lines Refusal) → Adds o l₁ p₁ l₂ r
       → Adds (o then λ z. ok (f z)) l p l₂ r
-  adds-after f lines clear e c a (ok w) (Ok q) h = rw (e w, c w) (a ⊞ h)
+  adds-after f lines clear e c a (ok w) (Ok q) h = rw (e w, c w) (adds-lines a w q h)
   adds-after f lines clear e c a (ok w) (Err x) h = h
   adds-after f lines clear e c a (refused k) (Ok q) h = h
   adds-after f lines clear e c a (refused k) (Err x) h = h
 
--- one line with its byte 10
-added_line : (line : Str) (clear : Bool) (l : List ℕ) (p : Lines) (l₁ : List ℕ) (t₁ : Text) (l₂ : List ℕ) (t₂ : Text)
-    (c : Bool) → c ≡ either p.clear clear → Wrote l p.text line l₁ t₁ → Wrote l₁ t₁ (unit 10) l₂ t₂
-    → Added (line ∷ []) clear l p l₂ (record { text = t₂; clear = c; any = true })
+-- one line with its margin and its byte 10
+added_line : (line : Str) (clear : Bool) {l : List ℕ} (p : Lines) {l₁ : List ℕ} {t₁ : Text} {l₂ : List ℕ} {t₂ : Text}
+    {l₃ : List ℕ} {t₃ : Text} (c : Bool) → c ≡ either p.clear clear → WroteLines l p.text margin l₁ t₁ → Wrote l₁ t₁ line l₂ t₂
+    → Wrote l₂ t₂ (unit 10) l₃ t₃
+    → Added (with_margin (line ∷ []) p.text.level) clear l p l₃ (record { text = t₃; clear = c; any = true })
 unfolding ended
-added_line line clear l p l₁ t₁ l₂ t₂ c e v w = record { text = v ⨾ w; clears = e; any = sym (either_true p.any) }
+added_line line clear p c e m v w = record { text = m.lines ⨾ v ⨾ w; clears = e; any = sym (either_true p.any) }
 
 -- no line: a repeat, which counts where it clears a pointer
 added_repeat : (clear : Bool) (l : List ℕ) (p : Lines) (c : Bool) → c ≡ either p.clear clear
@@ -101,21 +107,21 @@ added_repeat clear l p c e =
 
 -- the line of a type at an offset: none, one that is there again, or a new one
 module _ {c : ℕ} (o : ℕ) (again : Bool) {l : List ℕ} {p : Lines} where
-  pub line-void : c ≡ 0 → Added (slot_lines c o again) (eqb c 12) l p l p
+  pub line-void : c ≡ 0 → Added (with_margin (slot_lines c o again) p.text.level) (eqb c 12) l p l p
   line-void z = rw z (added_none l p)
 
   module _ (line : c ≡ 0 → ⊥) {clear : Bool} (clears : clear ≡ either p.clear (eqb c 12)) where
     pub line-again : again ≡ true
-        → Added (slot_lines c o again) (eqb c 12) l p l
+        → Added (with_margin (slot_lines c o again) p.text.level) (eqb c 12) l p l
         (record { text = p.text; clear = clear; any = p.any })
     line-again y = rw (ne_eqb c 0 line, y) (added_repeat (eqb c 12) l p clear clears)
 
-    pub line-new : {l₁ : List ℕ} {t₁ : Text} {l₂ : List ℕ} {t₂ : Text} → again ≡ false → Wrote l p.text (zero_text c o) l₁ t₁
-        → Wrote l₁ t₁ (unit 10) l₂ t₂
-        → Added (slot_lines c o again) (eqb c 12) l p l₂
-        (record { text = t₂; clear = clear; any = true })
-    line-new {l₁} {t₁} {l₂} {t₂} y v w =
-        rw (ne_eqb c 0 line, y) (added_line (zero_text c o) (eqb c 12) l p l₁ t₁ l₂ t₂ clear clears v w)
+    pub line-new : {l₁ : List ℕ} {t₁ : Text} {l₂ : List ℕ} {t₂ : Text} {l₃ : List ℕ} {t₃ : Text} → again ≡ false
+        → WroteLines l p.text margin l₁ t₁ → Wrote l₁ t₁ (zero_text c o) l₂ t₂ → Wrote l₂ t₂ (unit 10) l₃ t₃
+        → Added (with_margin (slot_lines c o again) p.text.level) (eqb c 12) l p l₃
+        (record { text = t₃; clear = clear; any = true })
+    line-new y m v w =
+        rw (ne_eqb c 0 line, y) (added_line (zero_text c o) (eqb c 12) p clear clears m v w)
 
 -- ---- the fields of a group, one after the other
 
@@ -134,20 +140,21 @@ adds-ok (refused k) l p l₁ p₁ a = absurd a
 module _ (inner : ℕ → Out Zeroing) (seen : List Str) where
   fields-slot : (fs : List Field) (line : Option Str) (clear : Bool) → (line ≡ None → clear ≡ false)
       → (l : List ℕ) (p : Lines) (l₁ : List ℕ) (p₁ : Lines) (l₂ : List ℕ) (r : Result Lines Refusal)
-      → Added (added_lines seen line) clear l p l₁ p₁ → Adds (zero_fields inner (seen_line seen line) fs) l₁ p₁ l₂ r
+      → Added (with_margin (added_lines seen line) p.text.level) clear l p l₁ p₁
+      → Adds (zero_fields inner (seen_line seen line) fs) l₁ p₁ l₂ r
       → Adds (zero_slot seen clear line (λ s. zero_fields inner s fs)) l p l₂ r
-  unfolding to_lines flat_map
+  unfolding to_lines flat_map margin
   fields-slot fs None clear z l p l₁ p₁ l₂ r a h = adds-alone l₂ (zero_fields inner seen fs) r (rw (z refl) at a) h
   fields-slot fs (Some line) clear z l p l₁ p₁ l₂ r a h = by-repeat (contains seen line) a h
     where
-      by-repeat : (t : Bool) → Added (cond t [] (line ∷ [])) clear l p l₁ p₁
+      by-repeat : (t : Bool) → Added (with_margin (cond t [] (line ∷ [])) p.text.level) clear l p l₁ p₁
           → Adds (zero_fields inner (cond t seen (line ∷ seen)) fs) l₁ p₁ l₂ r
           → Adds (cond t (zero_fields inner seen fs then λ z. ok (no_push clear z))
           (zero_fields inner (line ∷ seen) fs then λ z. ok (push (Line line) clear z))) l p l₂ r
       by-repeat true a h =
           adds-after l₂ (no_push clear) [] clear (λ w. refl) (λ w. refl) a (zero_fields inner seen fs) r h
       by-repeat false a h =
-          adds-after l₂ (push (Line line) clear) (line ∷ []) clear (λ w. refl) (λ w. refl) a
+          adds-after l₂ (push (Line line) clear) (with_margin (line ∷ []) p.text.level) clear (λ w. refl) (λ w. refl) a
           (zero_fields inner (line ∷ seen) fs) r h
 
   -- a group inside that is not refused, and one that is
@@ -160,7 +167,7 @@ module _ (inner : ℕ → Out Zeroing) (seen : List Str) where
       go : (o : Out Zeroing) → Adds o l p l₁ (Ok p₁)
           → Adds (o then λ g. zero_fields inner seen fs then λ z. ok (push (Branch g.result) g.clear z)) l p l₂ r
       go (ok g) a =
-          adds-after l₂ (push (Branch g.result) g.clear) (flat_map g.result 0) g.clear (λ w. refl) (λ w. refl) a
+          adds-after l₂ (push (Branch g.result) g.clear) (flat_map g.result p.text.level) g.clear (λ w. refl) (λ w. refl) a
           (zero_fields inner seen fs) r h
       go (refused k) a = absurd a
 
@@ -180,7 +187,8 @@ module _ (inner : ℕ → Out Zeroing) (seen : List Str) where
 
   -- the next field is a slot, or a group
   pub next-slot : (f : Field) (fs : List Field) (s : Slot) (l : List ℕ) (p : Lines) (l₁ : List ℕ) (p₁ : Lines) (l₂ : List ℕ)
-      (r : Result Lines Refusal) → f.arm ≡ slot s → Added (added_lines seen (zero_line s)) (is_pointer s.ty) l p l₁ p₁
+      (r : Result Lines Refusal) → f.arm ≡ slot s
+      → Added (with_margin (added_lines seen (zero_line s)) p.text.level) (is_pointer s.ty) l p l₁ p₁
       → Adds (zero_fields inner (seen_arm seen f.arm) fs) l₁ p₁ l₂ r → Adds (zero_fields inner seen (f ∷ fs)) l p l₂ r
   unfolding zero_fields
   next-slot f fs s l p l₁ p₁ l₂ r e a h =
@@ -200,34 +208,34 @@ module _ (inner : ℕ → Out Zeroing) (seen : List Str) where
 
 -- the tag's line
 module _ {tags : ℕ} (offset : ℕ) {l : List ℕ} {p : Lines} where
-  pub tag_none : tags ≡ 0 → Added (tag_lines tags offset) false l p l p
+  pub tag_none : tags ≡ 0 → Added (with_margin (tag_lines tags offset) p.text.level) false l p l p
   tag_none z = rw (eq-eqb tags 0 z) (added_none l p)
 
-  pub tag_some : {l₁ : List ℕ} {t₁ : Text} {l₂ : List ℕ} {t₂ : Text} → (tags ≡ 0 → ⊥)
-      → Wrote l p.text (zero_tag offset) l₁ t₁ → Wrote l₁ t₁ (unit 10) l₂ t₂
-      → Added (tag_lines tags offset) false l p l₂ (record { text = t₂; clear = p.clear; any = true })
-  tag_some {l₁} {t₁} {l₂} {t₂} z v w =
-      rw (ne_eqb tags 0 z)
-      (added_line (zero_tag offset) false l p l₁ t₁ l₂ t₂ p.clear (sym (either-false p.clear)) v w)
+  pub tag_some : {l₁ : List ℕ} {t₁ : Text} {l₂ : List ℕ} {t₂ : Text} {l₃ : List ℕ} {t₃ : Text} → (tags ≡ 0 → ⊥)
+      → WroteLines l p.text margin l₁ t₁ → Wrote l₁ t₁ (zero_tag offset) l₂ t₂ → Wrote l₂ t₂ (unit 10) l₃ t₃
+      → Added (with_margin (tag_lines tags offset) p.text.level) false l p l₃
+      (record { text = t₃; clear = p.clear; any = true })
+  tag_some z m v w =
+      rw (ne_eqb tags 0 z) (added_line (zero_tag offset) false p p.clear (sym (either-false p.clear)) m v w)
 
 -- the tag's line and the fields' lines
 node-adds : (inner : ℕ → Out Zeroing) (n : Node) (l : List ℕ) (p : Lines) (l₁ : List ℕ) (p₁ : Lines) (l₂ : List ℕ)
-    (r : Result Lines Refusal) → Added (tag_lines n.tag_count n.tag_offset) false l p l₁ p₁
+    (r : Result Lines Refusal) → Added (with_margin (tag_lines n.tag_count n.tag_offset) p.text.level) false l p l₁ p₁
     → Adds (zero_fields inner (tag_lines n.tag_count n.tag_offset) n.fields) l₁ p₁ l₂ r
     → Adds (zero_node inner n) l p l₂ r
-unfolding to_lines flat_map
+unfolding to_lines flat_map margin
 node-adds inner n l p l₁ p₁ l₂ r a h = by-tag (eqb n.tag_count 0) a h
   where
     tag : Str
     tag = zero_tag n.tag_offset
 
-    by-tag : (t : Bool) → Added (cond t [] (tag ∷ [])) false l p l₁ p₁
+    by-tag : (t : Bool) → Added (with_margin (cond t [] (tag ∷ [])) p.text.level) false l p l₁ p₁
         → Adds (zero_fields inner (cond t [] (tag ∷ [])) n.fields) l₁ p₁ l₂ r
         → Adds (cond t (zero_fields inner [] n.fields)
         (zero_fields inner (tag ∷ []) n.fields then λ z. ok (push (Line tag) false z))) l p l₂ r
     by-tag true a h = adds-alone l₂ (zero_fields inner [] n.fields) r a h
     by-tag false a h =
-        adds-after l₂ (push (Line tag) false) (tag ∷ []) false (λ w. refl) (λ w. refl) a
+        adds-after l₂ (push (Line tag) false) (with_margin (tag ∷ []) p.text.level) false (λ w. refl) (λ w. refl) a
         (zero_fields inner (tag ∷ []) n.fields) r h
 
 -- with no level left, and with one
@@ -292,7 +300,7 @@ module _ {s : Str} {sheet : Sheet} {index : List ℕ} {left id : ℕ} {node : En
         (back-node (zero_fields_of_group sheet (left - 1)) n (fields n.fields w.fields)))
 
     pub group-adds : {l : List ℕ} {p : Lines} {l₁ : List ℕ} {p₁ : Lines} (l₂ : List ℕ) (r : Result Lines Refusal)
-        → Added (tag_lines node.tag_count node.tag_offset) false l p l₁ p₁
+        → Added (with_margin (tag_lines node.tag_count node.tag_offset) p.text.level) false l p l₁ p₁
         → ((fs : List Field) → FieldsHere (rows (drop node.fields s)) fs
         → Adds (zero_fields (zero_fields_of_group sheet (left - 1)) (tag_lines node.tag_count node.tag_offset) fs)
         l₁ p₁ l₂ r)
@@ -323,22 +331,27 @@ module _ (o : Out Zeroing) (l : List ℕ) (t : Text) (l₁ : List ℕ) (p : Line
     where
       go : (o : Out Zeroing) → Adds o l (start t) l₁ (Ok p) → Zeroes o l t l₁ (Ok (record { text = p.text; clear = p.clear }))
       go (ok z) a = record {
-        text = rw (stringify-lines (Branch z.result) (any-lines (flat_map z.result 0) (sym a.any ∙ y))) a.text;
+        text = record {
+          lines = rw (stringify-lines (Branch z.result) t.level (any-lines (flat_map z.result t.level) (sym a.any ∙ y))) a.text;
+        };
         clear = a.clears;
       }
       go (refused k) a = a
 
-  pub text-none : {l₂ : List ℕ} {t₂ : Text} → p.any ≡ false → Wrote l₁ p.text (stringify (Branch lines.none)) l₂ t₂
+  pub text-none : {l₂ : List ℕ} {t₂ : Text} → p.any ≡ false → WroteLines l₁ p.text (stringify (Branch lines.none)) l₂ t₂
       → Zeroes o l t l₂ (Ok (record { text = t₂; clear = p.clear }))
   unfolding to_lines flat_map ended
   text-none {l₂} {t₂} y w = go o a
     where
       go : (o : Out Zeroing) → Adds o l (start t) l₁ (Ok p) → Zeroes o l t l₂ (Ok (record { text = t₂; clear = p.clear }))
       go (ok z) a =
-          let e = no_lines (flat_map z.result 0) (sym a.any ∙ y) in
+          let e = no_lines (flat_map z.result t.level) (sym a.any ∙ y) in
           let v : Wrote l t [] l₁ p.text = rw e at a.text in
           record {
-            text = rw (stringify-none (Branch z.result) e) (v ⨾ rw (stringify-none (Branch lines.none) refl) at w);
+            text = record {
+              lines = rw (stringify-none (Branch z.result) t.level e)
+                  (v ⨾ rw (stringify-none (Branch lines.none) t.level refl) at (at (level v) w));
+            };
             clear = a.clears;
           }
       go (refused k) a = a

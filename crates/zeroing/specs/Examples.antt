@@ -47,40 +47,49 @@ sheet = worked_sheet (
     ∷ node 9 1 0 (inside 9 ∷ inside 6 ∷ [])
     ∷ chained 16)
 
--- a zeroing's text and its flag
-abbrev zeroing : ℕ → Out (Str × Bool)
-zeroing id = zero_fields_of_group sheet 16 id then λ z. ok (stringify (Branch z.result), z.clear)
+-- a zeroing's text at a level of indentation, and its flag
+abbrev zeroing : ℕ → ℕ → Out (Str × Bool)
+zeroing id level = zero_fields_of_group sheet 16 id then λ z. ok (stringify (Branch z.result) level, z.clear)
 
 record Row : Type 0 where
   group : ℕ
+  level : ℕ
   answer : Out (Str × Bool)
 
--- a group's lines and its flag, or its refusal
-abbrev row : ℕ → List String → Bool → Row
-row id lines clear = record { group = id; answer = ok (ended (map ascii lines), clear) }
+-- a group's lines at a level and its flag, or its refusal
+abbrev row : ℕ → ℕ → List String → Bool → Row
+row id level lines clear = record { group = id; level = level; answer = ok (ended (map ascii lines), clear) }
 
 abbrev no : ℕ → ℕ → Row
-no id number = record { group = id; answer = refused number }
+no id number = record { group = id; level = 0; answer = refused number }
 
 table : List Row
 table =
-    row 1 (
+    row 1 0 (
     "self.builder.set_data_field::<u16>(4, 0);"
     ∷ "self.builder.set_data_field::<u16>(4, 0u16);"
     ∷ "self.builder.set_data_field::<i16>(4, 0i16);"
     ∷ "self.builder.set_bool_field(4, false);" ∷ []
     ) false
-    ∷ row 2 ("self.builder.reborrow().get_pointer_field(1).clear();" ∷ []) true
-    ∷ row 3 (
+    ∷ row 2 0 ("self.builder.reborrow().get_pointer_field(1).clear();" ∷ []) true
+    ∷ row 3 0 (
     "self.builder.set_data_field::<u64>(0, 0u64);"
     ∷ "self.builder.set_data_field::<u64>(0, 0u64);"
     ∷ "self.builder.reborrow().get_pointer_field(0).clear();"
     ∷ "self.builder.reborrow().get_pointer_field(0).clear();" ∷ []
     ) true
-    -- no lines are one byte 10
-    ∷ row 5 ("" ∷ []) false
+    -- the lines of a group inside stand at the same level
+    ∷ row 3 1 (
+    "    self.builder.set_data_field::<u64>(0, 0u64);"
+    ∷ "    self.builder.set_data_field::<u64>(0, 0u64);"
+    ∷ "    self.builder.reborrow().get_pointer_field(0).clear();"
+    ∷ "    self.builder.reborrow().get_pointer_field(0).clear();" ∷ []
+    ) true
+    -- no lines are one byte 10, at any level
+    ∷ row 5 0 ("" ∷ []) false
+    ∷ row 5 1 ("" ∷ []) false
     -- 16 levels pass and 17 do not
-    ∷ row 115 ("" ∷ []) false
+    ∷ row 115 0 ("" ∷ []) false
     ∷ no 116 4
     ∷ no 6 14
     ∷ no 7 14
@@ -89,7 +98,7 @@ table =
     ∷ no 98 5
     ∷ []
 
-worked : map (λ (r : Row). zeroing r.group) table ≡ map (λ (r : Row). r.answer) table
+worked : map (λ (r : Row). zeroing r.group r.level) table ≡ map (λ (r : Row). r.answer) table
 unfolding table chained decimal same join stringify ended to_lines flat_map node_of by_id set_bool_field set_data_field
     clear_pointer zero_line contains zero_fields zero_fields_of_group
 worked = refl

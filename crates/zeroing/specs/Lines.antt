@@ -1,6 +1,7 @@
 -- The lines of a group's zeroing by type and offset: when a slot's line repeats one before it. Assumes nothing.
-use Rattle.std.specs.Prelude.{Bool, false, List, [], ◌∷◌, ℕ, eqb, leb}
+use Rattle.std.specs.Prelude.{Bool, false, List, [], ◌∷◌, ◌++◌, map, ℕ, eqb, leb}
 use Rattle.text.specs.Bytes.{Str, cond, both, either}
+use Rattle.text.specs.Lines.{margin}
 use Rattle.tree.specs.Tree.{kind, Arm, slot, group, Field}
 use Rattle.calls.specs.Calls.{zero_bool, zero_data, zero_tag, clear_pointer}
 use Rattle.codegen_types.specs.Primitive.{primitive_text}
@@ -31,3 +32,7 @@ slot_lines type offset again = cond (eqb type 0) [] (cond again [] (zero_text ty
 -- the tag's line, where a node has a tag
 abbrev pub tag_lines : ℕ → ℕ → List Str
 tag_lines tag_count tag_offset = cond (eqb tag_count 0) [] (zero_tag tag_offset ∷ [])
+
+-- lines, each with the margin of a level
+abbrev pub with_margin : List Str → ℕ → List Str
+with_margin lines level = map (λ line. margin level ++ line) lines

@@ -10,7 +10,7 @@ ghost use Rattle.tree.specs.Tree as tree;
 ghost use Rattle.tree.specs.Fields.{FieldsHere};
 ghost use Rattle.nodes.specs.Index.{ForAll};
 ghost use Rattle.codegen.specs.Zeroing.{zero_fields_of_group};
-ghost use Rattle.zeroing.specs.Lines.{line_type, zero_text, repeats, slot_lines, tag_lines};
+ghost use Rattle.zeroing.specs.Lines.{line_type, zero_text, repeats, slot_lines, tag_lines, with_margin};
 ghost use Rattle.zeroing.specs.Types.{type_number, type_numbers};
 ghost use Rattle.zeroing.specs.Table.{table_size, has_both, stops, place_below, table_place, Knows, KeptLines, with_line};
 ghost use Rattle.zeroing.specs.Table.{may_stop, FoundIn, IsPlace};
@@ -307,14 +307,15 @@ impl Table {
 // A line after the lines so far: none where it is one of them.
 fn next_line(line: ZeroLine, again: bool, before: Lines, buf: &mut [u8]) -> Lines
     requires { type_number line.typ ≡ 0 → ⊥ }
-    ensures { Added (slot_lines (type_number line.typ) line.offset again) (eqb (type_number line.typ) 12)
-        buf.old before buf.new result }
+    ensures { Added (with_margin (slot_lines (type_number line.typ) line.offset again) before.text.level)
+        (eqb (type_number line.typ) 12) buf.old before buf.new result }
 {
     let clear = line.clears(before.clear);
     if again {
         return Lines { clear, ..before };
     }
-    let t = line.write(before.text, buf);
+    let t = before.text.margin(buf);
+    let t = line.write(t, buf);
     let text = t.byte(buf, b'\n');
     Lines {
         text,
@@ -348,12 +349,13 @@ fn zero_slot(
 
 // The line of a node's tag, where it has one.
 fn tag_line(tag_count: u64, tag_offset: u64, before: Lines, buf: &mut [u8]) -> Lines
-    ensures { Added (tag_lines tag_count tag_offset) false buf.old before buf.new result }
+    ensures { Added (with_margin (tag_lines tag_count tag_offset) before.text.level) false buf.old before buf.new result }
 {
     if tag_count == 0 {
         return before;
     }
-    let t = calls::zero_tag(tag_offset, before.text, buf);
+    let t = before.text.margin(buf);
+    let t = calls::zero_tag(tag_offset, t, buf);
     let text = t.byte(buf, b'\n');
     Lines {
         text,

@@ -1,6 +1,6 @@
 //! Requests: capnpc's functions over the tree of a sheet against the static library over its bytes.
 
-use crate::answer::{put, text, Request};
+use crate::answer::{put, written, Request, State, Written};
 use crate::boundary::answer as kitlubas;
 use crate::codegen::GeneratorContext;
 use crate::context::context;
@@ -10,6 +10,9 @@ use crate::report::{difference, kept, Report};
 use crate::sheet::print::print;
 use crate::sheet::read::{read, Refusal};
 use crate::sheet::Sheet;
+
+/// The greatest level of indentation.
+const MOST: usize = 8;
 
 /// How many fields of a node are asked in a hostile sheet, each of which is as long as a sheet can be.
 const FEW: usize = 6;
@@ -88,45 +91,59 @@ fn one_request(report: &mut Report, random: &mut Random, asked: &Asked) {
     at_places(report, random, asked, expected);
 }
 
-fn told(sheet: &Sheet, ctx: &GeneratorContext, asked: &Asked) -> Result<String, Refusal> {
-    text(sheet, ctx, asked.node, asked.place, asked.request).map_err(Refusal::nowhere)
+fn told(sheet: &Sheet, ctx: &GeneratorContext, asked: &Asked) -> Result<Written, Refusal> {
+    written(sheet, ctx, asked.node, asked.place, asked.request).map_err(Refusal::nowhere)
 }
 
-/// The answer at a buffer of exactly its length, and at another one by chance.
-fn at_places(report: &mut Report, random: &mut Random, asked: &Asked, expected: Result<String, Refusal>) {
-    let length = expected.as_ref().map_or(8, String::len);
-    one_case(report, asked, &expected, length, 0);
-    let (size, fill) = match random.below(6) {
+/// The answer at every level in a buffer of exactly its length; at one level in another buffer by chance; and above them.
+fn at_places(report: &mut Report, random: &mut Random, asked: &Asked, expected: Result<Written, Refusal>) {
+    let text = |level| expected.as_ref().map(|written| written.at(level)).map_err(|refusal| *refusal);
+    for level in 0..=MOST {
+        let expected = text(level);
+        let length = expected.as_ref().map_or(8, String::len);
+        one_case(report, asked, &expected, length, State { fill: 0, level });
+    }
+    let level = random.below(MOST as u64 + 1) as usize;
+    let expected = text(level);
+    let (size, fill) = by_chance(random, expected.as_ref().map_or(8, String::len));
+    one_case(report, asked, &expected, size, State { fill, level });
+    let level = MOST + 1 + random.pick(&[0, 1, 247, usize::MAX - MOST - 1]);
+    one_case(report, asked, &expected, size, State { fill, level });
+}
+
+/// A buffer's length and a fill count beside a text of so many bytes.
+fn by_chance(random: &mut Random, length: usize) -> (usize, usize) {
+    match random.below(6) {
         0 => (length.saturating_sub(1), 0),
         1 => (length + 1, 0),
         2 => (length + 9, 5),
         3 => (length + 4, 5),
         4 => (length + 3, length + 3),
         _ => (length, length + 1 + random.number() as usize % 99),
-    };
-    one_case(report, asked, &expected, size, fill);
+    }
 }
 
 /// One call: answer, fill count and every byte of the buffer.
-fn one_case(report: &mut Report, asked: &Asked, expected: &Result<String, Refusal>, size: usize, fill: usize) {
+fn one_case(report: &mut Report, asked: &Asked, expected: &Result<String, Refusal>, size: usize, state: State) {
     let before: Vec<u8> = (0..size).map(|at| (at * 37 + 129) as u8).collect();
     let mut buffer = before.clone();
-    let answer = match expected {
-        _ if fill > size => Err(Refusal::nowhere(21)),
-        Ok(text) => put(text, fill, &mut buffer),
-        Err(refusal) => Err(*refusal),
+    let State { fill, level } = state;
+    let answer = match (state.allowed(size), expected) {
+        (Err(refusal), _) => Err(refusal),
+        (Ok(()), Ok(text)) => put(text, fill, &mut buffer),
+        (Ok(()), Err(refusal)) => Err(*refusal),
     };
     let expected_fill = answer.unwrap_or(fill);
-    let (mut found_buffer, mut found_fill) = (before, fill);
-    let found =
-        kitlubas::answer(asked.bytes, asked.node, asked.place, asked.request, &mut found_fill, &mut found_buffer);
-    let same = found.err() == answer.err() && found_fill == expected_fill && found_buffer == buffer;
+    let (mut found_buffer, mut after) = (before, state);
+    let found = kitlubas::answer(asked.bytes, asked.node, asked.place, asked.request, &mut after, &mut found_buffer);
+    let same = found.err() == answer.err() && after.fill == expected_fill && found_buffer == buffer;
     report.case(same, || {
         format!(
-            "{:?} of node {} place {}, {size} bytes, fill {fill}: {found:?} {found_fill} and not {answer:?}, {}: {}",
+            "{:?} of node {} place {} at level {level}, {size} bytes, fill {fill}: {found:?} {} and not {answer:?}, {}: {}",
             asked.request,
             asked.node,
             asked.place,
+            after.fill,
             difference(&found_buffer, &buffer),
             kept(asked.bytes)
         )

@@ -1,7 +1,7 @@
 //! Sheets with a part that fills the program's buffer, and one that is a byte shorter or longer.
 
 use super::corners::{node, slot, Corner};
-use crate::answer::{text, Request};
+use crate::answer::{written, Request};
 use crate::context::context;
 use crate::program::BUFFER;
 use crate::sheet::{Sheet, Type};
@@ -31,5 +31,5 @@ fn branded(parameters: usize, module: usize) -> Sheet {
 
 fn getter_length(sheet: &Sheet) -> usize {
     let getter = Request::Getter { reader: true, function: false };
-    text(sheet, &context(sheet), 1, 0, getter).expect("a struct's getter has a text").len()
+    written(sheet, &context(sheet), 1, 0, getter).expect("a struct's getter has a text").at(0).len()
 }

@@ -2,7 +2,7 @@
 
 use super::sheets::group_sheet;
 use super::{discard, Round, Side};
-use crate::answer::{answer, text_of_field, Request};
+use crate::answer::{answer, text_of_field, Request, State};
 use crate::boundary;
 use crate::context::context;
 use crate::generate::corners::{node, slot};
@@ -114,12 +114,12 @@ fn round(bytes: Vec<u8>, at: FieldAt, request: Request, side: Side) -> Round {
             let node = sheet.nodes.iter().find(|node| node.id == at.0).expect("the node is there");
             Box::new(move || discard(text_of_field(&ctx, node, &node.fields[at.1], request)))
         }
-        Side::RustFromBytes => {
-            Box::new(move || discard(answer(black_box(&bytes), at.0, at.1 as u64, request, 0, &mut buffer)))
-        }
+        Side::RustFromBytes => Box::new(move || {
+            discard(answer(black_box(&bytes), at.0, at.1 as u64, request, State::flat(0), &mut buffer))
+        }),
         Side::Kitlubas => Box::new(move || {
-            let mut fill = 0;
-            discard(boundary::answer::answer(black_box(&bytes), at.0, at.1 as u64, request, &mut fill, &mut buffer));
+            let mut state = State::flat(0);
+            discard(boundary::answer::answer(black_box(&bytes), at.0, at.1 as u64, request, &mut state, &mut buffer));
         }),
     }
 }

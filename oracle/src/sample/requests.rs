@@ -1,10 +1,10 @@
 //! Single requests: a sheet after a line with its length in decimal, and its requests after a line with theirs. A request is the
-//! letter Q and six numbers in 21 columns each: the node's id, the place, the request's number at the boundary, the leaf, the
-//! fill count and the length of a buffer of points. An answer is a line with the refusal's number, its line, its column and the
-//! fill count afterwards, and the whole buffer with a byte 10 after it.
+//! letter Q and seven numbers in 21 columns each: the node's id, the place, the request's number at the boundary, the leaf, the
+//! level of indentation, the fill count and the length of a buffer of points. An answer is a line with the refusal's number, its
+//! line, its column and the fill count afterwards, and the whole buffer with a byte 10 after it.
 
 use super::Sample;
-use crate::answer::{answer, Request};
+use crate::answer::{answer, Request, State};
 use crate::boundary::answer::{leaf, number};
 use crate::generate::corners::{bound, group, node, slot};
 use crate::sheet::print::{numbers, print};
@@ -18,7 +18,7 @@ const GETTER: Request = Request::Getter { reader: true, function: false };
 
 pub fn sample() -> Sample {
     let mut sample = Sample::default();
-    for requests in [types(), accessors(), accents(), places(), fill_counts(), refused(), own_parent()] {
+    for requests in [types(), accessors(), accents(), places(), fill_counts(), levels(), refused(), own_parent()] {
         requests.end(&mut sample);
     }
     for bytes in bad() {
@@ -43,13 +43,19 @@ impl Requests {
         Requests::of_bytes(print(&Sheet::of(nodes)))
     }
 
-    /// A request at a fill count of a buffer.
+    /// A request at a fill count of a buffer, at level 0.
     fn ask(&mut self, node: u64, place: u64, request: Request, fill: usize, length: usize) {
-        let columns = [node, place, number(request), leaf(request), fill as u64, length as u64];
+        self.ask_at(node, place, request, State::flat(fill), length);
+    }
+
+    /// A request at a state of a buffer.
+    fn ask_at(&mut self, node: u64, place: u64, request: Request, state: State, length: usize) {
+        let State { fill, level } = state;
+        let columns = [node, place, number(request), leaf(request), level as u64, fill as u64, length as u64];
         self.asked.extend(numbers('Q', &columns).bytes());
         self.asked.push(b'\n');
         let mut buffer = vec![b'.'; length];
-        let (refusal, fill) = match answer(&self.sheet, node, place, request, fill, &mut buffer) {
+        let (refusal, fill) = match answer(&self.sheet, node, place, request, state, &mut buffer) {
             Ok(fill) => (Refusal::nowhere(0), fill),
             Err(refusal) => (refusal, fill),
         };
@@ -59,14 +65,14 @@ impl Requests {
         self.answers.push(b'\n');
     }
 
-    /// The length of a request's text; 0 where it is refused.
-    fn length(&self, node: u64, place: u64, request: Request) -> usize {
-        answer(&self.sheet, node, place, request, 0, &mut [0; LONGEST]).unwrap_or(0)
+    /// The length of a request's text at a level; 0 where it is refused.
+    fn length(&self, node: u64, place: u64, request: Request, level: usize) -> usize {
+        answer(&self.sheet, node, place, request, State { fill: 0, level }, &mut [0; LONGEST]).unwrap_or(0)
     }
 
     /// A request with one byte in front of its text and two behind.
     fn beside(&mut self, node: u64, place: u64, request: Request) {
-        let length = self.length(node, place, request);
+        let length = self.length(node, place, request, 0);
         self.ask(node, place, request, 1, length + 3);
     }
 
@@ -171,7 +177,7 @@ fn places() -> Requests {
 fn fill_counts() -> Requests {
     let mut requests = bed();
     for request in [OWNED, GETTER, Request::Setter] {
-        let length = requests.length(7, 0, request);
+        let length = requests.length(7, 0, request, 0);
         for (fill, size) in [
             (0, length),
             (0, length + 4),
@@ -187,6 +193,37 @@ fn fill_counts() -> Requests {
         ] {
             requests.ask(7, 0, request, fill, size);
         }
+    }
+    requests
+}
+
+/// Texts at levels of indentation: every request of a flag, of an optional Text with a default, of a struct, a Void and two
+/// groups at level 1 and at 8, with two bytes in front and one behind; a setter with exact room and with one byte too few; 36 at
+/// 9, of what is there and what is not, and 21 before it.
+fn levels() -> Requests {
+    let slots = [
+        slot("isFree", Type::Plain(1)).default(1, 1, true),
+        slot("wardName", Type::Plain(12)).default(12, 0, true).option(),
+        slot("ward", Type::Struct(7, Vec::new())).tagged(1),
+        slot("nothing", Type::Plain(0)),
+    ];
+    let bed = node(7, 0, "bed", &[]).slots(slots).group(group("plan", 9)).group(group("none", 8));
+    let plan = node(9, 0, "bed::plan", &[]).slots([slot("day", Type::Plain(7)), slot("note", Type::Plain(12)).at(1)]);
+    let mut requests = Requests::of(vec![bed, plan, node(8, 0, "bed::none", &[])]);
+    for place in 0..6 {
+        for request in Request::PARTS.into_iter().chain([OWNED]) {
+            for level in [1, 8] {
+                let length = requests.length(7, place, request, level);
+                requests.ask_at(7, place, request, State { fill: 2, level }, length + 3);
+            }
+        }
+    }
+    let length = requests.length(7, 0, Request::Setter, 8);
+    requests.ask_at(7, 0, Request::Setter, State { fill: 0, level: 8 }, length);
+    requests.ask_at(7, 0, Request::Setter, State { fill: 0, level: 8 }, length - 1);
+    for (node, place, fill, level) in [(7, 0, 0, 9), (77, 0, 0, 9), (7, 4, 0, 9), (7, 0, 2, usize::MAX), (7, 0, 10, 9)]
+    {
+        requests.ask_at(node, place, Request::Setter, State { fill, level }, 9);
     }
     requests
 }
@@ -225,7 +262,8 @@ fn own_parent() -> Requests {
     requests
 }
 
-/// Bytes that are no sheet: none, a torn one, a byte too many, an id twice, a type with a 17th level, a torn letter, a bad number.
+/// Bytes that are no sheet: none, a torn one, a byte too many, an id twice, a type with a 17th level, a torn letter, a bad
+/// number.
 fn bad() -> Vec<Vec<u8>> {
     let whole = bed().sheet;
     let twice = Sheet::of(vec![node(7, 0, "bed", &[]), node(7, 0, "bed", &[])]);
@@ -239,11 +277,12 @@ fn bad() -> Vec<Vec<u8>> {
     vec![Vec::new(), torn, longer, print(&twice), print(&levels), torn_letter, no_flag]
 }
 
-/// A sheet's refusal comes before those of its requests, and after 21.
+/// A sheet's refusal comes before those of its requests, and after 21 and 36.
 fn bad_sheet(bytes: Vec<u8>) -> Requests {
     let mut requests = Requests::of_bytes(bytes);
     requests.ask(7, 0, OWNED, 0, 9);
     requests.ask(8, 0, OWNED, 2, 2);
     requests.ask(7, 0, Request::Setter, 3, 2);
+    requests.ask_at(7, 0, Request::Setter, State { fill: 0, level: 9 }, 2);
     requests
 }

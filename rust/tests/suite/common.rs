@@ -1,7 +1,9 @@
 //! What the tests share: a sheet with a field of each shape, every request, random numbers, and an asking that looks at
 //! every byte of the buffer.
 
-use kitlubas::{admit, answer, padded, Form, Leaf, Lifetime, NodeId, Place, Refusal, Request, Sheet, Side};
+use kitlubas::{
+    admit, answer, padded, Asked, Form, Leaf, Level, Lifetime, NodeId, Place, Refusal, Request, Sheet, Side,
+};
 use std::path::PathBuf;
 
 /// A ward with its beds: data slots with and without defaults, pointers, a union and a type parameter.
@@ -62,7 +64,7 @@ pub fn told(refusal: Refusal) -> Told {
 }
 
 /// The text of a request, straight from bytes.
-pub fn text(sheet: &[u8], (node, place): (u64, u64), request: Request) -> Result<String, Told> {
+pub fn text(sheet: &[u8], (node, place): (u64, u64), request: impl Into<Asked>) -> Result<String, Told> {
     kitlubas::text(sheet, NodeId(node), Place(place), request).map_err(told)
 }
 
@@ -81,6 +83,11 @@ pub fn requests() -> Vec<Request> {
     all
 }
 
+/// Every level, from 0 on.
+pub fn levels() -> impl Iterator<Item = Level> {
+    (0..=u8::MAX).map_while(Level::new)
+}
+
 /// Bytes among which a changed one shows.
 fn pattern(length: usize) -> Vec<u8> {
     (0..length).map(|at| (at * 37 + 129) as u8).collect()
@@ -91,14 +98,14 @@ fn pattern(length: usize) -> Vec<u8> {
 pub fn ask(
     sheet: &[u8],
     (node, place): (u64, u64),
-    request: Request,
+    request: impl Into<Asked>,
     length: usize,
     fill: usize,
 ) -> Result<String, Told> {
-    let (node, place) = (NodeId(node), Place(place));
+    let (node, place, asked) = (NodeId(node), Place(place), request.into());
     let before = pattern(length);
     let mut buf = before.clone();
-    let answered = answer(sheet, node, place, request, &mut buf, fill);
+    let answered = answer(sheet, node, place, asked, &mut buf, fill);
     let text = answered.map(|after| {
         assert!(fill < after && after <= length, "fill count {fill} became {after} of {length}");
         assert_eq!(buf[..fill], before[..fill], "a byte before the text changed");
@@ -112,9 +119,9 @@ pub fn ask(
     assert_eq!(admitted.as_ref().map(|_| ()).map_err(|refusal| *refusal), admit(sheet));
     if let Ok(admitted) = admitted {
         let mut again = before;
-        assert_eq!(admitted.answer(node, place, request, &mut again, fill), answered);
+        assert_eq!(admitted.answer(node, place, asked, &mut again, fill), answered);
         assert_eq!(again, buf, "the index left another buffer");
-        same_text(&admitted.text(node, place, request), &text, length.saturating_sub(fill));
+        same_text(&admitted.text(node, place, asked), &text, length.saturating_sub(fill));
     }
     text.map_err(told)
 }

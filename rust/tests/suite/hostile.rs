@@ -1,15 +1,16 @@
 //! Torn and random bytes: whatever is handed in is answered by a text or by a refusal, and `ask` holds every byte of
 //! the buffer that must not change against what stood there before.
 
-use crate::common::{ask, requests, sheet, told, Random, PLACES, WARD};
-use kitlubas::{admit, Request, Sheet};
+use crate::common::{ask, levels, requests, sheet, told, Random, PLACES, WARD};
+use kitlubas::{admit, Level, Request, Sheet};
 use std::thread;
 
-/// Asks something at random of a sheet, with a buffer that is mostly too short.
+/// Asks something at random of a sheet, at any level, with a buffer that is mostly too short.
 fn ask_anything(sheet: &[u8], random: &mut Random) {
     let mut all = requests();
     all.push(Request::Zeroing);
-    let request = all[random.below(all.len())];
+    let levels: Vec<Level> = levels().collect();
+    let request = all[random.below(all.len())].at(levels[random.below(levels.len())]);
     let node = if random.below(8) == 0 { random.next() } else { [7, 9][random.below(2)] };
     let place = if random.below(8) == 0 { random.next() } else { random.below(PLACES as usize + 1) as u64 };
     let length = [0, 1, 50, 200, 1000][random.below(5)];
@@ -119,11 +120,13 @@ fn on_a_small_stack(work: impl FnOnce() + Send + 'static) {
     thread.join().expect("the work is done");
 }
 
-/// Asks for a text in each way that there is, straight from the bytes and over the sheet's index: with room for it, and
-/// with a byte too little.
+/// Asks for a text in each way that there is, straight from the bytes and over the sheet's index, at the lowest level and at
+/// the highest: with room for it, and with a byte too little.
 fn answered(bytes: &[u8], at: (u64, u64), request: Request) {
-    let text = ask(bytes, at, request, 1 << 17, 0).expect("there is a text");
-    assert_eq!(ask(bytes, at, request, text.len() - 1, 0), Err((22, None)));
+    for asked in [Level::default(), Level::MOST].map(|level| request.at(level)) {
+        let text = ask(bytes, at, asked, 1 << 17, 0).expect("there is a text");
+        assert_eq!(ask(bytes, at, asked, text.len() - 1, 0), Err((22, None)));
+    }
 }
 
 /// A sheet, and the same made as long as a sheet may be by a node of many groups: the longer one is admitted over the

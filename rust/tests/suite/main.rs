@@ -8,6 +8,7 @@ mod fill;
 mod header;
 mod hostile;
 mod in_c;
+mod levels;
 mod padded;
 mod pinned;
 mod program;

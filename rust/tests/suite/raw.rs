@@ -13,11 +13,30 @@ const GUARD: u8 = 0xA5;
 const ROOM: usize = 64;
 /// How many numbers a field has.
 pub const FIELD_SIZE: usize = 14;
+/// The highest level of indentation.
+const MOST: usize = 8;
+/// Levels that are too high.
+const TOO_HIGH: [usize; 5] = [9, 10, 64, 1 << 32, usize::MAX];
 
-/// The text of a request by its numbers, or the number of the refusal.
-pub fn text(sheet: &[u8], (id, place): (u64, u64), request: u64, leaf: u64) -> Result<String, u64> {
-    let mut buf = vec![0; 65_536];
-    let (mut fill, mut line, mut column) = (0, 0, 0);
+/// What is asked by its numbers: the request, the leaf and the level.
+type Numbers = (u64, u64, usize);
+
+/// The text of a request by its numbers at level 0, or the number of the refusal.
+pub fn text(sheet: &[u8], at: (u64, u64), request: u64, leaf: u64) -> Result<String, u64> {
+    text_at(sheet, at, (request, leaf, 0), 65_536, 0)
+}
+
+/// The text of a request by its numbers, put into a buffer of this length from a fill count on, or the number of the refusal,
+/// which leaves the buffer and the fill count.
+fn text_at(
+    sheet: &[u8],
+    (id, place): (u64, u64),
+    (request, leaf, level): Numbers,
+    length: usize,
+    kept: usize,
+) -> Result<String, u64> {
+    let mut lent = Lent::new(length);
+    let (mut fill, mut line, mut column) = (kept, 0, 0);
     let number = unsafe {
         declarations::kitlubas_answer(
             sheet.as_ptr(),
@@ -26,17 +45,76 @@ pub fn text(sheet: &[u8], (id, place): (u64, u64), request: u64, leaf: u64) -> R
             place,
             request,
             leaf,
+            level,
             &mut fill,
             &mut line,
             &mut column,
-            buf.as_mut_ptr(),
-            buf.len(),
+            lent.start(),
+            length,
         )
     };
-    match number {
-        0 => Ok(String::from_utf8(buf[..fill].to_vec()).expect("texts are UTF-8")),
-        number => Err(number),
-    }
+    lent.left((number, line, column), kept, fill)
+}
+
+/// The same over an index.
+fn text_in(
+    (sheet, index): (&[u8], &[u64]),
+    (id, place): (u64, u64),
+    (request, leaf, level): Numbers,
+    length: usize,
+    kept: usize,
+) -> Result<String, u64> {
+    let mut lent = Lent::new(length);
+    let (mut fill, mut line, mut column) = (kept, 0, 0);
+    let number = unsafe {
+        declarations::kitlubas_answer_in(
+            sheet.as_ptr(),
+            sheet.len(),
+            index.as_ptr(),
+            index.len(),
+            id,
+            place,
+            request,
+            leaf,
+            level,
+            &mut fill,
+            &mut line,
+            &mut column,
+            lent.start(),
+            length,
+        )
+    };
+    lent.left((number, line, column), kept, fill)
+}
+
+/// The number and the length that are told of a field of node 0 by its numbers, and the text if there is one.
+fn text_of(
+    (sheet, index): (&[u8], &[u64]),
+    field: &[u64],
+    (request, leaf, level): Numbers,
+    length: usize,
+) -> (u64, usize, String) {
+    let (mut text_len, mut lent) = (usize::MAX, Lent::new(length));
+    let number = unsafe {
+        declarations::kitlubas_text(
+            sheet.as_ptr(),
+            sheet.len(),
+            index.as_ptr(),
+            index.len(),
+            0,
+            field.as_ptr(),
+            field.len(),
+            request,
+            leaf,
+            level,
+            &mut text_len,
+            lent.start(),
+            length,
+        )
+    };
+    lent.check(0);
+    let text = if number == 0 { lent.text(0, text_len) } else { String::new() };
+    (number, text_len, text)
 }
 
 type NameHelper = unsafe extern "C" fn(usize, *mut u8, usize, *const u8, usize) -> usize;
@@ -50,7 +128,7 @@ fn helped(helper: NameHelper, name: &[u8]) -> Option<String> {
         return None;
     }
     lent.check(1);
-    Some(String::from_utf8(lent.bytes[ROOM + 1..ROOM + fill].to_vec()).expect("names are UTF-8"))
+    Some(lent.text(1, fill))
 }
 
 pub fn snake(name: &[u8]) -> Option<String> {
@@ -108,6 +186,24 @@ impl Lent {
         self.bytes[ROOM..].as_mut_ptr()
     }
 
+    /// What stands in the buffer from a fill count to another.
+    fn text(&self, from: usize, to: usize) -> String {
+        String::from_utf8(self.bytes[ROOM + from..ROOM + to].to_vec()).expect("texts and names are UTF-8")
+    }
+
+    /// The text from a fill count to another, with nothing changed around it; or the number of a refusal that changed nothing.
+    fn left(&self, (number, line, column): Answer, kept: usize, fill: usize) -> Result<String, u64> {
+        if number != 0 {
+            self.check(self.length);
+            assert_eq!(fill, kept, "a refusal moved the fill count");
+            assert!([2, 3, 4, 16, 17].contains(&number) || (line, column) == (0, 0));
+            return Err(number);
+        }
+        self.check(kept);
+        assert!(self.bytes[ROOM + fill..].iter().all(|byte| *byte == GUARD), "a byte behind the text was written");
+        Ok(self.text(kept, fill))
+    }
+
     /// Nothing changed before so many bytes of the buffer, and nothing behind it.
     fn check(&self, kept: usize) {
         let (before, behind) = (&self.bytes[..ROOM + kept.min(self.length)], &self.bytes[ROOM + self.length..]);
@@ -128,6 +224,7 @@ fn any(random: &mut Random, bound: usize) -> u64 {
 fn answer_anything(bytes: &[u8], index: &[u64], random: &mut Random) {
     let length = [0, 1, 50, 1000][random.below(4)];
     let kept = random.below(length + 2);
+    let level = any(random, 10) as usize;
     let (mut fill, mut line, mut column, mut lent) = (kept, 0, 0, Lent::new(length));
     let number = unsafe {
         declarations::kitlubas_answer_in(
@@ -139,6 +236,7 @@ fn answer_anything(bytes: &[u8], index: &[u64], random: &mut Random) {
             any(random, 9),
             any(random, 10),
             any(random, 11),
+            level,
             &mut fill,
             &mut line,
             &mut column,
@@ -148,6 +246,7 @@ fn answer_anything(bytes: &[u8], index: &[u64], random: &mut Random) {
     };
     lent.check(kept);
     assert_eq!(number == 21, kept > length);
+    assert_eq!(number == 36, kept <= length && level > MOST);
     assert!(if number == 0 { kept <= fill && fill <= length } else { fill == kept });
 }
 
@@ -176,6 +275,7 @@ fn numbers(bytes: &[u8], random: &mut Random) -> Vec<u64> {
 fn text_of_anything(bytes: &[u8], index: &[u64], random: &mut Random) {
     let length = [0, 1, 50, 1000][random.below(4)];
     let field = numbers(bytes, random);
+    let level = any(random, 10) as usize;
     let (mut text_len, mut lent) = (usize::MAX, Lent::new(length));
     let number = unsafe {
         declarations::kitlubas_text(
@@ -188,12 +288,14 @@ fn text_of_anything(bytes: &[u8], index: &[u64], random: &mut Random) {
             field.len(),
             any(random, 10),
             any(random, 11),
+            level,
             &mut text_len,
             lent.start(),
             length,
         )
     };
     lent.check(0);
+    assert_eq!(number == 36, level > MOST);
     match number {
         0 => assert!(text_len <= length && field.len() == FIELD_SIZE),
         22 => assert!(text_len > length),
@@ -264,6 +366,88 @@ fn numbers_of_no_request() {
             assert_eq!(text(&vec![b' '; 65_537], (7, 0), request, leaf), Err(1));
         }
     }
+}
+
+/// The setter at a level.
+fn setter(level: usize) -> Numbers {
+    (5, 0, level)
+}
+
+/// A level above 8 is 36: after a fill count above the length, which is 21, and before everything else.
+#[test]
+fn levels_above_8() {
+    let ward = sheet(WARD);
+    let torn = &ward[1..];
+    let long = vec![b' '; 65_537];
+    for level in TOO_HIGH {
+        for kept in [0, 5, 500] {
+            assert_eq!(text_at(&ward, (7, 0), setter(level), 500, kept), Err(36));
+        }
+        assert_eq!(text_at(&ward, (7, 0), setter(level), 500, 501), Err(21));
+        assert_eq!(text_at(&ward, (7, 0), setter(level), 0, usize::MAX), Err(21));
+        // The sheet's own refusals, no such node, field, request and leaf, and no room.
+        assert_eq!(text_at(torn, (7, 0), setter(level), 500, 0), Err(36));
+        assert_eq!(text_at(&long, (7, 0), setter(level), 500, 0), Err(36));
+        for at in [(6, 0), (7, 99)] {
+            assert_eq!(text_at(&ward, at, setter(level), 500, 0), Err(36));
+        }
+        for (request, leaf) in [(9, 0), (8, 0), (0, 10)] {
+            assert_eq!(text_at(&ward, (7, 0), (request, leaf, level), 500, 0), Err(36));
+        }
+        assert_eq!(text_at(&ward, (7, 0), setter(level), 0, 0), Err(36));
+    }
+    // Level 8 is one, and leaves each of these its own number.
+    assert_eq!(text_at(torn, (7, 0), setter(MOST), 500, 0), Err(2));
+    assert_eq!(text_at(&long, (7, 0), setter(MOST), 500, 0), Err(1));
+    assert_eq!(text_at(&ward, (6, 0), setter(MOST), 500, 0), Err(15));
+    assert_eq!(text_at(&ward, (7, 0), (9, 0, MOST), 500, 0), Err(15));
+    assert_eq!(text_at(&ward, (7, 0), setter(MOST), 0, 0), Err(22));
+}
+
+/// The same over an index, and for a field by its numbers, of which the length is then 0.
+#[test]
+fn levels_above_8_over_an_index() {
+    let ward = sheet(WARD);
+    let (_, whole) = index(&ward, index_size(ward.len()));
+    let first = node(&ward, &whole, 0).expect("there is a node").3;
+    let (field, _) = field(&ward, first, FIELD_SIZE);
+    let no_text = |number| (number, 0, String::new());
+    for level in TOO_HIGH {
+        for parts in [(&ward[..], &whole[..]), (&ward[1..], &whole[..]), (&ward[..], &[][..])] {
+            for at in [(7, 0), (6, 0), (7, 99)] {
+                assert_eq!(text_in(parts, at, setter(level), 500, 5), Err(36));
+                assert_eq!(text_in(parts, at, setter(level), 500, 501), Err(21));
+            }
+            assert_eq!(text_in(parts, (7, 0), (9, 0, level), 500, 5), Err(36));
+            for numbers in [&field[..], &field[1..], &[]] {
+                assert_eq!(text_of(parts, numbers, setter(level), 500), no_text(36));
+                assert_eq!(text_of(parts, numbers, setter(level), 0), no_text(36));
+                assert_eq!(text_of(parts, numbers, (9, 0, level), 500), no_text(36));
+            }
+        }
+    }
+    assert_eq!(text_of((&ward, &whole), &field[1..], setter(MOST), 500), no_text(15));
+    assert_eq!(text_of((&ward, &whole), &field, (9, 0, MOST), 500), no_text(15));
+}
+
+/// Level 8 is answered, in a buffer that is just as long as the text with its spaces; one byte less is 22.
+#[test]
+fn level_8() {
+    let ward = sheet(WARD);
+    let (_, whole) = index(&ward, index_size(ward.len()));
+    let first = node(&ward, &whole, 0).expect("there is a node").3;
+    let (field, _) = field(&ward, first, FIELD_SIZE);
+    let plain = text_at(&ward, (7, 0), setter(0), 500, 0).expect("there is a setter");
+    let moved: String = plain.lines().map(|line| format!("{}{line}\n", " ".repeat(32))).collect();
+    let length = moved.len();
+    for kept in [0, 9] {
+        assert_eq!(text_at(&ward, (7, 0), setter(MOST), kept + length, kept), Ok(moved.clone()));
+        assert_eq!(text_in((&ward, &whole), (7, 0), setter(MOST), kept + length, kept), Ok(moved.clone()));
+        assert_eq!(text_at(&ward, (7, 0), setter(MOST), kept + length - 1, kept), Err(22));
+        assert_eq!(text_in((&ward, &whole), (7, 0), setter(MOST), kept + length - 1, kept), Err(22));
+    }
+    assert_eq!(text_of((&ward, &whole), &field, setter(MOST), length), (0, length, moved));
+    assert_eq!(text_of((&ward, &whole), &field, setter(MOST), length - 1), (22, length, String::new()));
 }
 
 #[test]

@@ -1,7 +1,8 @@
 //! Every refusal, from a smallest sheet that is refused by it, with its line and column, and its sentence.
 
-use crate::common::{ask, requests, sheet, told, Told};
-use kitlubas::{Form, Leaf, NodeId, Place, Request, Side};
+use crate::common::{ask, file, requests, sheet, told, Told};
+use kitlubas::{Form, Leaf, NodeId, Place, Refusal, Request, Side};
+use std::fs;
 
 const OWNED: Request = Request::TypeText(Leaf::Owned);
 const GETTER: Request = Request::Getter { side: Side::Reader, form: Form::Plain };
@@ -228,6 +229,32 @@ fn each_number_says_its_sentence() {
         assert_eq!((refusal.number, refusal.to_string().as_str()), (number, sentence));
         assert_eq!(sentence.starts_with(refusal.sentence()), refusal.line.is_none());
     }
+}
+
+/// A refusal with any number, which says only what the number says.
+fn with_number(number: u64) -> Refusal {
+    let (sheet, request) = met(15);
+    let mut refusal = kitlubas::text(&sheet, NodeId(7), Place(0), request).expect_err("the request is refused");
+    refusal.number = number;
+    refusal
+}
+
+/// No level of this crate is refused, and the number that C is told has its sentence.
+#[test]
+fn number_36_says_its_sentence() {
+    assert_eq!(with_number(36).to_string(), "the level of indentation is above 8 (refusal 36)");
+    assert_eq!(with_number(37).to_string(), "no refusal has this number (refusal 37)");
+}
+
+/// The numbers that have a sentence are those that C's header lists.
+#[test]
+fn the_numbers_of_the_header() {
+    let header = fs::read_to_string(file("crates/exports/kitlubas.h")).expect("the header can be read");
+    let row = |line: &str| line.strip_prefix(" *")?.trim_start().split_once("  ")?.0.parse().ok();
+    let listed: Vec<u64> = header.lines().filter_map(row).collect();
+    let no_sentence = with_number(u64::MAX).sentence();
+    let said: Vec<u64> = (0..1000).filter(|number| with_number(*number).sentence() != no_sentence).collect();
+    assert_eq!(listed, said);
 }
 
 /// A chain of parents has a 17th level too, and no line.

@@ -1,15 +1,13 @@
 -- `codegen::tag_test_line` meets its contract: nothing, or the line. Assumes nothing.
 use mathlib.Core.Path.{refl}
 use borrow.Author.Tests.{eq-eqb, ne_eqb}
-use Rattle.text.specs.Text.{put, adv}
-use Rattle.text.proofs.Laws.{◌⨾◌}
+use Rattle.text.proofs.Laws.{◌⋄◌, flat, nothing-at, reworded}
 use Rattle.codegen.proofs.tag_test_line.Goals as goal
 
 pub returns-then-discriminant-eq-NO_DISCRIMINANT : goal.returns-then-discriminant-eq-NO_DISCRIMINANT
-unfolding put adv
-returns-then-discriminant-eq-NO_DISCRIMINANT c =
-    rw (eq-eqb _ _ c.if-discriminant-eq-NO_DISCRIMINANT.true) record { bytes = refl; state = refl }
+returns-then-discriminant-eq-NO_DISCRIMINANT c = nothing-at (rw (eq-eqb _ _ c.if-discriminant-eq-NO_DISCRIMINANT.true) refl)
 
 pub returns : goal.returns
 returns c =
-    rw (ne_eqb _ _ c.if-discriminant-eq-NO_DISCRIMINANT.false) (c.bytes-t.ensures ⨾ c.tag_test-t.ensures ⨾ c.bytes.ensures)
+    reworded (λ n. rw (ne_eqb _ _ c.if-discriminant-eq-NO_DISCRIMINANT.false) refl)
+    (c.inner_margin-t.ensures ⋄ flat c.tag_test-t.ensures ⋄ flat c.bytes.ensures)

@@ -5,4 +5,4 @@ use Rattle.exports.proofs.kitlubas_answer.Goals as goal
 pub returns : goal.returns
 returns c =
     rw (← c.request_of-asked.ensures)
-    (asked c.args.buf.now _ _ _ _ _ c.at.ensures c.answer_request-answer.ensures _ _ _ _ c.say.ensures)
+    (asked c.args.buf.now _ _ _ _ _ (rw c.at_level-start.ensures at c.answer_request-answer.ensures) _ _ _ _ c.say.ensures)

@@ -5,7 +5,7 @@ use borrow.Author.Rules.{rules}
 use lib.ListN.{length}
 use Rattle.text.proofs.Laws.{◌⨾◌}
 use Rattle.parts.specs.Program.{refused_text}
-use Rattle.parts.proofs.FitLaws.{refused-few, text-end, taken-fits, taken-puts}
+use Rattle.parts.proofs.FitLaws.{refused-few, start-at, text-end, taken-fits, taken-puts}
 use Rattle.parts.proofs.refused.Goals as goal
 use Rattle.parts.proofs.refused.Goals.{Start}
 
@@ -17,7 +17,7 @@ unfolding refused_text
 returns-clause-fits c =
     let written = c.bytes-t.ensures ⨾ c.number-t.ensures ⨾ c.byte-t.ensures in
     let few = refused-few c.args.number (search rules) in
-    taken-fits c.at.ensures written 65536 _ (omega (arith, few, text-end c.at.ensures written)) c.taken.ensures
+    taken-fits c.at.ensures written 65536 _ (omega (arith, few, text-end (start-at c.at.ensures) written)) c.taken.ensures
 
 pub returns-clause-said : goal.returns-clause-said
 unfolding refused_text

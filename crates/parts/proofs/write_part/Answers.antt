@@ -6,7 +6,7 @@ use borrow.Author.Rules.{rules}
 use lib.ListN.{length}
 use Rattle.text.proofs.Laws.{kept}
 use Rattle.nodes.specs.Index.{sheet_of}
-use Rattle.parts.proofs.FitLaws.{header-few, text-end, text-whole, lent, lent_length}
+use Rattle.parts.proofs.FitLaws.{header-few, start-at, text-end, text-whole, lent, lent_length}
 use Rattle.parts.proofs.PartLaws.{part-whole}
 use Rattle.parts.proofs.write_part.Goals as goal
 use Rattle.parts.proofs.write_part.Goals.{Start}
@@ -17,13 +17,13 @@ room c = search rules
 pub returns-then-out-n-clause-fits : goal.returns-then-out-n-clause-fits
 returns-then-out-n-clause-fits c =
     let written = c.header-t.ensures in
-    let long = c.fill-n.ensures ∙ text-end c.at.ensures written in
+    let long = c.fill-n.ensures ∙ text-end (start-at c.at.ensures) written in
     omega (arith, c.if-out-n.true, long, header-few c.args.job.part c.args.name.now, kept written)
 
 pub returns-in_err-m-clause-fits : goal.returns-in_err-m-clause-fits
 returns-in_err-m-clause-fits c =
     let written = c.header-t.ensures in
-    let long = c.fill-n.ensures ∙ text-end c.at.ensures written in
+    let long = c.fill-n.ensures ∙ text-end (start-at c.at.ensures) written in
     let few = header-few c.args.job.part c.args.name.now in
     let under : length (lent c.header-t.new.buf c.fill-n.result) < 65536 = rw c.in_err-m.was at c.under_header.ensures.fits in
     rw c.from_residual.ensures
@@ -32,7 +32,7 @@ returns-in_err-m-clause-fits c =
 pub returns-clause-fits : goal.returns-clause-fits
 returns-clause-fits c =
     let written = c.header-t.ensures in
-    let long = c.fill-n.ensures ∙ text-end c.at.ensures written in
+    let long = c.fill-n.ensures ∙ text-end (start-at c.at.ensures) written in
     let under = rw c.in_ok-m.was at c.under_header.ensures.fits in
     omega (arith, under, long, header-few c.args.job.part c.args.name.now)
 

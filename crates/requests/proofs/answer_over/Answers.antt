@@ -2,7 +2,8 @@
 -- Assumes nothing.
 use native.Mathlib.Omega.{arith}
 use Rattle.std.proofs.lemmas.List.{length-replicate}
-use Rattle.requests.proofs.SheetLaws.{sheet-answered}
+use Rattle.std.proofs.lemmas.Result.{err_from_is_err_and}
+use Rattle.requests.proofs.SheetLaws.{sheet-answered, sheet-refused}
 use Rattle.requests.proofs.answer_over.Goals as goal
 
 pub whole_as_slice-admit : goal.whole_as_slice-admit
@@ -15,5 +16,12 @@ pub returns : goal.returns
 returns g c =
     sheet-answered c.args.s.now _ c.args.id c.args.request c.args.buf.now c.args.t _ _ _
     (rw c.in_ok-admit.was at c.admit.ensures.answer)
-    (c.admit.ensures.index (rw (length-replicate _ _) (let h = c.requires in h.1))) _
+    (c.admit.ensures.index (rw (length-replicate _ _) (let h = c.requires in h.0))) _
     c.new-source.ensures c.answer_in.ensures.indexed
+
+pub returns-in_err-admit : goal.returns-in_err-admit
+returns-in_err-admit g c =
+    let p = err_from_is_err_and c.from_residual.result c.from_residual.ensures.1 in
+    rw (p.1, p.2)
+    (sheet-refused c.args.s.now c.args.id c.args.request c.args.buf.now c.args.t (let h = c.requires in h.2) _
+    c.in_err-admit.ensures.answer)

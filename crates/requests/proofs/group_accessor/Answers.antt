@@ -9,7 +9,7 @@ use Rattle.requests.proofs.group_accessor.Goals as goal
 pub returns-in_default : goal.returns-in_default
 returns-in_default c = record {
   text = λ tag nodes x at e h.
-      group-alone c.args.source.now.bytes.now _ at c.args.group c.args.accessor c.in_default.not-Zeroing h (refused-text refl);
+      group-alone c.args.source.now.bytes.now _ at c.args.group c.args.accessor _ c.in_default.not-Zeroing h (refused-text refl);
   within = kept-all;
 }
 

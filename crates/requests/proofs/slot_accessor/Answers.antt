@@ -26,10 +26,10 @@ pub returns-in-Haser-clause-text : goal.returns-in-Haser-clause-text
 unfolding accessor_text haser_request
 returns-in-Haser-clause-text c = λ nodes x at e h.
     rw (c.in-Haser.is, e) (slot_accessor c.args.source.now.bytes.now at.1 c.args.slot _ h (λ f here. whole
-    (rw (here.discriminant, here.slot.kind, here.slot.offset, ← c.name-name.ensures.name f here) c.haser.ensures)))
+    (rw (here.discriminant, here.slot.kind, here.slot.offset, ← c.name-name.ensures.name f here) c.haser.ensures.lines)))
 
 pub returns-in-Haser-clause-within : goal.returns-in-Haser-clause-within
-returns-in-Haser-clause-within c = some-text c.haser.ensures
+returns-in-Haser-clause-within c = some-text c.haser.ensures.lines
 
 pub returns-in-Zeroing-clause-text : goal.returns-in-Zeroing-clause-text
 unfolding accessor_text

@@ -14,7 +14,7 @@ returns-in-Void c =
     record {
       text = λ ns sl is below. void-here (sheet_of a.root.now ns) sl x.slot is x.tag (name_of x.name) x.slot.discriminant
           (ap number_of c.in-Void.is) (c.void.ensures a.root.now);
-      within = some-text (c.void.ensures a.root.now);
+      within = some-text (c.void.ensures a.root.now).lines;
     }
 
 pub returns-in-Text-clause-text : goal.returns-in-Text-clause-text

@@ -24,7 +24,7 @@ returns-in-Bool c =
     record {
       text = λ root ns sl is n0 le. bool-here (sheet_of root ns) sl x.slot is x.tag (name_of x.name) x.slot.discriminant _
           c.in_ok-prim_default.ensures (ap number_of c.in-Bool.is) (c.boolean.ensures root);
-      within = some-text (c.boolean.ensures (name_of x.name));
+      within = some-text (c.boolean.ensures (name_of x.name)).lines;
     }
 
 pub returns-in_default : goal.returns-in_default
@@ -34,5 +34,5 @@ returns-in_default c =
       text = λ root ns sl is n0 le. number-here (sheet_of root ns) sl x.slot is x.tag (name_of x.name) x.slot.discriminant _
           c.in_ok-prim_default.ensures n0 (number-own x.slot.kind kind.Bool c.in_default.not-Bool) (omega arith)
           (c.number.ensures root);
-      within = some-text (c.number.ensures (name_of x.name));
+      within = some-text (c.number.ensures (name_of x.name)).lines;
     }

@@ -14,13 +14,13 @@ pub returns-then-buf-fill-clause-text : goal.returns-then-buf-fill-clause-text
 returns-then-buf-fill-clause-text c =
     let n = c.loop-done.invariant in
     λ w. n.rest w _ _ (names-counted c.args.s.now _ _ _ _ _ _ (omega (arith, c.if-buf-fill.true, c.fill.ensures)) (omega arith)
-    (n.left w) (omega arith) (c.counted-t.ensures ∙ rw c.names_size.ensures))
+    (n.left w) (omega arith) (c.past-t.ensures ∙ rw c.names_size.ensures))
 
 pub returns-then-buf-fill-clause-within : goal.returns-then-buf-fill-clause-within
 returns-then-buf-fill-clause-within c =
     c.loop-done.invariant.some
     ⨟ some-counted _ _ _ _ (omega (arith, c.if-buf-fill.true, c.fill.ensures)) (omega arith)
-    c.counted-t.ensures
+    c.past-t.ensures
 
 pub loop-done-preserved : goal.loop-done-preserved
 loop-done-preserved c =

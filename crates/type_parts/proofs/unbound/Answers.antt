@@ -11,7 +11,7 @@ use Rattle.type_parts.proofs.unbound.Goals as goal
 pub returns-then-buf-fill : goal.returns-then-buf-fill
 returns-then-buf-fill c =
     c.loop-done.invariant _ _ (unbound-counted c.args.root.now _ _ _ _ _
-    (omega (arith, c.if-buf-fill.true, c.fill.ensures)) (omega arith) (omega arith) c.saturating_mul.ensures c.counted-t.ensures)
+    (omega (arith, c.if-buf-fill.true, c.fill.ensures)) (omega arith) (omega arith) c.saturating_mul.ensures c.past-t.ensures)
 
 pub loop-done-preserved : goal.loop-done-preserved
 loop-done-preserved c =

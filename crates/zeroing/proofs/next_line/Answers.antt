@@ -1,4 +1,5 @@
--- `zeroing::next_line` meets its contract: a line that is there again, or a line and its byte 10. Assumes nothing.
+-- `zeroing::next_line` meets its contract: a line that is there again, or a line with its margin and its byte 10. Assumes
+-- nothing.
 use Rattle.zeroing.proofs.GroupLaws.{line-again, line-new}
 use Rattle.zeroing.proofs.next_line.Goals as goal
 
@@ -8,5 +9,5 @@ returns-then-again c =
 
 pub returns : goal.returns
 returns c =
-    line-new c.args.line.offset c.args.again c.requires c.clears-clear.ensures c.if-again.false c.write-t.ensures
-    c.byte-text.ensures
+    line-new c.args.line.offset c.args.again c.requires c.clears-clear.ensures c.if-again.false c.margin-t.ensures
+    c.write-t.ensures c.byte-text.ensures

@@ -17,4 +17,4 @@ returns-clause-text c =
     (c.in_ok-lines.ensures.lines root ns x (leads_first _ _ _)) c.if-lines.false c.no_lines.ensures
 
 pub returns-clause-within : goal.returns-clause-within
-returns-clause-within c = c.in_ok-lines.ensures.within ⨟ some-text c.no_lines.ensures
+returns-clause-within c = c.in_ok-lines.ensures.within ⨟ some-text c.no_lines.ensures.lines

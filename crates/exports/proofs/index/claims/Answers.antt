@@ -9,9 +9,10 @@ use Rattle.exports.specs.Boundary.{SameAnswersHold, ask, Asked}
 use Rattle.exports.proofs.index.claims.Goals as goal
 
 same-answers : SameAnswersHold
-same-answers s index sh e indexed id request l fill l' fill' number line column h =
+same-answers s index sh e indexed id request level l fill l' fill' number line column h =
     let told : answer_numbers (Ok tt) ≡ refusal_in (admitted s) = rw e in
-    of_sheet s index (λ a. Asked l fill (ask a id request) l' fill' number line column) tt told indexed (λ nodes d. h nodes d)
+    of_sheet s index (λ a. Asked l fill (ask a id request level) l' fill' number line column) tt told indexed
+    (λ nodes d. h nodes d)
 
 pub returns : goal.returns
 returns c = same-answers

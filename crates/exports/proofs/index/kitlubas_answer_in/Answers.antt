@@ -10,6 +10,7 @@ pub returns-clause-asked : goal.returns-clause-asked
 returns-clause-asked c =
     let a = c.args in
     let source = c.new-source.ensures in λ ns x.
-    asked_in a.buf.now _ (sheet_of (text_at (rows a.s.now)) ns) a.id _ _ _ _ _ c.request_of-asked.ensures c.at.ensures
+    asked_in a.buf.now _ _ (sheet_of (text_at (rows a.s.now)) ns) a.id _ _ _ _ _ c.request_of-asked.ensures
+    c.at_level-start.ensures
     (rw source.root-is at (c.answer_in-answer.ensures.indexed ns (rw (source.bytes-are, source.index-is) x)))
     _ _ _ _ c.say.ensures

@@ -4,7 +4,8 @@ use mathlib.Core.List.{◌++◌}
 use Rattle.text.specs.Bytes.{ascii}
 use Rattle.names.specs.Names.{name_of}
 use Rattle.setter_code.specs.Parts.{size_param}
-use Rattle.setter_code.proofs.Laws.{retext, init_opened}
+use Rattle.text.proofs.Laws.{reworded}
+use Rattle.setter_code.proofs.Laws.{init_opened}
 use Rattle.setter_code.proofs.Target.init_open.Goals as goal
 use Rattle.setter_code.proofs.Target.init_open.Goals.{Joined-sized, then-sized, else-sized}
 
@@ -17,5 +18,5 @@ behind c =
 
 pub returns : goal.returns
 returns c =
-    retext (init_opened (name_of c.args.self.now.name) c.args.sized)
+    reworded (init_opened (name_of c.args.self.now.name) c.args.sized)
     (rw (← behind (goal.at.returns c).Joined-sized) c.named.ensures)
