@@ -1,9 +1,9 @@
 //! The Rust file: for each sheet a module, in it a module for each struct node, in it the accessors' texts as Kitlubas
-//! gives them, with what capnpc writes around them, and a table of them.
+//! gives them, with what capnpc writes around them, and a table of them. The texts are moved in as far as they stand there.
 
 use crate::nodes::{self, Field, Node, Slot};
 use crate::rows;
-use kitlubas::{padded, Form, Leaf, Lifetime, NodeId, Place, Request, Side};
+use kitlubas::{padded, Form, Leaf, Level, Lifetime, NodeId, Place, Request, Side};
 
 struct Sheet<'s> {
     name: &'s str,
@@ -21,6 +21,9 @@ pub struct Texts {
     /// Reader and Builder with 'a and '_; an interface has none.
     pub types: Vec<String>,
 }
+
+/// In a sheet's module, a node's in it, and an `impl` in that.
+const LEVEL: u8 = 3;
 
 const SIDES: [Side; 2] = [Side::Reader, Side::Builder];
 const FORMS: [Form; 2] = [Form::Function, Form::Plain];
@@ -46,7 +49,8 @@ pub fn file(sheets: &[(String, String)]) -> String {
 impl Sheet<'_> {
     /// The text of a request. A sheet of this program is one that everything can be asked of.
     fn ask(&self, node: &Node, place: usize, request: Request) -> String {
-        let text = self.admitted.text(NodeId(node.id), Place(place as u64), request);
+        let level = Level::new(LEVEL).expect("it is at most 8");
+        let text = self.admitted.text(NodeId(node.id), Place(place as u64), request.at(level));
         text.unwrap_or_else(|refusal| panic!("{}, node {}, field {place}, {request:?}: {refusal}", self.name, node.id))
     }
 
@@ -157,8 +161,9 @@ fn words((bits, pointers): (u64, u64)) -> (u64, u64) {
 /// A getter's result type, code and declaration of a default.
 fn parts(getter: &str) -> (&str, &str, &str) {
     let (typ, rest) = getter.split_once('\n').expect("a getter's first line is its type");
-    let (code, declaration) = rest.split_at(rest.find("pub(crate) static ").unwrap_or(rest.len()));
-    (typ, code, declaration)
+    let is_declared = |line: &&str| line.trim_start().starts_with("pub(crate) static ");
+    let code: usize = rest.split_inclusive('\n').take_while(|line| !is_declared(line)).map(str::len).sum();
+    (typ, &rest[..code], &rest[code..])
 }
 
 /// The getters and the haser as methods: as capnpc writes a function, and the other form inside one.
