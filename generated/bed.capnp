@@ -26,6 +26,8 @@ struct Bed {
   name @15 :Text = "bed";
   label @16 :Text;
   marks @17 :List(UInt16);
+  slope @29 :Float32 = -0.0;
+  after @30 :Status = free;
 
   union {
     empty @18 :Void;

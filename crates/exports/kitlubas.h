@@ -27,7 +27,8 @@
  *   12  the explicit default of an enum is not an enum's, so that there is no setter
  *   13  a type parameter's index is past the parameters of its node
  *   14  the node of a group is not a struct
- *   15  there is no such node, field, leaf or request, or such a request is not for such a field
+ *   15  there is no such node, field, leaf or request, or such a request is not for such a field, or a verdict is asked of a
+ *       field without bits
  *   16  a number of a line is not written as a sheet's number, or is none that may stand there
  *   17  a text of a line is none that may stand there, or the line has more bytes than belong to it
  *   21  the fill count is above the buffer's length
@@ -57,7 +58,9 @@ enum {
     KITLUBAS_SETTER = 5,                  /* a slot's setter, and its initializer if it has one */
     KITLUBAS_HASER_READER = 6,            /* the test whether a pointer slot is there; an empty line for another slot */
     KITLUBAS_HASER_BUILDER = 7,
-    KITLUBAS_ZEROING = 8                  /* the lines that set everything in a group to zero */
+    KITLUBAS_ZEROING = 8,                 /* the lines that set everything in a group to zero */
+    KITLUBAS_PAIRED_SETTER = 9            /* the setter with the getter's mask, so that a getter reads what was set; of a slot
+                                             without bits KITLUBAS_SETTER's text */
 };
 
 /* What the text of a type names of it. Beside other requests the leaf is not looked at. */
@@ -75,6 +78,17 @@ enum {
 };
 
 /*
+ * What a slot's getters read after its setter, as kitlubas_verdict tells it. KITLUBAS_SIGN_FLIPPED and
+ * KITLUBAS_COMBINED_WITH_DEFAULT disagree.
+ */
+enum {
+    KITLUBAS_AGREE = 0,                  /* the value that was set */
+    KITLUBAS_SIGN_FLIPPED = 1,           /* that value with its sign flipped: a float whose default is -0.0 */
+    KITLUBAS_COMBINED_WITH_DEFAULT = 2,  /* that value exclusive or the default: an enum's, which is not 0 and has no flag */
+    KITLUBAS_NOT_BOTH_GENERATED = 3      /* nothing: the setter or a getter is refused */
+};
+
+/*
  * Whether s is a sheet: 0 or a refusal. *line becomes the line of a refusal that was met reading the sheet (2, 3, 4 of a type,
  * 16, 17), from 1, and *column the column in that line, in bytes from 1: for 16 the first of the number's 21, for 17 where the
  * text begins, or the column of the space before it that is missing, or the first surplus byte's, for 3 the id's, which is 2,
@@ -87,7 +101,7 @@ uint64_t kitlubas_admit(const uint8_t *s, size_t s_len, size_t *line, size_t *co
  * in buf from *fill on, *fill has moved past it, and no other byte has changed. A refusal leaves buf and *fill as they were.
  * *line and *column become what they do in kitlubas_admit. At a level from 1 to 8 each line of the text begins with four spaces
  * for each step of it, and so does a type's text, which has no byte 10; a text of no lines is one byte 10 at every level, and
- * level 0 is the text that capnpc writes. 36 comes directly after 21, before the sheet is looked at.
+ * level 0 is capnpc's text, but for a paired setter's mask. 36 comes directly after 21, before the sheet is looked at.
  */
 uint64_t kitlubas_answer(const uint8_t *s, size_t s_len, uint64_t id, uint64_t place, uint64_t request, uint64_t leaf,
                          size_t level, size_t *fill, size_t *line, size_t *column, uint8_t *buf, size_t buf_len);
@@ -136,6 +150,15 @@ uint64_t kitlubas_field(const uint8_t *s, size_t s_len, size_t from, uint64_t *f
 uint64_t kitlubas_text(const uint8_t *s, size_t s_len, const uint64_t *index, size_t index_len, size_t node,
                        const uint64_t *field, size_t field_len, uint64_t request, uint64_t leaf, size_t level,
                        size_t *size, uint8_t *buf, size_t buf_len);
+
+/*
+ * Whether the setter (KITLUBAS_SETTER's) and the getters of a slot agree, over what kitlubas_text takes. 0: *verdict becomes one
+ * of the four numbers above, which are said of records that are long enough and of slots clear of their union's tag. 15: there
+ * is no such node or field (as of fewer than KITLUBAS_FIELD_SIZE numbers), or the field has no bits, as a Void, a pointer or a
+ * group; *verdict becomes 0, which is then no verdict. Over any other numbers it returns as well.
+ */
+uint64_t kitlubas_verdict(const uint8_t *s, size_t s_len, const uint64_t *index, size_t index_len, size_t node,
+                          const uint64_t *field, size_t field_len, uint64_t *verdict);
 
 /*
  * The sheet that a text written by hand says: the numbers of each line, with any spaces between them, right-justified in their

@@ -7,8 +7,8 @@ use crate::source::Texts;
 /// The tables of one node.
 pub struct Table<'n> {
     node: &'n Node,
-    /// `Reader` and `Builder` with a type for each type parameter.
-    structs: [String; 2],
+    /// `Reader`, `Builder` and `Paired` with a type for each type parameter.
+    structs: [String; 3],
     slots: String,
     pointers: String,
     groups: String,
@@ -27,7 +27,7 @@ pub fn member(node: &Node, path: &str) -> String {
 impl<'n> Table<'n> {
     pub fn new(node: &'n Node) -> Table<'n> {
         let arguments = "::capnp::text::Owned, ".repeat(node.parameters.len());
-        let structs = ["Reader", "Builder"].map(|name| format!("{name}::<'_, {arguments}>"));
+        let structs = ["Reader", "Builder", "Paired"].map(|name| format!("{name}::<'_, {arguments}>"));
         Table { node, structs, slots: String::new(), pointers: String::new(), groups: String::new() }
     }
 
@@ -69,20 +69,16 @@ impl<'n> Table<'n> {
     }
 
     fn data_row(&self, head: String, styled_name: &str, slot: &Slot, texts: &Texts) -> String {
-        let set = format!(
-            "|s, bits| {{ let value = crate::values::Value::of_bits(bits); {}::from(s).{}(value); \
-             crate::values::Bits::bits(value) }}",
-            self.structs[1],
-            function(&texts.setter, "set_").expect("a data slot has a setter")
-        );
+        let paired = texts.paired.as_ref().map(|text| setter(text, &self.structs[2]));
         assert_eq!(texts.hasers, ["\n", "\n"], "a slot that is no pointer has no haser");
         format!(
-            "crate::slots::Slot {{ {head}, default: {}, explicit: {}, readers: {}, builders: {}, setter: {} }}, ",
+            "crate::slots::Slot {{ {head}, default: {}, explicit: {}, readers: {}, builders: {}, setter: {}, paired: {} }}, ",
             slot.bits,
             slot.explicit,
             self.getters(0, styled_name, texts, "crate::values::Bits::bits"),
             self.getters(1, styled_name, texts, "crate::values::Bits::bits"),
-            accessor(&texts.setter, &set)
+            setter(&texts.setter, &self.structs[1]),
+            paired.map_or("None".into(), |paired| format!("Some({paired})"))
         )
     }
 
@@ -162,6 +158,16 @@ impl<'n> Table<'n> {
 
 fn accessor(text: &str, run: &str) -> String {
     format!("crate::slots::Accessor {{ text: {text:?}, run: {run} }}")
+}
+
+/// A data slot's setter, which is a method of a struct.
+fn setter(text: &str, of: &str) -> String {
+    let name = function(text, "set_").expect("a data slot has a setter");
+    let run = format!(
+        "|s, bits| {{ let value = crate::values::Value::of_bits(bits); {of}::from(s).{name}(value); \
+         crate::values::Bits::bits(value) }}"
+    );
+    accessor(text, &run)
 }
 
 /// The name of the function of a text that begins so.

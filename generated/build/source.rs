@@ -16,6 +16,8 @@ pub struct Texts {
     /// By side, reader first, and form, function first.
     pub getters: [[String; 2]; 2],
     pub setter: String,
+    /// A slot without bits has none but the present one.
+    pub paired: Option<String>,
     pub hasers: [String; 2],
     pub owned: String,
     /// Reader and Builder with 'a and '_; an interface has none.
@@ -64,9 +66,13 @@ impl Sheet<'_> {
         let getter = |side| FORMS.map(|form| self.ask(node, place, Request::Getter { side, form }));
         let typ = |leaf| self.ask(node, place, Request::TypeText(leaf));
         let is_interface = slot.kind == 17;
+        let [setter, paired] = [Request::Setter, Request::PairedSetter].map(|request| self.ask(node, place, request));
+        let has_bits = slot.width() > 0;
+        assert!(has_bits || paired == setter, "{} has no bits and a paired setter of its own", slot.name);
         Texts {
             getters: SIDES.map(getter),
-            setter: self.ask(node, place, Request::Setter),
+            setter,
+            paired: has_bits.then_some(paired),
             hasers: SIDES.map(|side| self.ask(node, place, Request::Haser { side })),
             owned: typ(if is_interface { Leaf::Client } else { Leaf::Owned }),
             types: LEAVES.into_iter().filter(|_| !is_interface).map(typ).collect(),
@@ -117,6 +123,7 @@ impl Sheet<'_> {
 
     fn node_module(&self, node: &Node, (data, pointers): (u64, u64)) -> String {
         let (mut reader, mut builder, mut private) = (String::new(), String::new(), String::new());
+        let mut paired = String::new();
         let mut table = rows::Table::new(node);
         for (place, field) in node.fields.iter().enumerate() {
             let styled_name = self.styled_name(node, place);
@@ -130,6 +137,7 @@ impl Sheet<'_> {
             reader += &members(&styled_name, &texts.getters[0], &texts.hasers[0]);
             builder += &members(&styled_name, &texts.getters[1], &texts.hasers[1]);
             builder += &texts.setter;
+            paired += texts.paired.as_deref().unwrap_or_default();
             builder += &format!("pub fn types_{styled_name}({}) {{}}\n", arguments(&texts));
             private += declaration(&texts);
             table.slot(&styled_name, slot, &texts);
@@ -139,6 +147,7 @@ impl Sheet<'_> {
             "pub mod {name} {{\ncrate::structs!([{parameters}], {data}, {pointers});\n\
              {impl_start} Reader<'a, {parameters}> {{\n{reader}}}\n\
              {impl_start} Builder<'a, {parameters}> {{\n{builder}}}\n\
+             {impl_start} Paired<'a, {parameters}> {{\n{paired}}}\n\
              pub mod _private {{\n{private}}}\n{table}}}\n",
             name = node.name(),
             table = table.finish()

@@ -8,15 +8,6 @@ use crate::random::Random;
 use crate::tally::Tally;
 use capnp::private::layout::StructReader;
 
-/// A value of the slot's width.
-fn value(known: &KnownSlot, random: &mut Random) -> u64 {
-    match known.slot.width() {
-        0 => 0,
-        1 => random.below(2),
-        width => random.bits(width / 8),
-    }
-}
-
 /// What the compiled getters answer, those of the reader first.
 fn answers(pair: &Pair, known: &KnownSlot) -> Vec<u64> {
     let reader = pair.record.into_reader();
@@ -40,7 +31,7 @@ pub fn get(pair: &Pair, known: &KnownSlot, expected: Option<u64>, tally: &mut Ta
 /// says of the value that was written.
 pub fn set_and_get(pair: &mut Pair, known: &KnownSlot, random: &mut Random, tally: &mut Tally) {
     let slot = known.slot;
-    let written = (slot.setter.run)(pair.record, value(known, random));
+    let written = (slot.setter.run)(pair.record, known.value(random));
     let has_meaning = meaning::run(&known.set, Some(written), &mut pair.section, &mut pair.pointers);
     tally.count(has_meaning && pair.same(), || format!("{} set to {written} leaves another record", slot.name));
     if !known.is_clear || slot.kind == 0 {
@@ -49,6 +40,25 @@ pub fn set_and_get(pair: &mut Pair, known: &KnownSlot, random: &mut Random, tall
     }
     for answer in get(pair, known, Some(slot.expected(written)), tally) {
         tally.read(slot, written, answer);
+    }
+}
+
+/// The paired setter of a slot, which changes nothing but the slot and its tag; then each of its getters. Where the slot is
+/// clear of its tag, what is read is the value that was written, whatever the default.
+pub fn set_paired_and_get(pair: &mut Pair, known: &KnownSlot, random: &mut Random, tally: &mut Tally) {
+    let slot = known.slot;
+    let (Some(paired), Some(lines)) = (&slot.paired, &known.paired) else { return };
+    let (section, pointers) = (pair.section.clone(), pair.pointers.clone());
+    let written = (paired.run)(pair.record, known.value(random));
+    let has_meaning = meaning::run(lines, Some(written), &mut pair.section, &mut pair.pointers);
+    let is_kept = slot.are_others_kept(&section, &pair.section) && pointers == pair.pointers;
+    tally.count(has_meaning && is_kept && pair.same(), || {
+        format!("{} set to {written} by its paired setter leaves another record", slot.name)
+    });
+    for answer in get(pair, known, known.is_clear.then_some(written), tally) {
+        if known.is_clear {
+            tally.paired.read(slot, written, answer);
+        }
     }
 }
 
@@ -90,7 +100,9 @@ pub fn get_from_builder(pair: &Pair, short: &Element, family: &KnownFamily, tall
 pub fn write_short(short: &Element, family: &KnownFamily, random: &mut Random, tally: &mut Tally) {
     for node in &family.nodes {
         for known in &node.slots {
-            write_all_or_nothing(known.slot.name, &known.set, Some(value(known, random)), short, tally);
+            for ops in [Some(&known.set), known.paired.as_ref()].into_iter().flatten() {
+                write_all_or_nothing(known.slot.name, ops, Some(known.value(random)), short, tally);
+            }
         }
         for known in &node.groups {
             write_all_or_nothing(known.group.name, &known.zero, None, short, tally);

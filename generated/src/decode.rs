@@ -7,14 +7,10 @@ use crate::record as library;
 use crate::roots::{self, Message};
 use crate::slots::{PointerSlot, Slot};
 use crate::tally::Tally;
+use crate::tool::{self, is_nan, STATUS};
 use capnp::private::layout::StructBuilder;
 use capnp::serialize;
 use std::collections::BTreeMap;
-use std::io::Write;
-use std::process::{Command, Stdio};
-
-const SCHEMA: &str = concat!(env!("CARGO_MANIFEST_DIR"), "/bed.capnp");
-const STATUS: [&str; 3] = ["free", "taken", "reserved"];
 
 /// What a message was given: a data slot and its value, a data slot that was zeroed with its group, or the text that a
 /// pointer's value is shown as.
@@ -159,17 +155,8 @@ fn write_node(record: StructBuilder<'_>, known: &KnownNode, chosen: u16, random:
 
 /// The lines of so many messages, one for each.
 fn decode(bytes: Vec<u8>, count: usize, tally: &mut Tally) -> String {
-    let mut tool = Command::new("capnp")
-        // Quiet: it does not guess the form of its input, of which it takes an empty record for another.
-        .args(["decode", "--quiet", "--short", SCHEMA, "Bed"])
-        .stdin(Stdio::piped())
-        .stdout(Stdio::piped())
-        .spawn()
-        .expect("capnp can be started");
-    let mut stdin = tool.stdin.take().expect("the tool has an input");
-    let feed = std::thread::spawn(move || stdin.write_all(&bytes));
-    let output = tool.wait_with_output().expect("capnp comes to its end");
-    feed.join().expect("the input is handed over").expect("capnp reads its input");
+    // Quiet: it does not guess the form of its input, of which it takes an empty record for another.
+    let output = tool::run(&["decode", "--quiet", "--short"], bytes);
     let decoded = String::from_utf8(output.stdout).expect("capnp writes text");
     let lines = decoded.lines().count();
     tally.count(output.status.success() && lines == count, || format!("{lines} messages of {count} were decoded"));
@@ -215,14 +202,6 @@ fn is_text_of(kind: u64, text: &str, expected: u64) -> bool {
 fn has_these_digits(kind: u64, text: &str, expected: u64) -> bool {
     let digits = |number: f64| format!("{number:.7e}");
     kind == 10 && text.parse().map(digits) == Ok(digits(f32::from_bits(expected as u32).into()))
-}
-
-fn is_nan(kind: u64, bits: u64) -> bool {
-    match kind {
-        10 => f32::from_bits(bits as u32).is_nan(),
-        11 => f64::from_bits(bits).is_nan(),
-        _ => false,
-    }
 }
 
 /// The bits of a value that is written as text.

@@ -1,7 +1,9 @@
 //! A table of the build script with the meaning of its texts, which is read from them once.
 
 use crate::meaning::{self, Get, Has, Op};
+use crate::random::Random;
 use crate::slots::{Family, Group, Node, PointerSlot, Slot};
+use std::ops::Range;
 
 pub struct KnownFamily {
     pub family: &'static Family,
@@ -18,6 +20,7 @@ pub struct KnownNode {
 pub struct KnownSlot {
     pub slot: &'static Slot,
     pub set: Vec<Op>,
+    pub paired: Option<Vec<Op>>,
     /// The gets of the getters, those of the reader first; a Void slot has none.
     pub gets: Vec<Get>,
     /// Whether the slot's bits are clear of its tag.
@@ -77,8 +80,21 @@ impl KnownSlot {
         } else {
             texts.map(|text| known(meaning::getter(text), slot.name, text)).collect()
         };
-        let set = known(meaning::setter(slot.setter.text), slot.name, slot.setter.text);
-        KnownSlot { slot, set, gets, is_clear: slot.is_clear() }
+        let set = |text| known(meaning::setter(text), slot.name, text);
+        let paired = slot.paired.as_ref().map(|paired| set(paired.text));
+        KnownSlot { slot, set: set(slot.setter.text), paired, gets, is_clear: slot.is_clear() }
+    }
+
+    /// A value of the slot's width: its default, 0, the highest bit alone, which is a float's -0.0, or any other.
+    pub fn value(&self, random: &mut Random) -> u64 {
+        match (self.slot.width(), random.below(16)) {
+            (0, _) => 0,
+            (_, 0) => self.slot.default,
+            (_, 1) => 0,
+            (width, 2) => 1 << (width - 1),
+            (1, _) => random.below(2),
+            (width, _) => random.bits(width / 8),
+        }
     }
 }
 
@@ -117,10 +133,25 @@ impl Slot {
         }
     }
 
+    /// The bits of the data section that it has, and those of its tag.
+    fn bits(&self) -> [Range<u32>; 2] {
+        let of = |width: u32, offset: u32| width * offset..width * (offset + 1);
+        [of(self.width(), self.offset), self.tag.map_or(0..0, |(offset, _)| of(16, offset))]
+    }
+
     fn is_clear(&self) -> bool {
-        let Some((tag, _)) = self.tag else { return true };
-        let (start, tag_start) = (self.offset * self.width(), tag * 16);
-        start + self.width() <= tag_start || tag_start + 16 <= start
+        let [bits, tag] = self.bits();
+        bits.end <= tag.start || tag.end <= bits.start
+    }
+
+    /// Whether two data sections differ in no bit but the slot's and its tag's.
+    pub fn are_others_kept(&self, before: &[u8], after: &[u8]) -> bool {
+        let own = self.bits();
+        let is_own = |bit: u32| own.iter().any(|bits| bits.contains(&bit));
+        let mut changed = before.iter().zip(after).enumerate().filter(|(_, (before, after))| before != after);
+        changed.all(|(at, (before, after))| {
+            (0..8).all(|bit| (before ^ after) >> bit & 1 == 0 || is_own(at as u32 * 8 + bit))
+        })
     }
 
     /// What a value that is set reads as: it itself, but for the two exceptions (`expected` in crates/meaning/specs).

@@ -1,12 +1,13 @@
 //! Runs the accessors that Kitlubas wrote, compiled against the Cap'n Proto runtime for Rust, on records in real
 //! messages, whole and short, and the meaning of their texts on a copy of the records' bytes, and compares every answer,
 //! every data byte and every pointer after each operation. Then has messages that the setters wrote, whole and cut,
-//! decoded by Cap'n Proto's own tool.
+//! decoded by Cap'n Proto's own tool, and values that the paired setters wrote encoded by it.
 //!
 //!     generated [operations [seed]]
 
 mod data;
 mod decode;
+mod encode;
 #[rustfmt::skip]
 #[path = "../../runtime/src/elements.rs"]
 mod elements;
@@ -31,6 +32,7 @@ mod service;
 mod slots;
 mod structs;
 mod tally;
+mod tool;
 mod values;
 
 /// What Kitlubas wrote, as build.rs puts it together. Not every form of every accessor of the inner structs is called, and
@@ -49,7 +51,7 @@ use random::Random;
 use roots::Message;
 use tally::Tally;
 
-/// Steps on one record and on one that was opened with more, and messages that are decoded.
+/// Steps on one record and on one that was opened with more, and messages that are decoded, or encoded.
 const STEPS: u64 = 200;
 const OPENED_STEPS: u64 = 20;
 const MESSAGES: usize = 5_000;
@@ -74,6 +76,9 @@ fn main() {
         all.add(&tally);
         let tally = decode::compare_cut(family, MESSAGES, &mut random);
         tally.print(&format!("{}, {MESSAGES} cut messages decoded", family.family.name));
+        all.add(&tally);
+        let tally = encode::compare(family, MESSAGES, &mut random);
+        tally.print(&format!("{}, {MESSAGES} messages encoded", family.family.name));
         all.add(&tally);
     }
     all.print("all");
@@ -223,6 +228,9 @@ fn step(pair: &mut Pair, family: &KnownFamily, owners: &mut Owners, random: &mut
         }
         4 if !node.slots.is_empty() => {
             data::get(pair, &node.slots[pick(node.slots.len(), random)], None, tally);
+        }
+        5 if !node.slots.is_empty() => {
+            data::set_paired_and_get(pair, &node.slots[pick(node.slots.len(), random)], random, tally);
         }
         _ if !node.slots.is_empty() => {
             data::set_and_get(pair, &node.slots[pick(node.slots.len(), random)], random, tally);

@@ -11,6 +11,8 @@ pub struct Accessor<F> {
 
 type OfReader<T> = Accessor<fn(StructReader<'_>) -> T>;
 type OfBuilder<T> = Accessor<fn(StructBuilder<'_>) -> T>;
+/// Gives the bits that it wrote, which are others where an enum has no such value.
+type Setter = Accessor<fn(StructBuilder<'_>, u64) -> u64>;
 
 /// A Void, Bool, numeric or enum slot. Values and defaults are bits. Of two getters the first is the function.
 pub struct Slot {
@@ -23,8 +25,9 @@ pub struct Slot {
     pub explicit: bool,
     pub readers: [OfReader<u64>; 2],
     pub builders: [OfBuilder<u64>; 2],
-    /// Gives the bits that it wrote, which are others where an enum has no such value.
-    pub setter: Accessor<fn(StructBuilder<'_>, u64) -> u64>,
+    pub setter: Setter,
+    /// The setter with the getters' mask; a Void slot has none of its own.
+    pub paired: Option<Setter>,
 }
 
 /// A pointer slot. Values are shown as text.

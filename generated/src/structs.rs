@@ -1,6 +1,7 @@
 //! What stands around the accessors of a struct, as capnpc writes it, but for the traits of capnp 0.14.
 
-/// `Owned`, `Reader` and `Builder` of a struct with these type parameters, words of data and pointers.
+/// `Owned`, `Reader` and `Builder` of a struct with these type parameters, words of data and pointers; and `Paired`, a builder
+/// whose setters are the paired ones, which have the names of those of `Builder`.
 #[macro_export]
 macro_rules! structs {
     ([$($p:ident),*], $data:expr, $pointers:expr) => {
@@ -89,6 +90,17 @@ macro_rules! structs {
         impl<'a, $($p: for<'x> capnp::traits::Owned<'x> + 'static),*> From<StructBuilder<'a>> for Builder<'a, $($p),*> {
             fn from(builder: StructBuilder<'a>) -> Self {
                 Builder { builder, _phantom: PhantomData }
+            }
+        }
+
+        pub struct Paired<'a, $($p: for<'x> capnp::traits::Owned<'x> + 'static),*> {
+            builder: StructBuilder<'a>,
+            _phantom: PhantomData<($($p,)*)>,
+        }
+
+        impl<'a, $($p: for<'x> capnp::traits::Owned<'x> + 'static),*> From<StructBuilder<'a>> for Paired<'a, $($p),*> {
+            fn from(builder: StructBuilder<'a>) -> Self {
+                Paired { builder, _phantom: PhantomData }
             }
         }
 

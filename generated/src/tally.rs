@@ -42,9 +42,56 @@ impl Past {
     }
 }
 
+/// Values that were read after a paired setter had written them, and of these the ones in slots whose present setter has another
+/// mask.
+#[derive(Default)]
+pub struct Paired {
+    reads: u64,
+    /// With a float default of -0.0.
+    negative_zero: u64,
+    /// With an enum default other than 0 and without its flag.
+    flagless: u64,
+    /// With an enum default of 0 and its flag.
+    flagged_zero: u64,
+    /// That were not read as they had been written.
+    other: u64,
+}
+
+impl Paired {
+    /// Counts a value that was read after it had been set.
+    pub fn read(&mut self, slot: &Slot, written: u64, read: u64) {
+        self.reads += 1;
+        self.other += u64::from(read != written);
+        match (slot.kind, slot.default, slot.explicit) {
+            (10, 0x8000_0000, _) | (11, 0x8000_0000_0000_0000, _) => self.negative_zero += 1,
+            (15, 0, true) => self.flagged_zero += 1,
+            (15, 1.., false) => self.flagless += 1,
+            _ => {}
+        }
+    }
+
+    fn add(&mut self, part: &Paired) {
+        self.reads += part.reads;
+        self.negative_zero += part.negative_zero;
+        self.flagless += part.flagless;
+        self.flagged_zero += part.flagged_zero;
+        self.other += part.other;
+    }
+
+    fn print(&self, of: &str) {
+        let Paired { reads, negative_zero, flagless, flagged_zero, other } = self;
+        if *reads > 0 {
+            println!(
+                "    {reads} values read {of}, {other} not as written; {negative_zero} with a float default of -0.0, {flagless} \
+                 with an enum default without its flag, {flagged_zero} with an enum default 0 and its flag"
+            );
+        }
+    }
+}
+
 #[derive(Default)]
 pub struct Tally {
-    /// Calls of compiled accessors, and decoded fields.
+    /// Calls of compiled accessors, decoded fields, and encoded messages.
     pub operations: u64,
     pub different: u64,
     /// Values that were read after they had been set, and those of them that were not read as they had been written.
@@ -57,6 +104,9 @@ pub struct Tally {
     pub other: u64,
     /// Those that the theorem excepts.
     pub excepted: u64,
+    /// From records, and from what `capnp encode` wrote.
+    pub paired: Paired,
+    pub encoded: Paired,
     /// Of readers, of builders on records that were written short, and of `capnp decode`.
     pub readers: Past,
     pub builders: Past,
@@ -101,6 +151,8 @@ impl Tally {
         self.combined += part.combined;
         self.other += part.other;
         self.excepted += part.excepted;
+        self.paired.add(&part.paired);
+        self.encoded.add(&part.encoded);
         self.readers.add(&part.readers);
         self.builders.add(&part.builders);
         self.decoded.add(&part.decoded);
@@ -109,7 +161,7 @@ impl Tally {
     }
 
     /// What a run must meet. A cut message has whole words, so that no slot of it is split.
-    fn met(&self) -> [(u64, &'static str); 10] {
+    fn met(&self) -> [(u64, &'static str); 16] {
         [
             (self.readers.gets, "gets of readers past the end"),
             (self.readers.split, "gets of readers of slots split by the end"),
@@ -121,13 +173,21 @@ impl Tally {
             (self.decoded.pointers, "pointers cut from decoded messages"),
             (self.kept, "pointers kept in cut messages"),
             (self.undone, "texts that write in part past the end"),
+            (self.paired.negative_zero, "paired setters with a float default of -0.0"),
+            (self.paired.flagless, "paired setters with an enum default without its flag"),
+            (self.paired.flagged_zero, "paired setters with an enum default 0 and its flag"),
+            (self.encoded.negative_zero, "encoded values with a float default of -0.0"),
+            (self.encoded.flagless, "encoded values with an enum default without its flag"),
+            (self.encoded.flagged_zero, "encoded values with an enum default 0 and its flag"),
         ]
     }
 
     /// Whether nothing differed, the exceptions are those of the theorem and no others, and nothing was left out.
     pub fn is_right(&self) -> bool {
         let is_whole = self.met().iter().all(|(count, _)| *count > 0);
-        self.different == 0 && self.other == 0 && self.flipped + self.combined == self.excepted && is_whole
+        let is_excepted = self.flipped + self.combined == self.excepted;
+        let others = self.other + self.paired.other + self.encoded.other;
+        self.different == 0 && others == 0 && is_excepted && is_whole
     }
 
     pub fn print_left_out(&self) {
@@ -145,6 +205,8 @@ impl Tally {
                 self.reads, self.flipped, self.combined, self.other, self.excepted
             );
         }
+        self.paired.print("after paired setters");
+        self.encoded.print("from what was encoded");
         self.readers.print("readers");
         self.builders.print("builders of records written short");
         self.decoded.print("decoded");

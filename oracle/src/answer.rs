@@ -1,8 +1,10 @@
-//! Requests answered by capnpc's own functions, with the refusals of documents 01 and 02 in their order.
+//! Requests answered by capnpc's own functions, with the refusals of documents 01 and 02 in their order; the paired setter by
+//! the paragraph of request N9.
 
 use crate::codegen::{exact, getter_text, FormattedText, GeneratorContext};
 use crate::codegen_types::{Leaf, RustTypeInfo};
 use crate::context::context;
+use crate::paired::paired_setter;
 use crate::schema_capnp::{field, type_};
 use crate::sheet::read::{read, Refusal};
 use crate::sheet::{Field, Group, Node, Sheet, Slot};
@@ -19,6 +21,8 @@ pub enum Request {
         function: bool,
     },
     Setter,
+    /// The setter whose mask is taken by the getter's rule, of request N9.
+    PairedSetter,
     Haser {
         reader: bool,
     },
@@ -27,12 +31,13 @@ pub enum Request {
 
 impl Request {
     /// Every request but types' texts.
-    pub const PARTS: [Request; 8] = [
+    pub const PARTS: [Request; 9] = [
         Request::Getter { reader: true, function: false },
         Request::Getter { reader: false, function: false },
         Request::Getter { reader: true, function: true },
         Request::Getter { reader: false, function: true },
         Request::Setter,
+        Request::PairedSetter,
         Request::Haser { reader: true },
         Request::Haser { reader: false },
         Request::Zero,
@@ -138,7 +143,10 @@ fn written_of_field(ctx: &GeneratorContext, node: &Node, field: &Field, request:
     match (field, request) {
         (Field::Slot(slot), Request::Type { leaf }) => type_text(ctx, slot, leaf),
         (Field::Slot(_), Request::Getter { reader, function }) => getter(ctx, field, reader, function),
-        (Field::Slot(_), Request::Setter) => setter(ctx, node, field),
+        (Field::Slot(_), Request::Setter) => setter(ctx, node, field).map(Written::tree),
+        (Field::Slot(slot), Request::PairedSetter) => {
+            setter(ctx, node, field).map(|setter| Written::tree(paired_setter(slot, setter)))
+        }
         (Field::Slot(_), Request::Haser { reader }) => haser(node, field, reader),
         (Field::Group(group), Request::Zero) => zero(ctx, group),
         _ => Err(15),
@@ -172,10 +180,9 @@ fn getter(ctx: &GeneratorContext, field: &Field, reader: bool, function: bool) -
     Ok(Written::Lines { result_type: Some(result_type), trees })
 }
 
-fn setter(ctx: &GeneratorContext, node: &Node, field: &Field) -> Result<Written, u64> {
+fn setter(ctx: &GeneratorContext, node: &Node, field: &Field) -> Result<FormattedText, u64> {
     let styled_name = exact::camel_to_snake_case(field.name());
-    let setter = || exact::generate_setter(ctx, node.tag_offset, &styled_name, &field::Reader(field));
-    caught(setter).map(Written::tree)
+    caught(|| exact::generate_setter(ctx, node.tag_offset, &styled_name, &field::Reader(field)))
 }
 
 fn haser(node: &Node, field: &Field, reader: bool) -> Result<Written, u64> {

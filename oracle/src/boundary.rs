@@ -86,6 +86,114 @@ pub mod admit {
     }
 }
 
+/// The fields of an admitted sheet, one after the other, and their verdicts.
+pub mod fields {
+    use super::declarations::{kitlubas_field, kitlubas_index, kitlubas_index_size, kitlubas_node, kitlubas_verdict};
+    use crate::sheet::read::Refusal;
+    use crate::verdict::Verdict;
+
+    /// How many numbers the library has for a field.
+    pub const FIELD_SIZE: usize = 14;
+
+    /// The number of a verdict at the boundary.
+    pub fn number(verdict: Verdict) -> u64 {
+        match verdict {
+            Verdict::Agree => 0,
+            Verdict::SignFlipped => 1,
+            Verdict::CombinedWithDefault => 2,
+            Verdict::NotBothGenerated => 3,
+        }
+    }
+
+    /// A sheet with the index of its nodes.
+    pub struct Indexed<'s> {
+        sheet: &'s [u8],
+        index: Vec<u64>,
+    }
+
+    impl<'s> Indexed<'s> {
+        pub fn of(sheet: &'s [u8]) -> Result<Indexed<'s>, Refusal> {
+            let mut index = vec![0; unsafe { kitlubas_index_size(sheet.len()) }];
+            let (index_at, index_len) = (index.as_mut_ptr(), index.len());
+            let (mut line, mut column) = (usize::MAX, usize::MAX);
+            let number =
+                unsafe { kitlubas_index(sheet.as_ptr(), sheet.len(), index_at, index_len, &mut line, &mut column) };
+            match number {
+                0 => Ok(Indexed { sheet, index }),
+                number => Err(Refusal { number, line: line as u64, column: column as u64 }),
+            }
+        }
+
+        /// The numbers of each field of the node with a number, from 0.
+        pub fn fields(&self, node: usize) -> Vec<[u64; FIELD_SIZE]> {
+            let mut fields = Vec::new();
+            let mut at = self.first_field(node);
+            while let Some((numbers, next)) = at.and_then(|at| self.field(at)) {
+                fields.push(numbers);
+                at = Some(next);
+            }
+            fields
+        }
+
+        /// Where the first field of a node stands.
+        fn first_field(&self, node: usize) -> Option<usize> {
+            let (mut id, mut module, mut module_len, mut first) = (0, 0, 0, 0);
+            let refusal = unsafe {
+                kitlubas_node(
+                    self.sheet.as_ptr(),
+                    self.sheet.len(),
+                    self.index.as_ptr(),
+                    self.index.len(),
+                    node,
+                    &mut id,
+                    &mut module,
+                    &mut module_len,
+                    &mut first,
+                )
+            };
+            (refusal == 0).then_some(first)
+        }
+
+        /// The numbers of the field that stands at a position, and where the one after it stands.
+        fn field(&self, at: usize) -> Option<([u64; FIELD_SIZE], usize)> {
+            let mut numbers = [0; FIELD_SIZE];
+            let (mut kind, mut name, mut name_len, mut next) = (0, 0, 0, 0);
+            let refusal = unsafe {
+                kitlubas_field(
+                    self.sheet.as_ptr(),
+                    self.sheet.len(),
+                    at,
+                    numbers.as_mut_ptr(),
+                    numbers.len(),
+                    &mut kind,
+                    &mut name,
+                    &mut name_len,
+                    &mut next,
+                )
+            };
+            (refusal == 0).then_some((numbers, next))
+        }
+
+        /// The answer for the numbers of a field of a node, and the number that the verdict becomes.
+        pub fn verdict(&self, node: usize, field: &[u64]) -> (u64, u64) {
+            let mut verdict = u64::MAX;
+            let answer = unsafe {
+                kitlubas_verdict(
+                    self.sheet.as_ptr(),
+                    self.sheet.len(),
+                    self.index.as_ptr(),
+                    self.index.len(),
+                    node,
+                    field.as_ptr(),
+                    field.len(),
+                    &mut verdict,
+                )
+            };
+            (answer, verdict)
+        }
+    }
+}
+
 pub mod answer {
     use super::declarations::kitlubas_answer;
     use crate::answer::{Request, State};
@@ -103,6 +211,7 @@ pub mod answer {
             Request::Haser { reader: true } => 6,
             Request::Haser { reader: false } => 7,
             Request::Zero => 8,
+            Request::PairedSetter => 9,
         }
     }
 

@@ -14,6 +14,7 @@ pub mod generate;
 pub mod measure;
 pub mod names;
 pub mod numbers;
+pub mod paired;
 pub mod pointer_constants;
 pub mod program;
 pub mod random;
@@ -21,5 +22,6 @@ pub mod report;
 pub mod sample;
 pub mod sheet;
 pub mod standins;
+pub mod verdict;
 
 pub use standins::{any_pointer, message, raw, schema_capnp, traits, Error, MessageSize, Result};

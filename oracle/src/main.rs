@@ -22,7 +22,8 @@ oracle sheets FOLDER      write the sheets that requests and the program are mea
                           of it there is, file
 oracle ask SIDE SHEET     print the names of the requests that a file's last field takes, and do each once;
                           callgrind counts them
-oracle accessors          print what the program `accessors` must print for the sheet on standard input";
+oracle accessors          print what the program `accessors` must print for the sheet on standard input
+oracle verdicts           print what the program `verdicts` must print for it";
 
 fn main() -> ExitCode {
     let words: Vec<String> = std::env::args().skip(1).collect();
@@ -43,7 +44,8 @@ fn main() -> ExitCode {
         ["time", table, side] => table_cases(table, side, |_, round| println!("{:.0}", measure::nanoseconds(round))),
         ["sheets", folder] => done(sheets(Path::new(folder))),
         ["ask", side, sheet] => Side::of(side).map_or_else(usage, |side| done(ask(side, Path::new(sheet)))),
-        ["accessors"] => done(accessors()),
+        ["accessors"] => done(printed(program::accessors)),
+        ["verdicts"] => done(printed(program::verdicts)),
         _ => usage(),
     }
 }
@@ -93,10 +95,11 @@ fn ask(side: Side, sheet: &Path) -> io::Result<()> {
     Ok(())
 }
 
-fn accessors() -> io::Result<()> {
+/// What a program must print for the sheet on standard input.
+fn printed(program: fn(&[u8]) -> Vec<u8>) -> io::Result<()> {
     let mut sheet = Vec::new();
     io::stdin().read_to_end(&mut sheet)?;
-    io::stdout().write_all(&program::accessors(&sheet))
+    io::stdout().write_all(&program(&sheet))
 }
 
 fn done(result: io::Result<()>) -> ExitCode {

@@ -1,22 +1,47 @@
-//! What the program `accessors` must print for a sheet.
+//! What the programs `accessors` and `verdicts` must print for a sheet.
 
 use crate::answer::{put, text_of_field, Request};
 use crate::codegen::GeneratorContext;
 use crate::context::context;
 use crate::sheet::read::{read, Refusal};
-use crate::sheet::{Field, Node};
+use crate::sheet::{Field, Node, Sheet};
+use crate::verdict::verdict;
 
-/// The size of the program's buffer.
+/// The size of the buffer of `accessors`.
 pub const BUFFER: usize = 65_536;
 
 pub fn accessors(bytes: &[u8]) -> Vec<u8> {
-    let sheet = match read(bytes) {
-        Ok(sheet) => sheet,
-        Err(Refusal { number, line, column }) => {
-            return format!("refused {number} line {line} column {column}\n").into_bytes();
+    read(bytes).map_or_else(refused, |sheet| accessors_of(&sheet))
+}
+
+/// Each slot with bits and its verdict: those that disagree, the others, and how many there are of both.
+pub fn verdicts(bytes: &[u8]) -> Vec<u8> {
+    read(bytes).map_or_else(refused, |sheet| verdicts_of(&sheet))
+}
+
+fn refused(Refusal { number, line, column }: Refusal) -> Vec<u8> {
+    format!("refused {number} line {line} column {column}\n").into_bytes()
+}
+
+fn verdicts_of(sheet: &Sheet) -> Vec<u8> {
+    let ctx = context(sheet);
+    let (mut disagreeing, mut others) = (Vec::new(), Vec::new());
+    for node in &sheet.nodes {
+        for field in &node.fields {
+            if let Some(verdict) = verdict(&ctx, node, field) {
+                let lines = if verdict.disagrees() { &mut disagreeing } else { &mut others };
+                lines.push(format!("node {} {}: {}\n", node.id, field.name(), verdict.words()));
+            }
         }
-    };
-    let ctx = context(&sheet);
+    }
+    let disagree = disagreeing.len();
+    let slots = disagree + others.len();
+    let last = format!("{slots} slots, {disagree} disagree\n");
+    [disagreeing.concat(), others.concat(), last].concat().into_bytes()
+}
+
+fn accessors_of(sheet: &Sheet) -> Vec<u8> {
+    let ctx = context(sheet);
     let mut buffer = vec![0; BUFFER];
     let mut output = Vec::new();
     for node in &sheet.nodes {

@@ -37,6 +37,30 @@ impl Report {
     }
 }
 
+/// How often each of some things occurred.
+pub struct Census<T>(Vec<(T, u64)>);
+
+impl<T: Copy + PartialEq + fmt::Debug> Census<T> {
+    pub fn of(all: &[T]) -> Census<T> {
+        Census(all.iter().map(|&thing| (thing, 0)).collect())
+    }
+
+    pub fn count(&mut self, thing: T) {
+        for (other, times) in &mut self.0 {
+            *times += u64::from(*other == thing);
+        }
+    }
+
+    /// Prints how often each occurred, which is a case of its own: it differs where that is never.
+    pub fn told(&self, report: &mut Report) {
+        let counts: Vec<String> = self.0.iter().map(|(thing, times)| format!("{times} {thing:?}")).collect();
+        println!("{}: of them {}", report.name, counts.join(", "));
+        for (thing, times) in &self.0 {
+            report.case(*times > 0, || format!("{thing:?} never occurred"));
+        }
+    }
+}
+
 impl fmt::Display for Report {
     fn fmt(&self, f: &mut fmt::Formatter) -> fmt::Result {
         write!(f, "{}: {} cases, {} differ", self.name, self.cases, self.differ)

@@ -4,8 +4,10 @@ use oracle::answer::{text_of_field, Request};
 use oracle::context::context;
 use oracle::generate;
 use oracle::names::accented_letters;
+use oracle::paired::Apart;
 use oracle::random::Random;
 use oracle::sheet::{Binding, Field, Scope, Sheet, Type};
+use oracle::verdict::{verdict, Verdict};
 use std::collections::{BTreeMap, BTreeSet};
 
 /// How often each kind of request was answered with a text (0) or with a refusal.
@@ -33,15 +35,17 @@ fn every_refusal_is_reached() {
         count(&mut census, &sheet, "client", Request::Type { leaf: 5 }, is_slot);
         count(&mut census, &sheet, "getter", Request::Getter { reader: true, function: true }, is_slot);
         count(&mut census, &sheet, "setter", Request::Setter, is_slot);
+        count(&mut census, &sheet, "paired setter", Request::PairedSetter, is_slot);
         count(&mut census, &sheet, "haser", Request::Haser { reader: false }, is_slot);
         count(&mut census, &sheet, "zeroing", Request::Zero, is_group);
     }
     println!("{census:#?}");
-    let expected: [(&str, &[u64]); 6] = [
+    let expected: [(&str, &[u64]); 7] = [
         ("owned", &[0, 4, 5, 6, 8, 13]),
         ("client", &[0, 4, 5, 6, 7, 8, 13]),
         ("getter", &[0, 4, 5, 6, 8, 9, 10, 13]),
         ("setter", &[0, 4, 5, 6, 8, 11, 12, 13]),
+        ("paired setter", &[0, 4, 5, 6, 8, 11, 12, 13]),
         ("haser", &[0]),
         ("zeroing", &[0, 4, 5, 14]),
     ];
@@ -49,6 +53,29 @@ fn every_refusal_is_reached() {
         for number in numbers {
             assert!(census.get(&(name, *number)).is_some_and(|&count| count >= 5), "{name} {number}");
         }
+    }
+}
+
+/// The defaults with which the two profiles of setters differ, and every verdict.
+#[test]
+fn both_profiles_and_every_verdict_are_reached() {
+    let random = &mut Random::new(33);
+    let (mut aparts, mut verdicts) = (Vec::new(), Vec::new());
+    for turn in 0..4000 {
+        let (sheet, _) = generate::sheet(random, turn);
+        let ctx = context(&sheet);
+        for node in &sheet.nodes {
+            aparts.extend(node.fields.iter().filter_map(Apart::of_field));
+            verdicts.extend(node.fields.iter().filter_map(|field| verdict(&ctx, node, field)));
+        }
+    }
+    for apart in Apart::ALL {
+        let count = aparts.iter().filter(|&&other| other == apart).count();
+        assert!(count >= 50, "{apart:?} {count} times");
+    }
+    for verdict in Verdict::ALL {
+        let count = verdicts.iter().filter(|&&other| other == verdict).count();
+        assert!(count >= 50, "{verdict:?} {count} times");
     }
 }
 

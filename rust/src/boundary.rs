@@ -186,6 +186,25 @@ pub fn text(
     Refusal::told(sheet, number, 0, 0).map(|()| length).map_err(|refusal| NoText { refusal, length })
 }
 
+/// The number of the verdict on a field of the node with a number, if it is a slot with bits.
+pub fn verdict((sheet, index): (&[u8], &[u64]), node: usize, field: &FieldNumbers) -> Option<u64> {
+    let mut verdict = 0;
+    // Sound: addresses and lengths are those of the slices, and `verdict` is a local variable.
+    let refusal = unsafe {
+        declarations::kitlubas_verdict(
+            sheet.as_ptr(),
+            sheet.len(),
+            index.as_ptr(),
+            index.len(),
+            node,
+            field.as_ptr(),
+            field.len(),
+            &mut verdict,
+        )
+    };
+    (refusal == 0).then_some(verdict)
+}
+
 /// The node with a number, from 0.
 pub fn node((sheet, index): (&[u8], &[u64]), number: usize) -> Option<NodeRow> {
     let (mut id, mut module, mut module_len, mut fields) = (0, 0, 0, 0);

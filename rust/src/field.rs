@@ -2,7 +2,7 @@
 #![forbid(unsafe_code)]
 
 use crate::boundary::{self, FieldNumbers, NoText};
-use crate::{Asked, Kind, Place, Refusal, Sheet};
+use crate::{Asked, Kind, Place, Refusal, Sheet, Verdict};
 use std::fmt;
 use std::iter::FusedIterator;
 
@@ -50,6 +50,26 @@ impl<'s> Field<'_, 's> {
     /// Its place among the fields of its node.
     pub fn place(&self) -> Place {
         self.place
+    }
+
+    /// Whether its setter and its getters agree, of a slot with bits: a Bool, a number or an enum. A Void, a pointer and a group
+    /// have none.
+    ///
+    /// ```
+    /// # use kitlubas::{padded, Sheet, Verdict};
+    /// // The status of a bed: its default is 2, reserved, and its explicit flag was left out.
+    /// let bytes = padded(
+    ///     "R ::capnp\nN 7 0 0 1 0 0 0 bed\nF 4 65535 0 0 status\nT 15 9 0 0\nV 15 2\n\
+    ///      F 3 65535 1 0 isFree\nT 1 0 0 0\nV 1 1\nF 0 65535 0 0 ward\nT 12 0 0 0\nV 12 0\n\
+    ///      N 9 0 0 0 0 0 0 Status\n",
+    /// );
+    /// let sheet = Sheet::admit(&bytes)?;
+    /// let verdicts: Vec<_> = sheet.nodes().flat_map(|node| node.fields()).map(|field| field.verdict()).collect();
+    /// assert_eq!(verdicts, [Some(Verdict::CombinedWithDefault), Some(Verdict::Agree), None]);
+    /// # Ok::<(), kitlubas::Refusal>(())
+    /// ```
+    pub fn verdict(&self) -> Option<Verdict> {
+        boundary::verdict(self.sheet.parts(), self.node, &self.numbers).map(Verdict::of)
     }
 
     /// The text of a request, whatever its length: refusals 21 and 22 can't come.

@@ -8,8 +8,9 @@
 //! has the line and the column, and says what is expected there. Nothing panics and nothing has to be checked first.
 //!
 //! The work is done by a static library in which every function is proved to meet its contract; this crate only calls
-//! it. The text is capnpc's, byte for byte; at a [`Level`], which [`Request::at`] gives, each of its lines begins with four
-//! spaces for each step. Calls have no state, may run on any number of threads, and get along with a stack of 64 KB.
+//! it. The text is capnpc's, byte for byte, but for [`Request::PairedSetter`]'s, which has a mask of its own; at a [`Level`],
+//! which [`Request::at`] gives, each of its lines begins with four spaces for each step. Calls have no state, may run on any
+//! number of threads, and get along with a stack of 64 KB.
 //!
 //! # Examples
 //!
@@ -165,6 +166,50 @@
 //! # Ok::<(), Box<dyn std::error::Error>>(())
 //! ```
 //!
+//! # Before a release
+//!
+//! What was set is not always what is read: [`Field::verdict`] says of each slot with bits whether its present setter and its
+//! getters agree. Every slot of a sheet whose setter and getters disagree, each with the text of [`Request::PairedSetter`]:
+//!
+//! ```
+//! use kitlubas::{padded, Refusal, Request, Sheet};
+//!
+//! fn disagreeing(bytes: &[u8]) -> Result<Vec<String>, Refusal> {
+//!     let sheet = Sheet::admit(bytes)?;
+//!     let mut slots = Vec::new();
+//!     for node in sheet.nodes() {
+//!         for field in node.fields() {
+//!             if let Some(verdict) = field.verdict().filter(|verdict| verdict.disagrees()) {
+//!                 let paired = field.text(Request::PairedSetter)?;
+//!                 slots.push(format!("{}.{}: {verdict}\n{paired}", node.module(), field.name()));
+//!             }
+//!         }
+//!     }
+//!     Ok(slots)
+//! }
+//!
+//! // A bed with a Bool, whose default is true, and a status, whose default is 2, reserved. A schema editor left out the
+//! // explicit flag of the status: a getter reads 0, free, where 2 was set.
+//! let bytes = padded(
+//!     "R ::capnp\n\
+//!      N 7 0 0 1 0 0 0 bed\n\
+//!      F 3 65535 1 0 isFree\nT 1 0 0 0\nV 1 1\n\
+//!      F 4 65535 0 0 status\nT 15 9 0 0\nV 15 2\n\
+//!      N 9 0 0 0 0 0 0 Status\n",
+//! );
+//! let slots = disagreeing(&bytes)?;
+//! for slot in &slots {
+//!     println!("{slot}");
+//! }
+//! let status = "bed.status: combined with the default\n\
+//!     #[inline]\n\
+//!     pub fn set_status(&mut self, value: Status)  {\n    \
+//!         self.builder.set_data_field_mask::<u16>(4, value as u16, 2);\n\
+//!     }\n";
+//! assert_eq!(slots, [status]);
+//! # Ok::<(), Refusal>(())
+//! ```
+//!
 //! # Building
 //!
 //! The archive is the one that `tools/build exports` writes to `target/staticlib/libexports.a` in the repository, or
@@ -182,6 +227,7 @@ mod padded;
 mod refusal;
 mod request;
 mod sheet;
+mod verdict;
 
 pub use address::{NodeId, Place};
 pub use field::{Field, Fields};
@@ -191,6 +237,7 @@ pub use padded::padded;
 pub use refusal::Refusal;
 pub use request::{Asked, Form, Leaf, Lifetime, Request, Side};
 pub use sheet::{Node, Nodes, Sheet};
+pub use verdict::Verdict;
 
 /// Whether these bytes are a sheet: else the refusal of its first bad line, or refusal 1 for one that is too long.
 /// [`Sheet::admit`] is the same for a caller who goes on to ask for texts.

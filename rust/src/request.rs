@@ -26,6 +26,28 @@ pub enum Request {
     },
     /// The lines that set everything in a group to zero.
     Zeroing,
+    /// The paired setter: its mask is taken by the getter's rule, so that a generated getter reads what was set, whatever the
+    /// default. As ever, the record has to be long enough for it, and its bits clear of its union's tag.
+    ///
+    /// Its function has the name of [`Request::Setter`]'s; the mask differs in three cases alone: a float with the default -0.0
+    /// and an enum with a default other than 0 but without its flag are masked, and an enum with its flag and the default 0 is
+    /// not. A pointer or a Void has the present setter, and so has, refusals too, a slot whose default is not of its type.
+    ///
+    /// ```
+    /// # use kitlubas::{padded, NodeId, Place, Request, Sheet};
+    /// // The status of a bed: its default is 2, reserved, and its explicit flag was left out.
+    /// let bytes = padded(
+    ///     "R ::capnp\nN 7 0 0 1 0 0 0 bed\nF 4 65535 0 0 status\nT 15 9 0 0\nV 15 2\n\
+    ///      N 9 0 0 0 0 0 0 Status\n",
+    /// );
+    /// let sheet = Sheet::admit(&bytes)?;
+    /// let setter = sheet.text(NodeId(7), Place(0), Request::Setter)?;
+    /// assert!(setter.contains("self.builder.set_data_field::<u16>(4, value as u16);"));
+    /// let paired = sheet.text(NodeId(7), Place(0), Request::PairedSetter)?;
+    /// assert!(paired.contains("self.builder.set_data_field_mask::<u16>(4, value as u16, 2);"));
+    /// # Ok::<(), kitlubas::Refusal>(())
+    /// ```
+    PairedSetter,
 }
 
 /// The struct that an accessor is a method of.
@@ -119,6 +141,7 @@ impl Request {
             Request::Haser { side: Side::Reader } => 6,
             Request::Haser { side: Side::Builder } => 7,
             Request::Zeroing => 8,
+            Request::PairedSetter => 9,
         }
     }
 

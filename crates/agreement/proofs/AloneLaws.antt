@@ -2,14 +2,17 @@
 -- conditions follow from the sheet being admitted and the default being of the slot's kind. Assumes nothing.
 use Rattle.std.specs.Prelude.{◌≡◌, ℕ, ◌^◌, ◌<◌, ◌≤◌, Bool, true, false, eqb}
 use mathlib.Core.Path.{sym, ap, ◌∙◌}
-use Rattle.std.specs.Prelude.{None, Some}
+use Rattle.std.specs.Option.{option_map}
+use Rattle.std.specs.Prelude.{Option, None, Some}
 use native.Mathlib.Omega.{arith}
 use Rattle.text.specs.Bytes.{Str, cond, either}
 use Rattle.row.specs.Line.{most_bits}
 use Rattle.codegen_types.specs.Out.{ok}
 use Rattle.codegen.specs.Getter.{getter_request}
-use Rattle.codegen.specs.Setter.{setter_request}
-use Rattle.record.specs.Masks.{get_mask, set_mask}
+use Rattle.codegen.specs.Default.{value}
+use Rattle.codegen.specs.Profiles.{MaskRule, present_mask}
+use Rattle.codegen.specs.Setter.{mask_by, setter_request}
+use Rattle.record.specs.Masks.{get_mask, set_mask, set_mask_text, mask_bits}
 use Rattle.record.specs.Record.{Record, get}
 use Rattle.record.specs.Types.{float32, float64, Kind, num, enum, slot_bits, kind_of}
 use Rattle.meaning.specs.Claims.{MaskFits, TagFits, setter_leaves}
@@ -18,7 +21,7 @@ use Rattle.meaning.proofs.MaskLaws.{get_mask_bits}
 use Rattle.meaning.proofs.SetLaws as setting
 use Rattle.agreement.specs.Slots.{SlotAt, tag_of, is_explicit, slot_kind, tag_at, place_at, OwnDefault, setter_mask}
 use Rattle.agreement.proofs.GetterLaws.{getter-given}
-use Rattle.agreement.proofs.KindLaws.{most-bits}
+use Rattle.agreement.proofs.KindLaws.{most-bits, present_mask_lem}
 use Rattle.agreement.proofs.SetterLaws.{setter-given}
 use Rattle.agreement.proofs.SheetLaws.{bounds}
 
@@ -70,17 +73,27 @@ module _ {s : Str} {id place : ℕ} (a : SlotAt s id place) (k : Kind) (h : kind
       (get-fits k d e (own_fits (sym getter.same_kind)))
       ∙ ap (λ (m : ℕ). Some (get (place_at a k) m r)) (get_mask_bits k d e)
 
-  -- what the text of a setter's request leaves, where the default is of the slot's kind
+  -- what the text of a setter's request leaves, where the default is of the slot's kind, with the mask that the rule gives
+  module _ (rule : MaskRule) (ms : Option ℕ) (fits : MaskFits k ms)
+      (masks : mask_by rule a.slot ≡ ok (option_map (set_mask_text k) ms)) where
+    pub set-by : OwnDefault a → (w : Str)
+        → setter_request rule a.tree a.node.tag_offset a.field.name a.field.discriminant a.slot 0 ≡ ok w
+        → (v : ℕ) (r : Record) → run_setter w v r ≡ setter_leaves (tag_at a) (place_at a k) v (mask_bits ms) r
+    set-by own w is v r =
+        let b = bounds a in
+        let setter =
+        setter-given rule a.tree a.node.tag_offset a.field.name a.field.discriminant a.slot w b.clean b.below k ms
+        b.named h (sym own) masks is in
+        ap (λ (x : Str). run_setter x v r) setter.text
+        ∙ setting.set_holds setter.opening (tag_at a) k a.slot.offset ms v r setter.one_line.is (tag_fits-at a) fits
+
+  -- the present one
   pub set-alone : OwnDefault a → (w : Str)
-      → setter_request a.tree a.node.tag_offset a.field.name a.field.discriminant a.slot 0 ≡ ok w
+      → setter_request present_mask a.tree a.node.tag_offset a.field.name a.field.discriminant a.slot 0 ≡ ok w
       → (v : ℕ) (r : Record) → run_setter w v r ≡ setter_leaves (tag_at a) (place_at a k) v (setter_mask a k) r
   set-alone own w is v r =
-      let b = bounds a in
       let d = a.slot.default.bits in
       let e = is_explicit a.slot in
-      let setter =
-      setter-given a.tree a.node.tag_offset a.field.name a.field.discriminant a.slot w b.clean k
-      b.named h (sym own) b.flag is in
-      ap (λ (x : Str). run_setter x v r) setter.text
-      ∙ setting.set_holds setter.opening (tag_at a) k a.slot.offset (set_mask k d e) v r setter.one_line.is
-      (tag_fits-at a) (set-fits k d e (own_fits own))
+      set-by present_mask (set_mask k d e) (set-fits k d e (own_fits own))
+      (ap (λ (n : ℕ). present_mask (slot_kind a) a.slot.explicit (value n d)) own
+      ∙ present_mask_lem d a.slot.explicit (bounds a).flag (slot_kind a) k h) own w is v r

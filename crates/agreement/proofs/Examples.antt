@@ -37,6 +37,7 @@ use Rattle.calls.specs.Calls.{get_bool_field, get_data_field, set_bool_field, se
 use Rattle.codegen.specs.Default.{prim_default, getter_mask}
 use Rattle.codegen.specs.Getter.{getter_text, getter_request}
 use Rattle.codegen.specs.Haser.{generate_haser, haser_request}
+use Rattle.codegen.specs.Profiles.{present_mask}
 use Rattle.codegen.specs.Setter.{generate_setter, setter_request}
 use Rattle.nodes.specs.Index.{by_id, nth}
 use Rattle.record.specs.Bits.{section_bits}
@@ -87,25 +88,29 @@ ran_of s id place a level w e p = record {
 -- ---- the sheet
 
 -- Bool at 3, default true
-abbrev is_free : Slot
+abbrev pub is_free : Slot
 is_free = slot_with (plain 1) 3 1 1
 
 -- an enum at 1 with default 2, without and with its flag
-abbrev status : Slot
+abbrev pub status : Slot
 status = slot_with (enum 8 end) 1 0 2
 
-abbrev planned : Slot
+abbrev pub planned : Slot
 planned = slot_with (enum 8 end) 1 1 2
 
+-- an enum at 1 with its flag and default 0
+abbrev pub cleaned : Slot
+cleaned = slot_with (enum 8 end) 1 1 0
+
 -- Float32 at 1, default -0.0
-abbrev heat : Slot
+abbrev pub heat : Slot
 heat = slot_with (plain 10) 1 1 2147483648
 
 -- the members of a union with its tag at 4: a Uint8, two Texts at one pointer, a Void
-abbrev nights : Slot
+abbrev pub nights : Slot
 nights = slot_with (plain 6) 0 0 0
 
-abbrev guest : Slot
+abbrev pub guest : Slot
 guest = slot_with (plain 12) 1 0 0
 
 abbrev visitor : Slot
@@ -115,10 +120,10 @@ abbrev vacant : Slot
 vacant = slot_with (plain 0) 0 0 0
 
 -- a Bool at 5 whose V line is an Int8's
-abbrev odd : Slot
+abbrev pub odd : Slot
 odd = slot_of (plain 1) 5 1 2 3 []
 
-abbrev bed : Node
+abbrev pub bed : Node
 bed = node 7 "bed" 4 4 (
     named_field "isFree" 65535 (slot is_free)
     ∷ named_field "status" 65535 (slot status)
@@ -129,17 +134,18 @@ bed = node 7 "bed" 4 4 (
     ∷ named_field "vacant" 2 (slot vacant)
     ∷ named_field "odd" 65535 (slot odd)
     ∷ named_field "visitor" 0 (slot visitor)
+    ∷ named_field "cleaned" 65535 (slot cleaned)
     ∷ [])
 
 -- with the enum
-abbrev tree : Sheet
+abbrev pub tree : Sheet
 tree = worked_sheet (bed ∷ node 8 "status" 0 0 [] ∷ [])
 
 -- its bytes
-abbrev bytes : Str
+abbrev pub bytes : Str
 bytes = printed tree
 
-is-admitted : admitted bytes ≡ sheet tree
+pub is-admitted : admitted bytes ≡ sheet tree
 unfolding joined printed sheet_rows node_rows param_rows field_rows word_rows type_rows scope_count row_text columns padded
     decimal admitted read_sheet read_nodes read_node read_members read_params group_ids read_fields fields_up_to read.read_field
     overlap among read_slot read_words read_words_up_to value_of read_type type_from read_scope read_binding times rest_of onto
@@ -149,7 +155,7 @@ unfolding joined printed sheet_rows node_rows param_rows field_rows word_rows ty
 is-admitted = refl
 
 -- a slot of the bed by its place
-abbrev slot_at : (place : ℕ) (f : Field) (s : Slot) → field_at tree.nodes 7 place ≡ ok (bed, f) → f.arm ≡ slot s
+abbrev pub slot_at : (place : ℕ) (f : Field) (s : Slot) → field_at tree.nodes 7 place ≡ ok (bed, f) → f.arm ≡ slot s
     → SlotAt bytes 7 place
 slot_at place f s e h = record {
   tree = tree;
@@ -167,7 +173,7 @@ given-bytes : (place : ℕ) (a : Accessor) (level : ℕ) (w : Str) → requests.
 given-bytes place a level w e = ap (λ x. outcome_of x 7 (of_field place a) level) is-admitted ∙ ap outcome e
 
 -- and a run of the entry leaves it
-ran_bytes : (place : ℕ) (a : Accessor) (level : ℕ) (w : Str) → requests.request_text tree 7 (of_field place a) level ≡ ok w
+pub ran_bytes : (place : ℕ) (a : Accessor) (level : ℕ) (w : Str) → requests.request_text tree 7 (of_field place a) level ≡ ok w
     → PutAround level w
     → Ran bytes 7 place a w
 ran_bytes place a level w e p = ran_of bytes 7 place a level w (given-bytes place a level w e) p
@@ -188,11 +194,11 @@ pub record Example : Type 0 where
   pub reads : ℕ
 
 -- a setter's text: what stands after `set_`, and the lines in it
-abbrev setter_with : String → String → Str
+abbrev pub setter_with : String → String → Str
 setter_with opening lines = ascii "#[inline]\npub fn set_" ++ ascii opening ++ ascii ")  {\n" ++ ascii lines ++ ascii "}\n"
 
 -- an example of a reader's getter at level 0, by its place, its field's name and discriminant, and what else belongs to it
-abbrev example : ℕ → String → ℕ → Slot → Kind → Str → Str → ℕ → ℕ → Example
+abbrev pub example : ℕ → String → ℕ → Slot → Kind → Str → Str → ℕ → ℕ → Example
 example place name d s k setter getter v x = record {
   place = place;
   field = named_field name d (slot s);
@@ -206,40 +212,40 @@ example place name d s k setter getter v x = record {
 }
 
 -- isFree, with the value v
-abbrev free : ℕ → Example
+abbrev pub free : ℕ → Example
 free v =
     example 0 "isFree" 65535 is_free bool
     (setter_with "is_free(&mut self, value: bool" "    self.builder.set_bool_field_mask(3, value, true);\n")
     (ascii "bool\nself.reader.get_bool_field_mask(3, true)\n") v v
 
 -- the getter of an enum at 1 with the mask 2
-abbrev status_getter : Str
+abbrev pub status_getter : Str
 status_getter =
     ascii "::core::result::Result<status,::capnp::NotInSchema>\n"
     ++ ascii "::core::convert::TryFrom::try_from(self.reader.get_data_field_mask::<u16>(1, 2))\n"
 
 -- the enum's default 2 without its flag: 2 written reads 0
-abbrev no_flag : Example
+abbrev pub no_flag : Example
 no_flag =
     example 1 "status" 65535 status kinds.enum
     (setter_with "status(&mut self, value: status" "    self.builder.set_data_field::<u16>(1, value as u16);\n") status_getter 2 0
 
 -- with its flag
-abbrev with_flag : Example
+abbrev pub with_flag : Example
 with_flag =
     example 2 "planned" 65535 planned kinds.enum
     (setter_with "planned(&mut self, value: status" "    self.builder.set_data_field_mask::<u16>(1, value as u16, 2);\n")
     status_getter 2 2
 
 -- the default -0.0: the sign is flipped
-abbrev negative_zero : Example
+abbrev pub negative_zero : Example
 negative_zero =
     example 3 "heat" 65535 heat (num float32)
     (setter_with "heat(&mut self, value: f32" "    self.builder.set_data_field::<f32>(1, value);\n")
     (ascii "f32\nself.reader.get_data_field_mask::<f32>(1, 2147483648)\n") 1065353216 3212836864
 
 -- a member of the union
-abbrev member : Example
+abbrev pub member : Example
 member =
     example 4 "nights" 1 nights (num (uint One))
     (setter_with "nights(&mut self, value: u8"
@@ -247,7 +253,7 @@ member =
     (ascii "u8\nself.reader.get_data_field::<u8>(0)\n") 9 9
 
 -- isFree at level 2: each line has eight spaces in front
-abbrev moved_in : Example
+abbrev pub moved_in : Example
 moved_in = record {
   place = 0;
   field = named_field "isFree" 65535 (slot is_free);
@@ -263,7 +269,7 @@ moved_in = record {
 }
 
 -- a record without bytes, and one without pointers
-abbrev no_bytes : Record
+abbrev pub no_bytes : Record
 no_bytes = record { bits = []; pointers = some16.pointers }
 
 abbrev no_pointers : Record
@@ -319,7 +325,7 @@ module _ (x : Example) (e : field_at tree.nodes 7 x.place ≡ ok (bed, x.field))
 -- all of them
 pub all-worked : All (free 1 ∷ free 0 ∷ no_flag ∷ with_flag ∷ negative_zero ∷ member ∷ moved_in ∷ [])
 unfolding field_at by_id nth accessor_text same are_chars taken snake_from camel_to_snake_case type_string types.node_of
-    get_bool_field get_data_field set_bool_field set_data_field prim_default getter_mask getter_text getter_request
+    get_bool_field get_data_field set_bool_field set_data_field present_mask prim_default getter_mask getter_text getter_request
     generate_setter setter_request to_lines flat_map join stringify decimal signed kind_of found stored get_bits put_bits
     type_name truth get_mask_of set_mask_of data_arg bool_arg writes gets gets_in run_op run_line run_lines run_setter
     run_getter margin state_refusal text.answer_of text.buffer_of text.placed
@@ -395,7 +401,7 @@ uint8 = num (uint One)
 
 pub nights-case : SetCase nights_at uint8 member.setter
 unfolding nights_at field_at by_id nth accessor_text are_chars taken snake_from camel_to_snake_case type_string set_data_field
-    prim_default generate_setter setter_request to_lines flat_map join stringify decimal kind_of margin state_refusal
+    present_mask prim_default generate_setter setter_request to_lines flat_map join stringify decimal kind_of margin state_refusal
     text.answer_of text.buffer_of text.placed
 nights-case = record {
   has-bits = refl;
@@ -427,14 +433,15 @@ nights-set = (refl, refl, omega arith, refl, refl)
 
 -- A default that is not of the slot's kind: there is no getter, and the setter masks with what is no Bool, so that it has no
 -- meaning where its bit is held.
-abbrev odd_setter : Str
+abbrev pub odd_setter : Str
 odd_setter = setter_with "odd(&mut self, value: bool" "    self.builder.set_bool_field_mask(5, value, 3);\n"
 
 pub odd-worked :
     (outcome_of (admitted bytes) 7 (of_field 7 (Getter true false)) 0 ≡ refuses 10 0 0) × Ran bytes 7 7 Setter odd_setter
     × (run_setter odd_setter 1 some16 ≡ None)
 unfolding field_at by_id nth accessor_text are_chars taken snake_from camel_to_snake_case type_string getter_text getter_request
-    set_bool_field prim_default generate_setter setter_request to_lines flat_map join stringify decimal signed type_name truth
+    set_bool_field present_mask prim_default generate_setter setter_request to_lines flat_map join stringify decimal signed
+    type_name truth
     set_mask_of data_arg bool_arg writes run_op run_line run_lines run_setter margin state_refusal text.answer_of text.buffer_of
     text.placed
 odd-worked =

@@ -107,6 +107,11 @@ module _ (sheet : Sheet) (name : Str) (s : Slot) (is_reader is_fn : Bool) (g : S
   pub own_default : getter_request sheet name s is_reader is_fn 0 ≡ ok g → kind s.ty ≡ s.default.kind
   own_default e = (own (steps e)).0
 
+  -- and its type has a text
+  pub type-given : getter_request sheet name s is_reader is_fn 0 ≡ ok g
+      → (inner : Str) × (type_string s.ty sheet (module_leaf is_reader) ≡ ok inner)
+  type-given e = let st = steps e in (st.inner, st.is-inner)
+
 -- ---- slots with bits
 
 -- an option is none: it would be refused

@@ -1,130 +1,103 @@
 -- The text of a setter's request, for a slot with bits whose default is of its type, and for a Void slot: an opening line, the
--- tag's line if there is a tag, and the set of the slot's kind, offset and mask. What `generate_setter` gives for each kind is
--- computed. Assumes nothing.
+-- tag's line if there is a tag, and the set of the slot's kind, offset and the mask that a rule gives, whichever rule it is. What
+-- `generate_setter` gives for each kind is computed. Assumes nothing.
 use Rattle.std.specs.Option.{option_map}
-use Rattle.std.specs.Prelude.{◌≡◌, ℕ, zero, suc, ◌^◌, ◌<◌, Bool, true, false, eqb, List, [], ◌++◌}
+use Rattle.std.specs.Prelude.{◌≡◌, ℕ, ◌<◌, Bool, true, false, eqb, List, [], ◌++◌}
 use mathlib.Core.Path.{refl, sym, ap, ◌∙◌}
 use Rattle.std.specs.Prelude.{Option, None, Some}
 use Prim.Native.String.{String}
 use native.Mathlib.Omega.{arith}
-use borrow.Author.Tests.{eq-eqb}
-use Rattle.text.specs.Bytes.{Str, ascii, cond, either}
-use Rattle.text.specs.Decimal.{decimal}
+use Rattle.text.specs.Bytes.{Str, ascii, cond}
 use Rattle.text.specs.Lines.{FormattedText, FormattedTexts, Branch, Line, none as no_more, ◌&◌, stringify}
 use Rattle.names.specs.Names.{camel_to_snake_case}
 use Rattle.tree.specs.Tree.{Ty, plain, enum, kind, Slot, Sheet}
 use Rattle.codegen_types.specs.Out.{Out, ok, ◌then◌}
 use Rattle.codegen_types.specs.TypeString.{type_string, get_qualified_module}
 use Rattle.codegen.specs.Function.{function}
-use Rattle.codegen.specs.Default.{value, unless, float_zero, prim_default}
-use Rattle.codegen.specs.Setter.{Parts, setter_only, line_alone, setter_parts, enum_mask, enum_setter}
+use Rattle.codegen.specs.Default.{value}
+use Rattle.codegen.specs.Profiles.{MaskRule}
+use Rattle.codegen.specs.Setter.{Parts, setter_only, line_alone, mask_by, setter_parts, enum_setter}
 use Rattle.codegen.specs.Setter.{setter_functions, generate_setter}
 use Rattle.codegen.specs.Setter.{setter_request}
 use Rattle.calls.specs.Calls.{set_tag}
 use Rattle.record.specs.Lines.{Tag, set_line, tag_then, function_text, setter_text, void_setter_text}
-use Rattle.record.specs.Masks.{set_mask, set_mask_text}
+use Rattle.record.specs.Masks.{set_mask_text}
 use Rattle.record.specs.Types as types
 use Rattle.record.specs.Types.{int, uint, float32, float64, Kind, bool, num, kind_of}
 use Rattle.record.specs.declared.Width.TheVariants.{One, Two, Four, Eight}
 use Rattle.meaning.specs.Meaning.{whole}
-use Rattle.agreement.specs.Slots.{tag_of, is_explicit}
-use Rattle.agreement.proofs.KindLaws.{by_kind, masked, true_text}
+use Rattle.agreement.specs.Slots.{tag_of}
+use Rattle.agreement.proofs.KindLaws.{by_kind}
 use Rattle.agreement.proofs.OutLaws.{ok-is, then_ok}
 use Rattle.agreement.proofs.SheetLaws.{Clean}
 use Rattle.agreement.proofs.WholeLaws.{Whole, ◌⊹◌, fixed, whole_camel}
 
 -- ---- the parts
 
--- a setter with the set of a slot of kind k, and a type within a line
-record Sets (k : Kind) (o d : ℕ) (explicit : Bool) (p : Parts) : Type 0 where
+-- a setter with the set of a slot of kind k and a mask, if there is one, and a type within a line
+record Sets (k : Kind) (o : ℕ) (ms : Option ℕ) (p : Parts) : Type 0 where
   typ : Str
   one_line : Whole typ
-  parts : setter_only (ascii "value") (line_alone (set_line k o (option_map (set_mask_text k) (set_mask k d explicit)))) typ ≡ p
+  parts : setter_only (ascii "value") (line_alone (set_line k o (option_map (set_mask_text k) ms))) typ ≡ p
 
-module _ (sheet : Sheet) (o e q b : ℕ) (ws : List ℕ) (explicit : Bool) where
-  -- a Bool or a number whose default is of its type
-  abbrev plain_slot : ℕ → Slot
-  plain_slot n = record { offset = o; explicit = e; option = q; ty = plain n; default = value n b; words = ws }
+-- a slot with bits whose default is of its type, and a rule that gives it a mask
+module _ (rule : MaskRule) (sheet : Sheet) (o e q b : ℕ) (ws : List ℕ) (ms : Option ℕ) where
+  abbrev slot_of : Ty → ℕ → Slot
+  slot_of t n = record { offset = o; explicit = e; option = q; ty = t; default = value n b; words = ws }
 
-  prim-sets : (n : ℕ) (k : Kind) → kind_of n ≡ Some k → (p : Parts) → setter_parts sheet (plain_slot n) (plain n) ≡ ok p
-      → Sets k o b explicit p
-  unfolding prim_default type_string set_mask_text
+  abbrev Masks : ℕ → Kind → Type 0
+  Masks n k = rule n e (value n b) ≡ ok (option_map (set_mask_text k) ms)
+
+  prim-sets : (n : ℕ) (k : Kind) → kind_of n ≡ Some k → n < 14 → Masks n k → (p : Parts)
+      → setter_parts rule sheet (slot_of (plain n) n) (plain n) ≡ ok p → Sets k o ms p
+  unfolding type_string
   prim-sets =
-      by_kind (λ n k. (p : Parts) → setter_parts sheet (plain_slot n) (plain n) ≡ ok p → Sets k o b explicit p)
-      (at bool "bool" refl (masked (set_mask_text bool) b (ascii "true") (eqb b 0) (true_text b)))
-      (at (num (int One)) "i8" refl (number (num (int One)))) (at (num (int Two)) "i16" refl (number (num (int Two))))
-      (at (num (int Four)) "i32" refl (number (num (int Four)))) (at (num (int Eight)) "i64" refl (number (num (int Eight))))
-      (at (num (uint One)) "u8" refl (number (num (uint One)))) (at (num (uint Two)) "u16" refl (number (num (uint Two))))
-      (at (num (uint Four)) "u32" refl (number (num (uint Four)))) (at (num (uint Eight)) "u64" refl (number (num (uint Eight))))
-      (at (num float32) "f32" refl (float (num float32) (2 ^ 31))) (at (num float64) "f64" refl (float (num float64) (2 ^ 63)))
-      (λ p e. cc)
+      by_kind (λ n k. n < 14 → Masks n k → (p : Parts) → setter_parts rule sheet (slot_of (plain n) n) (plain n) ≡ ok p
+      → Sets k o ms p)
+      (at bool "bool" refl)
+      (at (num (int One)) "i8" refl) (at (num (int Two)) "i16" refl) (at (num (int Four)) "i32" refl)
+      (at (num (int Eight)) "i64" refl)
+      (at (num (uint One)) "u8" refl) (at (num (uint Two)) "u16" refl) (at (num (uint Four)) "u32" refl)
+      (at (num (uint Eight)) "u64" refl) (at (num float32) "f32" refl) (at (num float64) "f64" refl)
+      (λ below m p f. absurd (omega arith))
     where
-      at : (k : Kind) (t : String) → whole (ascii t) ≡ true → {m : Option Str}
-          → m ≡ option_map (set_mask_text k) (set_mask k b explicit)
-          → (p : Parts) → ok (setter_only (ascii "value") (line_alone (set_line k o m)) (ascii t)) ≡ ok p → Sets k o b explicit p
-      at k t w e p f =
-          record {
-            typ = ascii t;
-            one_line = fixed t w;
-            parts =
-                ap (λ (m : Option Str). setter_only (ascii "value") (line_alone (set_line k o m)) (ascii t)) (sym e) ∙ ok-is f;
-          }
+      at : (k : Kind) (t : String) → whole (ascii t) ≡ true → {o' : Out (Option Str)} → {n : ℕ} → n < 14
+          → o' ≡ ok (option_map (set_mask_text k) ms) → (p : Parts)
+          → (o' then λ mask. ok (setter_only (ascii "value") (line_alone (set_line k o mask)) (ascii t))) ≡ ok p
+          → Sets k o ms p
+      at k t w below m p f = record { typ = ascii t; one_line = fixed t w; parts = ok-is (rw m at f) }
 
-      number : (k : Kind) → unless (eqb b 0) (set_mask_text k b) ≡ option_map (set_mask_text k) (cond (eqb b 0) None (Some b))
-      number k = masked (set_mask_text k) b (set_mask_text k b) (eqb b 0) (λ e. refl)
+  enum-sets : (n : ℕ) (the_mod : Str) → Whole the_mod → rule 15 e (value n b) ≡ ok (option_map (set_mask_text types.enum) ms)
+      → (p : Parts) → (rule 15 e (value n b) then λ mask. ok (enum_setter o mask the_mod)) ≡ ok p → Sets types.enum o ms p
+  enum-sets n the_mod w m p f = record { typ = the_mod; one_line = w; parts = ok-is (rw m at f) }
 
-      float : (k : Kind) (sign : ℕ) → unless (float_zero sign b) (set_mask_text k b)
-          ≡ option_map (set_mask_text k) (cond (either (eqb b 0) (eqb b sign)) None (Some b))
-      float k sign = masked (set_mask_text k) b (set_mask_text k b) (float_zero sign b) (λ e. refl)
-
--- an enum's mask: its default's bits where the flag is set
-enum_mask_lem : (s : Slot) → s.explicit < 2 → 15 ≡ s.default.kind
-    → enum_mask s ≡ ok (option_map (set_mask_text types.enum) (set_mask types.enum s.default.bits (is_explicit s)))
-unfolding set_mask_text
-enum_mask_lem s flag h = rw (eq-eqb s.default.kind 15 (sym h)) (go s.explicit flag)
-  where
-    go : (e : ℕ) → e < 2
-        → cond (eqb e 0) (ok None) (ok (Some (decimal s.default.bits)))
-        ≡ ok (option_map (set_mask_text types.enum) (cond (eqb e 1) (Some s.default.bits) None))
-    go zero h = refl
-    go (suc zero) h = refl
-    go (suc (suc e)) h = absurd (omega arith)
-
--- a slot with bits whose default is of its type
-module _ (sheet : Sheet) (clean : Clean sheet) (o e q n b : ℕ) (ws : List ℕ) (k : Kind) (p : Parts) (flag : e < 2) where
-  abbrev slot_of : Ty → Slot
-  slot_of t = record { offset = o; explicit = e; option = q; ty = t; default = value n b; words = ws }
-
-  enum-sets : (t : Ty) (the_mod : Str) → Whole the_mod → 15 ≡ n
-      → (enum_mask (slot_of t) then λ mask. ok (enum_setter o mask the_mod)) ≡ ok p → Sets types.enum o b (eqb e 1) p
-  enum-sets t the_mod w d f =
-      record { typ = the_mod; one_line = w; parts = ok-is (rw (enum_mask_lem (slot_of t) flag d) at f) }
-
-  sets : (t : Ty) → kind_of (kind t) ≡ Some k → kind t ≡ n → setter_parts sheet (slot_of t) t ≡ ok p → Sets k o b (eqb e 1) p
+  sets : Clean sheet → (n : ℕ) (k : Kind) (p : Parts) (t : Ty) → ((m : ℕ) → t ≡ plain m → m < 14)
+      → kind_of (kind t) ≡ Some k → kind t ≡ n
+      → rule (kind t) e (value n b) ≡ ok (option_map (set_mask_text k) ms)
+      → setter_parts rule sheet (slot_of t n) t ≡ ok p → Sets k o ms p
   unfolding kind_of
-  sets (plain m) h d f = prim-sets sheet o e q b ws (eqb e 1) m k h p (rw (← d) at f)
-  sets (enum id ss) h d f =
-      let s = slot_of (enum id ss) in
-      let rest : Str → Out Parts = λ the_mod. enum_mask s then λ mask. ok (enum_setter o mask the_mod) in
+  sets clean n k p (plain m) below h d z f = prim-sets m k h (below m refl) (rw (← d) at z) p (rw (← d) at f)
+  sets clean n k p (enum id ss) below h d z f =
+      let rest : Str → Out Parts = λ the_mod. rule 15 e (value n b) then λ mask. ok (enum_setter o mask the_mod) in
       let a = then_ok (get_qualified_module sheet id) rest p f in
       let w = clean.modules id a.value a.first in
-      let z : types.enum ≡ k = cc in
-      rw (← z) (enum-sets (enum id ss) a.value w d a.rest)
-  sets _ h d f = cc
+      let y : types.enum ≡ k = cc in
+      rw (← y) (enum-sets n a.value w (rw (← y) at z) p a.rest)
+  sets clean n k p _ below h d z f = cc
 
 -- a type of kind 0 is Void
-void-parts : (sheet : Sheet) (s : Slot) (t : Ty) (p : Parts) → kind t ≡ 0 → setter_parts sheet s t ≡ ok p
+void-parts : (rule : MaskRule) (sheet : Sheet) (s : Slot) (t : Ty) (p : Parts) → kind t ≡ 0 → setter_parts rule sheet s t ≡ ok p
     → setter_only (ascii "_value") no_more (ascii "()") ≡ p
-void-parts sheet s (plain n) p h e = ok-is (rw h at e)
-void-parts sheet s _ p h e = absurd (omega arith)
+void-parts rule sheet s (plain n) p h e = ok-is (rw h at e)
+void-parts rule sheet s _ p h e = absurd (omega arith)
 
 -- ---- the text
 
--- a setter's text for a slot of kind k
-pub record GivenSetter (s : Slot) (k : Kind) (tag : Option Tag) (w : Str) : Type 0 where
+-- a setter's text for a slot of kind k, with a mask, if there is one
+pub record GivenSetter (s : Slot) (k : Kind) (ms : Option ℕ) (tag : Option Tag) (w : Str) : Type 0 where
   pub opening : Str
   pub one_line : Whole opening
-  pub text : w ≡ setter_text opening tag k s.offset (option_map (set_mask_text k) (set_mask k s.default.bits (is_explicit s)))
+  pub text : w ≡ setter_text opening tag k s.offset (option_map (set_mask_text k) ms)
 
 -- and for a Void slot
 pub record GivenVoid (tag : Option Tag) (w : Str) : Type 0 where
@@ -155,28 +128,29 @@ function-lines root to d name param typ interior = go (eqb d 65535)
     go true = refl
     go false = refl
 
-module _ (sheet : Sheet) (to : ℕ) (name : Str) (d : ℕ) (s : Slot) (w : Str) where
+module _ (rule : MaskRule) (sheet : Sheet) (to : ℕ) (name : Str) (d : ℕ) (s : Slot) (w : Str) where
   -- where there is a text, the match over the slot's type gave its parts
-  parts-given : setter_request sheet to name d s 0 ≡ ok w
-      → (p : Parts) × (setter_parts sheet s s.ty ≡ ok p) × (stringify (setter_functions sheet.root to
+  parts-given : setter_request rule sheet to name d s 0 ≡ ok w
+      → (p : Parts) × (setter_parts rule sheet s s.ty ≡ ok p) × (stringify (setter_functions sheet.root to
       (camel_to_snake_case name) d p) 0 ≡ w)
   unfolding setter_request generate_setter
   parts-given e =
       let lines : Parts → Out FormattedText = λ p. ok (setter_functions sheet.root to (camel_to_snake_case name) d p) in
-      let all = then_ok (setter_parts sheet s s.ty then lines) (λ ft. ok (stringify ft 0)) w e in
-      let p = then_ok (setter_parts sheet s s.ty) lines all.value all.first in
+      let all = then_ok (setter_parts rule sheet s s.ty then lines) (λ ft. ok (stringify ft 0)) w e in
+      let p = then_ok (setter_parts rule sheet s s.ty) lines all.value all.first in
       (p.value, p.first, ap (λ (ft : FormattedText). stringify ft 0) (ok-is p.rest) ∙ ok-is all.rest)
 
-  -- the text of a setter that is given
-  pub setter-given : Clean sheet → (k : Kind) → Whole name → kind_of (kind s.ty) ≡ Some k → kind s.ty ≡ s.default.kind
-      → s.explicit < 2 → setter_request sheet to name d s 0 ≡ ok w → GivenSetter s k (tag_of to d) w
-  setter-given clean k named h same flag e =
+  -- the text of a setter that is given, with the mask that the rule gives
+  pub setter-given : Clean sheet → ((m : ℕ) → s.ty ≡ plain m → m < 14) → (k : Kind) (ms : Option ℕ) → Whole name
+      → kind_of (kind s.ty) ≡ Some k
+      → kind s.ty ≡ s.default.kind → mask_by rule s ≡ ok (option_map (set_mask_text k) ms)
+      → setter_request rule sheet to name d s 0 ≡ ok w → GivenSetter s k ms (tag_of to d) w
+  setter-given clean below k ms named h same m e =
       let (p, is, text) = parts-given e in
       let x =
-      sets sheet clean s.offset s.explicit s.option s.default.kind s.default.bits s.words k p flag
-      s.ty h same is in
+      sets rule sheet s.offset s.explicit s.option s.default.bits s.words ms clean s.default.kind k p s.ty below h same m is in
       let snake = camel_to_snake_case name in
-      let line : Str = set_line k s.offset (option_map (set_mask_text k) (set_mask k s.default.bits (is_explicit s))) in
+      let line : Str = set_line k s.offset (option_map (set_mask_text k) ms) in
       record {
         opening = opening_of snake (ascii "value") x.typ;
         one_line = whole-opening (whole_camel name named) (fixed "value" refl) x.one_line;
@@ -187,7 +161,7 @@ module _ (sheet : Sheet) (to : ℕ) (name : Str) (d : ℕ) (s : Slot) (w : Str) 
       }
 
   -- and of a Void slot's
-  pub void-given : Whole name → kind s.ty ≡ 0 → setter_request sheet to name d s 0 ≡ ok w → GivenVoid (tag_of to d) w
+  pub void-given : Whole name → kind s.ty ≡ 0 → setter_request rule sheet to name d s 0 ≡ ok w → GivenVoid (tag_of to d) w
   void-given named h e =
       let (p, is, text) = parts-given e in
       let snake = camel_to_snake_case name in
@@ -196,6 +170,7 @@ module _ (sheet : Sheet) (to : ℕ) (name : Str) (d : ℕ) (s : Slot) (w : Str) 
         one_line = whole-opening (whole_camel name named) (fixed "_value" refl) (fixed "()" refl);
         text =
             sym text
-            ∙ ap (λ (p : Parts). stringify (setter_functions sheet.root to snake d p) 0) (sym (void-parts sheet s s.ty p h is))
+            ∙ ap (λ (p : Parts). stringify (setter_functions sheet.root to snake d p) 0)
+            (sym (void-parts rule sheet s s.ty p h is))
             ∙ function-lines sheet.root to d snake (ascii "_value") (ascii "()") no_more;
       }

@@ -6,9 +6,9 @@ use Rattle.std.specs.Prelude.{Option, None, Some}
 use borrow.Author.Tests.{ltb-true, leb-true}
 use Rattle.text.specs.Bytes.{Str, cond}
 use Rattle.text.proofs.BytesLaws.{both_true}
-use Rattle.tree.specs.Tree.{Field, Node, Sheet}
+use Rattle.tree.specs.Tree.{plain, Field, Node, Sheet}
 use Rattle.row.specs.Line.{most_bits}
-use Rattle.tree.specs.WellFormed.{every, field_fits, node_fits, well_formed}
+use Rattle.tree.specs.WellFormed.{every, type_fits, field_fits, node_fits, well_formed}
 use Rattle.printed.proofs.Fields.{slot_tests, field_tests}
 use Rattle.printed.proofs.Nodes.{node_tests}
 use Rattle.printed.proofs.Sheets.{sheet_tests, prints_read}
@@ -75,6 +75,7 @@ pub record Bounds {s : Str} {id place : ℕ} (a : SlotAt s id place) : Type 0 wh
   pub named : Whole a.field.name
   pub discriminant : a.field.discriminant < 2 ^ 16
   pub flag : a.slot.explicit < 2
+  pub below : (n : ℕ) → a.slot.ty ≡ plain n → n < 14
   pub bits : a.slot.default.bits ≤ most_bits a.slot.default.kind
 
 -- the root and the modules of a sheet whose tree is well formed
@@ -91,7 +92,7 @@ clean-sheet sh e =
     }
 
 pub bounds : {s : Str} {id place : ℕ} (a : SlotAt s id place) → Bounds a
-unfolding well_formed
+unfolding well_formed type_fits
 bounds {s} {id} {place} a =
     let sh = a.tree in
     let sl = a.slot in
@@ -104,5 +105,6 @@ bounds {s} {id} {place} a =
       named = whole-name a.field.name (tests 0);
       discriminant = ltb-true a.field.discriminant (2 ^ 16) (tests 1);
       flag = ltb-true sl.explicit 2 (slot 1);
+      below = λ n e. ltb-true n 14 (both_true (ltb 0 16) (ltb n 14) (rw e at (slot 3))).1;
       bits = leb-true sl.default.bits (most_bits sl.default.kind) (both_true (ltb sl.default.kind 19) _ (slot 4)).1;
     }

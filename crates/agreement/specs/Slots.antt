@@ -69,7 +69,7 @@ module _ {s : Str} {id place : ℕ} (a : SlotAt s id place) where
   abbrev pub OwnDefault : Type 0
   OwnDefault = a.slot.default.kind ≡ slot_kind
 
-  -- the bits that its setter masks with, 0 where it has no mask
+  -- the bits that its present setter masks with, 0 where it has no mask
   abbrev pub setter_mask : Kind → ℕ
   setter_mask k = mask_bits (set_mask k a.slot.default.bits (is_explicit a.slot))
 

@@ -37,6 +37,7 @@ use Rattle.calls.specs.Calls.{get_data_field, set_data_field}
 use Rattle.codegen.specs.Default.{prim_default, getter_mask}
 use Rattle.codegen.specs.Getter.{getter_text, getter_request}
 use Rattle.codegen.specs.Haser.{generate_haser, haser_request}
+use Rattle.codegen.specs.Profiles.{present_mask}
 use Rattle.codegen.specs.Setter.{generate_setter, setter_request}
 use Rattle.codegen.specs.Zeroing.{zero_line, contains, zero_fields, zero_fields_of_group, zeroing_request}
 use Rattle.nodes.specs.Index.{by_id, nth}
@@ -220,7 +221,8 @@ unfolding table same keywords.is_one_of is_keyword are_chars taken snake_from ca
     scope_line unbound_line value_line word_line most_a most_b most_c most_count most_bits column_of unpadded digits trimmed
     is_graphic_text is_name is_field_name all is_graphic is_word ends_in leaf_of field_at by_id nth type_text accessor_text
     type_string scopes_of node_of types.scope_of arguments_of accumulate outermost_first angled do_branding to_lines flat_map
-    margin join stringify ended signed get_data_field set_data_field prim_default getter_mask getter_text getter_request
+    margin join stringify ended signed get_data_field set_data_field present_mask prim_default getter_mask getter_text
+    getter_request
     generate_haser haser_request generate_setter setter_request zero_line contains zero_fields zero_fields_of_group
     zeroing_request found stored get_bits put_bits type_name truth get_mask_of set_mask_of data_arg writes gets gets_in run_op
     run_line run_lines run_setter run_getter

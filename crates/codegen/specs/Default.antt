@@ -1,4 +1,4 @@
--- The default of a slot as a mask: `prim_default` for setters, and what `getter_text` writes for getters. Assumes nothing.
+-- The default of a slot as a mask: `prim_default` for present setters, what `getter_text` writes for getters. Assumes nothing.
 use Rattle.std.specs.Prelude.{ℕ, ◌^◌, Bool, true, false, ◌++◌, ◌==◌, nat_le}
 use Rattle.std.specs.Prelude.{Option, None, Some}
 use Rattle.text.specs.Bytes.{Str, ascii, cond, both, either}

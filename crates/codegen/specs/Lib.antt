@@ -1,4 +1,5 @@
 pub mod Default
+pub mod Profiles
 pub mod Mask
 pub mod WordArray
 pub mod Function

@@ -1,17 +1,18 @@
--- `generate_setter` of codegen.rs for a slot: a setter, an initializer, or both. Assumes nothing.
+-- `generate_setter` of codegen.rs for a slot: a setter, an initializer, or both. The rule for its mask is a parameter, so that
+-- both profiles are this one text. Assumes nothing.
 use Rattle.std.specs.Prelude.{ℕ, Bool, true, false, [], ◌++◌, ◌==◌, nat_le}
 use Rattle.std.specs.Prelude.{Option, None, Some}
 use Rattle.text.specs.Bytes.{Str, ascii, cond, either}
 use Rattle.text.specs.Decimal.{decimal}
 use Rattle.text.specs.Lines.{FormattedText, FormattedTexts, Indent, Branch, Line, none, ◌&◌, stringify}
 use Rattle.names.specs.Names.{camel_to_snake_case}
-use Rattle.tree.specs.Tree.{Ty, plain, list, enum, struct, interface, any_pointer, parameter, kind, Value, Slot, Sheet}
-use Rattle.codegen_types.specs.Out.{Out, ok, refused, ◌then◌}
+use Rattle.tree.specs.Tree.{Ty, plain, list, enum, struct, interface, any_pointer, parameter, kind, Slot, Sheet}
+use Rattle.codegen_types.specs.Out.{Out, ok, ◌then◌}
 use Rattle.codegen_types.specs.TypeString.{type_string, get_qualified_module}
 use Rattle.codegen_types.specs.declared.Leaf.TheVariants.{Reader, Builder, Owned, Client}
 use Rattle.codegen_types.specs.declared.Lifetime.TheVariants.{A, Anonymous}
 use Rattle.calls.specs.Calls.{set_bool_field, set_data_field, set_tag}
-use Rattle.codegen.specs.Default.{prim_default}
+use Rattle.codegen.specs.Profiles.{MaskRule}
 use Rattle.codegen.specs.Function.{function}
 
 -- What the match over the slot's type gives: the setter's parameter and its line, the reader type if there is a setter, whether
@@ -74,14 +75,18 @@ init_pointer root offset size =
 abbrev pub setter_input : Str → Str → Str
 setter_input root t = ascii "impl " ++ root ++ ascii "::traits::SetterInput<" ++ t ++ ascii ">"
 
--- a Bool or a number: plain, or masked by prim_default
-abbrev pub prim_parts : Sheet → Slot → Out Parts
-prim_parts sheet s =
+-- a slot's mask by a rule
+abbrev pub mask_by : MaskRule → Slot → Out (Option Str)
+mask_by rule s = rule (kind s.ty) s.explicit s.default
+
+-- a Bool or a number: plain, or masked
+abbrev pub prim_parts : MaskRule → Sheet → Slot → Out Parts
+prim_parts rule sheet s =
     cond (kind s.ty == 1)
-    (prim_default s.default then λ mask.
+    (mask_by rule s then λ mask.
     ok (setter_only (ascii "value") (line_alone (set_bool_field s.offset (ascii "value") mask)) (ascii "bool")))
     (type_string s.ty sheet (Reader A) then λ typ.
-    prim_default s.default then λ mask.
+    mask_by rule s then λ mask.
     ok (setter_only (ascii "value") (line_alone (set_data_field typ s.offset (ascii "value") mask)) typ))
 
 abbrev pub text_parts : Str → ℕ → Parts
@@ -117,23 +122,15 @@ list_parts sheet element t offset =
     (ascii "size: u32") (line_alone (init_pointer sheet.root offset (ascii "size"))) builder_type
     None)
 
--- an enum: masked where the default is explicit, which must then be an Enum
-abbrev pub explicit_mask : ℕ → Value → Out (Option Str)
-explicit_mask explicit v =
-    cond (explicit == 0) (ok None)
-    (cond (v.kind == 15) (ok (Some (decimal v.bits))) (refused 12))
-
-abbrev pub enum_mask : Slot → Out (Option Str)
-enum_mask s = explicit_mask s.explicit s.default
-
+-- an enum: plain, or masked
 abbrev pub enum_setter : ℕ → Option Str → Str → Parts
 enum_setter offset mask the_mod =
     setter_only (ascii "value") (line_alone (set_data_field (ascii "u16") offset (ascii "value as u16") mask)) the_mod
 
-abbrev pub enum_parts : Sheet → ℕ → Slot → Out Parts
-enum_parts sheet id s =
+abbrev pub enum_parts : MaskRule → Sheet → ℕ → Slot → Out Parts
+enum_parts rule sheet id s =
     get_qualified_module sheet id then λ the_mod.
-    enum_mask s then λ mask.
+    mask_by rule s then λ mask.
     ok (enum_setter s.offset mask the_mod)
 
 abbrev pub struct_parts : Sheet → Ty → ℕ → Out Parts
@@ -179,18 +176,18 @@ pointer_parts root offset = record {
   initn = None;
 }
 
-abbrev pub setter_parts : Sheet → Slot → Ty → Out Parts
-setter_parts sheet s (plain k) =
+abbrev pub setter_parts : MaskRule → Sheet → Slot → Ty → Out Parts
+setter_parts rule sheet s (plain k) =
     cond (k == 0) (ok (setter_only (ascii "_value") none (ascii "()")))
     (cond (k == 12) (ok (text_parts sheet.root s.offset))
     (cond (k == 13) (ok (data_parts sheet.root s.offset))
-    (prim_parts sheet s)))
-setter_parts sheet s (list t) = list_parts sheet t s.ty s.offset
-setter_parts sheet s (enum id ss) = enum_parts sheet id s
-setter_parts sheet s (struct id ss) = struct_parts sheet s.ty s.offset
-setter_parts sheet s (interface id ss) = interface_parts sheet s.ty s.offset
-setter_parts sheet s any_pointer = ok (pointer_parts sheet.root s.offset)
-setter_parts sheet s (parameter id k) = parameter_parts sheet s.ty s.offset
+    (prim_parts rule sheet s)))
+setter_parts rule sheet s (list t) = list_parts sheet t s.ty s.offset
+setter_parts rule sheet s (enum id ss) = enum_parts rule sheet id s
+setter_parts rule sheet s (struct id ss) = struct_parts sheet s.ty s.offset
+setter_parts rule sheet s (interface id ss) = interface_parts sheet s.ty s.offset
+setter_parts rule sheet s any_pointer = ok (pointer_parts sheet.root s.offset)
+setter_parts rule sheet s (parameter id k) = parameter_parts sheet s.ty s.offset
 
 -- the tag's line, where the field has a discriminant
 abbrev pub tagged : ℕ → ℕ → FormattedTexts → FormattedTexts
@@ -233,11 +230,11 @@ setter_functions root tag_offset styled_name discriminant p =
     (setter_lines root (tagged tag_offset discriminant) styled_name p p.reader_type
     (initter_lines (tagged tag_offset discriminant) styled_name p p.builder_type)))
 
-unfoldable pub generate_setter : Sheet → ℕ → Str → ℕ → Slot → Out FormattedText
-generate_setter sheet tag_offset styled_name discriminant s =
-    setter_parts sheet s s.ty then λ p. ok (setter_functions sheet.root tag_offset styled_name discriminant p)
+unfoldable pub generate_setter : MaskRule → Sheet → ℕ → Str → ℕ → Slot → Out FormattedText
+generate_setter rule sheet tag_offset styled_name discriminant s =
+    setter_parts rule sheet s s.ty then λ p. ok (setter_functions sheet.root tag_offset styled_name discriminant p)
 
 -- the text of a setter's request at a level
-unfoldable pub setter_request : Sheet → ℕ → Str → ℕ → Slot → ℕ → Out Str
-setter_request sheet tag_offset name discriminant s level =
-    generate_setter sheet tag_offset (camel_to_snake_case name) discriminant s then λ ft. ok (stringify ft level)
+unfoldable pub setter_request : MaskRule → Sheet → ℕ → Str → ℕ → Slot → ℕ → Out Str
+setter_request rule sheet tag_offset name discriminant s level =
+    generate_setter rule sheet tag_offset (camel_to_snake_case name) discriminant s then λ ft. ok (stringify ft level)

@@ -3,12 +3,12 @@
 
 ghost use Rattle.std.specs.Prelude.{◌≡◌};
 ghost use Rattle.terms.specs.Kinds.{number_of};
-ghost use Rattle.text.specs.Bytes.{ascii};
 ghost use Rattle.text.specs.Text.{Wrote, WroteLines};
-ghost use Rattle.calls.specs.Calls.{get_data_field, set_bool_field, set_data_field, zero_data};
+ghost use Rattle.calls.specs.Calls.{get_data_field, zero_data};
 ghost use Rattle.calls.specs.Mask.{argument_text, mask_text};
 ghost use Rattle.codegen.specs.Default.{value, unless, float_zero, prim_default, getter_mask};
-ghost use Rattle.codegen.specs.Mask.{mask_or, masked};
+ghost use Rattle.codegen.specs.Mask.{masked, mask_of};
+ghost use Rattle.codegen.specs.Profiles.{explicit_mask, present_mask, with_ending, paired_mask, rule_of};
 ghost use Rattle.codegen.specs.Haser.{haser_of};
 ghost use Rattle.codegen.specs.TagLine.{tag_test_line};
 ghost use Rattle.codegen_types.specs.Primitive.{primitive_text};
@@ -22,8 +22,15 @@ use text::Text;
 // The discriminant of a field in no union: capnpc's `field::NO_DISCRIMINANT`.
 pub const NO_DISCRIMINANT: u64 = 65535;
 
+// By which rule the mask of a setter is taken: capnpc's own, or that of the slot's getter, which is request N9 of document 02.
+#[derive(Clone, Copy)]
+pub enum Profile {
+    Present,
+    Paired,
+}
+
 // The mask of a getter: the default's bits, looked at as a number, which is signed for Int8 to Int64. The kind and the bits are
-// no pair: a getter asks with its type's kind, a setter with its default's.
+// no pair: a getter asks with its type's kind, the present setter with its default's.
 pub fn getter_mask(kind: Kind, bits: u64) -> Option<Mask>
     ensures { mask_text result ≡ getter_mask (value (number_of kind) bits) }
 {
@@ -53,7 +60,7 @@ fn is_float_zero(sign: u64, bits: u64) -> bool
     bits == 0 || bits == sign
 }
 
-// The mask of a setter of a float, if the default is not 0.0 or -0.0.
+// The present mask of a float's setter, if the default is not 0.0 or -0.0.
 fn float_mask(sign: u64, bits: u64, mask: Mask) -> Option<Mask>
     ensures { mask_text result ≡ unless (float_zero sign bits) (argument_text mask) }
 {
@@ -63,8 +70,8 @@ fn float_mask(sign: u64, bits: u64, mask: Mask) -> Option<Mask>
     Some(mask)
 }
 
-// The mask of a setter of a Bool or a number; the refusal of a default that is no primitive.
-pub fn prim_default(kind: Kind, bits: u64) -> Result<Option<Mask>, Refusal>
+// The present mask of a Bool's or a number's setter; the refusal of a default that is no primitive.
+fn prim_default(kind: Kind, bits: u64) -> Result<Option<Mask>, Refusal>
     ensures { masked result ≡ prim_default (value (number_of kind) bits) }
 {
     match kind {
@@ -76,11 +83,60 @@ pub fn prim_default(kind: Kind, bits: u64) -> Result<Option<Mask>, Refusal>
     }
 }
 
-// The same mask, and none where the default is refused.
-fn setter_mask(default: Kind, bits: u64) -> Option<Mask>
-    ensures { mask_text result ≡ mask_or (prim_default (value (number_of default) bits)) }
+// The present mask of an enum's setter: its default, where that is explicit, which must then be an Enum.
+fn explicit_mask(slot: Slot) -> Result<Option<Mask>, Refusal>
+    ensures { masked result ≡ explicit_mask slot.explicit (value (number_of slot.default) slot.bits) }
 {
-    prim_default(default, bits).unwrap_or(None)
+    if slot.explicit == 0 {
+        return Ok(None);
+    }
+    match slot.default {
+        Kind::Enum => Ok(Some(Mask::Plain(slot.bits))),
+        _ => Err(Refusal::EnumDefault),
+    }
+}
+
+// The mask of a slot's present setter: an enum's by its flag.
+fn present_mask(slot: Slot) -> Result<Option<Mask>, Refusal>
+    ensures { masked result ≡ mask_of present_mask slot }
+{
+    match slot.kind {
+        Kind::Enum => explicit_mask(slot),
+        _ => prim_default(slot.default, slot.bits),
+    }
+}
+
+// A getter's mask as a setter writes it: a float's bits have their ending.
+fn ended_mask(kind: Kind, bits: u64) -> Option<Mask>
+    ensures { mask_text result ≡ with_ending (number_of kind) (getter_mask (value (number_of kind) bits)) }
+{
+    let mask = getter_mask(kind, bits)?;
+    Some(match kind {
+        Kind::Float32 => Mask::U32(bits),
+        Kind::Float64 => Mask::U64(bits),
+        _ => mask,
+    })
+}
+
+// The mask of a slot's paired setter: its getter's. A default that is not of the slot's type has the present one.
+#[tactic(auto, unfolding(crate::specs::Profiles::paired_mask))]
+fn paired_mask(slot: Slot) -> Result<Option<Mask>, Refusal>
+    ensures { masked result ≡ mask_of paired_mask slot }
+{
+    if slot.kind == slot.default {
+        return Ok(ended_mask(slot.kind, slot.bits));
+    }
+    present_mask(slot)
+}
+
+// The mask of a slot's setter by a profile, or its default's refusal.
+pub fn setter_mask(slot: Slot, profile: Profile) -> Result<Option<Mask>, Refusal>
+    ensures { masked result ≡ mask_of (rule_of profile) slot }
+{
+    match profile {
+        Profile::Present => present_mask(slot),
+        Profile::Paired => paired_mask(slot),
+    }
 }
 
 // The get of a number, masked by its default.
@@ -99,33 +155,6 @@ pub fn get_number(
     let typ = codegen_types::primitive(kind);
     let mask = getter_mask(kind, bits);
     calls::get_data_field(typ, offset, mask, is_reader, t, buf)
-}
-
-// The set of a Bool, masked by the default of any primitive kind.
-pub fn set_bool(offset: u64, default: Kind, bits: u64, t: Text, buf: &mut [u8]) -> Text
-    ensures { Wrote buf.old t
-        (set_bool_field offset (ascii "value") (mask_or (prim_default (value (number_of default) bits)))) buf.new result }
-{
-    let mask = setter_mask(default, bits);
-    calls::set_bool_field(offset, b"value", mask, t, buf)
-}
-
-// The set of a number, masked by the default of any primitive kind.
-pub fn set_number(
-    kind: Kind,
-    offset: u64,
-    default: Kind,
-    bits: u64,
-    t: Text,
-    buf: &mut [u8],
-) -> Text
-    ensures { Wrote buf.old t
-        (set_data_field (primitive_text (number_of kind)) offset (ascii "value")
-        (mask_or (prim_default (value (number_of default) bits)))) buf.new result }
-{
-    let typ = codegen_types::primitive(kind);
-    let mask = setter_mask(default, bits);
-    calls::set_data_field(typ, offset, b"value", mask, t, buf)
 }
 
 // The line that zeroes a number.

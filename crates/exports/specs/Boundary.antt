@@ -28,9 +28,12 @@ use Rattle.field.specs.declared.Field.{Field}
 use Rattle.field.specs.declared.Field.TheVariants as field
 use Rattle.requests.specs.Requests.{of_field, Outcome, outcome_of, entry_answer, entry_buffer}
 use Rattle.requests.specs.Told.{text_in}
+use Rattle.verdict.specs.Verdict.{verdict_in}
+use Rattle.verdict.specs.declared.Verdict.{Verdict}
+use Rattle.verdict.specs.declared.Verdict.TheVariants.{Agree, SignFlipped, CombinedWithDefault, NotBothGenerated}
 use Rattle.requests.specs.declared.Request.{Request}
 use Rattle.requests.specs.declared.Accessor.{Accessor}
-use Rattle.requests.specs.declared.Accessor.TheVariants.{TypeText, Getter, Setter, Haser, Zeroing}
+use Rattle.requests.specs.declared.Accessor.TheVariants.{TypeText, Getter, Setter, PairedSetter, Haser, Zeroing}
 
 -- where it is taken, the text s is written at a fill count into l, which leaves l' and the fill count r, which stops at
 -- 2 ^ 64 - 2; else nothing is written, and the answer is 2 ^ 64 - 1, which is no fill count
@@ -107,7 +110,7 @@ abbrev pub accessors : ℕ → List Accessor
 accessors leaf =
     TypeText (leaf_of leaf)
     ∷ Getter true false ∷ Getter false false ∷ Getter true true ∷ Getter false true
-    ∷ Setter ∷ Haser true ∷ Haser false ∷ Zeroing ∷ []
+    ∷ Setter ∷ Haser true ∷ Haser false ∷ Zeroing ∷ PairedSetter ∷ []
 
 -- no other number is a text's
 unfoldable pub accessor_numbered : ℕ → ℕ → Option Accessor
@@ -175,6 +178,25 @@ TextTold s index node numbers accessor level l l' number size =
     ForAll (line.text_at (rows s)) s index
     (λ sh. (o : Option tree.Field) → FindsField s (field_in numbers) o
     → PassTold (text_in sh node o accessor level) l l' number size)
+
+-- a verdict by its number
+abbrev pub verdict_number : Verdict → ℕ
+verdict_number Agree = 0
+verdict_number SignFlipped = 1
+verdict_number CombinedWithDefault = 2
+verdict_number NotBothGenerated = 3
+
+-- the answer to a question of a verdict: 0 and the verdict's number, or the refusal's number and 0
+abbrev pub verdict_numbers : Out Verdict → ℕ × ℕ
+verdict_numbers (ok v) = (0, verdict_number v)
+verdict_numbers (refusal.refused k) = (k, 0)
+
+-- the verdict of the field with these numbers, in the node with a number
+abbrev pub VerdictNumbered : Str → List ℕ → ℕ → List ℕ → ℕ → ℕ → Type 0
+VerdictNumbered s index node numbers number verdict =
+    ForAll (line.text_at (rows s)) s index
+    (λ sh. (o : Option tree.Field) → FindsField s (field_in numbers) o
+    → (number, verdict) ≡ verdict_numbers (verdict_in sh node o))
 
 -- a span is told by its place and its length
 abbrev pub SpanTold : Span → ℕ → ℕ → Type 0

@@ -7,6 +7,7 @@
 
 mod index;
 mod pad;
+mod verdicts;
 
 ghost use Rattle.tree.specs.Read.{admitted};
 ghost use Rattle.names.specs.Names.{camel_to_snake_case, default_name, module_name};
@@ -26,6 +27,7 @@ pub use pad::kitlubas_pad;
 use requests::{Accessor, Request};
 use sheet::Refused;
 use text::Text;
+pub use verdicts::kitlubas_verdict;
 
 // The largest fill count that is answered: one below the answer for what is not taken.
 const LARGEST: usize = 0xffff_ffff_ffff_fffe;
@@ -154,7 +156,7 @@ fn say(answer: Result<Text, Refused>, fill: &mut usize, line: &mut usize, column
 
 // The text of a field with a number, as C holds it: 0 is its type's text for the leaf with a number, 1 and 2 are the getters of
 // reader and builder, 3 and 4 the same as functions, 5 is the setter, 6 and 7 are the hasers of reader and builder, 8 is the
-// zeroing.
+// zeroing, 9 is the paired setter.
 #[tactic(auto, unfolding(crate::specs::Boundary::accessor_numbered, nodes::specs::Index::nth))]
 fn accessor_of(number: u64, leaf: u64) -> Option<Accessor>
     ensures { result ≡ accessor_numbered number leaf }
@@ -183,6 +185,7 @@ fn accessor_of(number: u64, leaf: u64) -> Option<Accessor>
         6 => Some(Accessor::Haser { is_reader: true }),
         7 => Some(Accessor::Haser { is_reader: false }),
         8 => Some(Accessor::Zeroing),
+        9 => Some(Accessor::PairedSetter),
         _ => None,
     }
 }

@@ -8,6 +8,7 @@ ghost use Rattle.text.specs.Decimal.{decimal};
 ghost use Rattle.text.specs.Lines.{Line, BlankLine, Branch, none, to_lines, stringify, ended};
 ghost use Rattle.exports.specs.Boundary.{Fills, FillsName, Signed, Told, Asked, ask, accessor_numbered, request_of};
 ghost use Rattle.exports.specs.Boundary.{OverIndex, AskedWithin, TextTold, NodeTold, EntryTold, FirstTold, FirstPut, ValueRead};
+ghost use Rattle.exports.specs.Boundary.{VerdictNumbered};
 ghost use Rattle.std.specs.Prelude.{◌≡◌, ◌-◌, ◌+◌, ◌≤◌, length};
 ghost use Rattle.nodes.specs.Index.{index_size, entry_with};
 ghost use Rattle.sheet.specs.Admission.{IndexOf};
@@ -158,6 +159,19 @@ pub extern "C" fn kitlubas_text(
     ensures within { result ≡ 0 → size.new ≤ length buf.old }
 {
     exports::kitlubas_text(s, index, node, field, request, leaf, level, size, buf)
+}
+
+#[unsafe(no_mangle)]
+pub extern "C" fn kitlubas_verdict(
+    s: &[u8],
+    index: &[u64],
+    node: usize,
+    field: &[u64],
+    verdict: &mut u64,
+) -> u64
+    ensures { VerdictNumbered s.now index.now node field.now result verdict.new }
+{
+    exports::kitlubas_verdict(s, index, node, field, verdict)
 }
 
 #[unsafe(no_mangle)]

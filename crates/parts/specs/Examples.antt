@@ -21,6 +21,7 @@ use Rattle.calls.specs.Calls.{get_bool_field, set_bool_field}
 use Rattle.codegen.specs.Default.{prim_default, getter_mask}
 use Rattle.codegen.specs.Getter.{getter_text, getter_request}
 use Rattle.codegen.specs.Haser.{generate_haser, haser_request}
+use Rattle.codegen.specs.Profiles.{present_mask}
 use Rattle.codegen.specs.Setter.{generate_setter, setter_request}
 use Rattle.requests.specs.Requests.{accessor_text}
 use Rattle.parts.specs.Program.{header_text, refused_text, part_text, printed_part, field_text, each_text, node_text}
@@ -52,7 +53,7 @@ pub example : program_text (admitted is_free) ≡ ended (lines_of (
     ∷ ""
     ∷ []))
 unfolding program_text node_text field_text each_text printed_part part_text refused_text header_text accessor_text
-    setter_request generate_setter haser_request generate_haser getter_request getter_text getter_mask prim_default
+    setter_request generate_setter haser_request generate_haser getter_request getter_text getter_mask present_mask prim_default
     set_bool_field get_bool_field type_string type_from read_type value_of read_words read_slot among overlap read_field
     fields_up_to read_fields group_ids read_params read_members read_node read_nodes read_sheet admitted row_text columns
     text_at text_of text_start line_at line_of reader most_bits most_c most_b most_a value_line type_line field_line node_line

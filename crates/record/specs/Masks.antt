@@ -19,7 +19,8 @@ unless_zero d = cond (eqb d 0) None (Some d)
 abbrev pub get_mask : Kind → ℕ → Bool → Option ℕ
 get_mask k d explicit = unless_zero d
 
--- the setter's rule: prim_default, for which -0.0 is zero too; an enum's default counts where it is explicit (generate_setter)
+-- the present setter's rule: prim_default, for which -0.0 is zero too; an enum's default counts where it is explicit
+-- (generate_setter)
 abbrev pub set_mask : Kind → ℕ → Bool → Option ℕ
 set_mask bool d explicit = unless_zero d
 set_mask (num (int w)) d explicit = unless_zero d
@@ -37,7 +38,7 @@ get_mask_text (num float32) m = decimal m
 get_mask_text (num float64) m = decimal m
 get_mask_text enum m = decimal m
 
--- how a setter writes it (prim_default): the same, but that a float's bits have an ending
+-- how a setter writes it, by either rule: the same, but that a float's bits have an ending
 unfoldable pub set_mask_text : Kind → ℕ → Str
 set_mask_text bool m = cond (eqb m 0) (ascii "false") (ascii "true")
 set_mask_text (num (int w)) m = signed (half_of w) m

@@ -48,7 +48,7 @@ slot_bits (num t) = bits_of t
 slot_bits enum = 16
 
 -- the kinds by document 01's numbers, 0 to 15: Void and the pointer kinds have no bits, nor have 16 to 18, past the list
-abbrev kinds : List (Option Kind)
+abbrev pub kinds : List (Option Kind)
 kinds =
     None ∷ Some bool
     ∷ Some (num (int One)) ∷ Some (num (int Two)) ∷ Some (num (int Four)) ∷ Some (num (int Eight))

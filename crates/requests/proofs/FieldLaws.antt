@@ -41,7 +41,7 @@ use Rattle.requests.specs.Requests.{there, field_at, type_text, slot_named, slot
 use Rattle.requests.specs.Told.{Answered, StateAllowed, unplaced}
 use Rattle.requests.proofs.AnswerLaws.{own-refusal}
 use Rattle.requests.specs.declared.Accessor.{Accessor}
-use Rattle.requests.specs.declared.Accessor.TheVariants.{TypeText, Getter, Setter, Haser, Zeroing}
+use Rattle.requests.specs.declared.Accessor.TheVariants.{TypeText, Getter, Setter, PairedSetter, Haser, Zeroing}
 use Rattle.requests.specs.Parts.{may_have_scopes, Locates}
 use Rattle.requests.specs.declared.Located.{Located}
 
@@ -205,6 +205,7 @@ unfolding accessor_text
 group-alone s sheet at r (TypeText leaf) level n h w = group-no-type s at.1 sheet r leaf level h w
 group-alone s sheet at r (Getter b f) level n h w = group-no_accessor s at.1 r _ h w
 group-alone s sheet at r Setter level n h w = group-no_accessor s at.1 r _ h w
+group-alone s sheet at r PairedSetter level n h w = group-no_accessor s at.1 r _ h w
 group-alone s sheet at r (Haser b) level n h w = group-no_accessor s at.1 r _ h w
 group-alone s sheet at r Zeroing level n h w = absurd (n refl)
 

@@ -15,13 +15,15 @@ use Rattle.codegen_types.specs.Out.{Out, ok, refused, ◌then◌}
 use Rattle.codegen_types.specs.TypeString.{type_string}
 use Rattle.codegen_types.specs.declared.Leaf.{Leaf}
 use Rattle.codegen.specs.Getter.{Getter as Made, declared, getter_text, getter_request}
+use Rattle.codegen.specs.Profiles.{MaskRule, present_mask, paired_mask}
 use Rattle.codegen.specs.Setter.{generate_setter, setter_request}
 use Rattle.codegen.specs.Haser.{generate_haser, haser_request}
 use Rattle.codegen.specs.Zeroing.{zero_fields_of_group, zeroing_request}
-use Rattle.requests.specs.Requests.{there, type_text, slot_field, group_of, accessor_text}
-use Rattle.requests.specs.Levels.{declared_laid, getter_laid, tree_laid, Shape, lined, type_shape}
+use Rattle.field.specs.Slot.{SlotField}
+use Rattle.requests.specs.Requests.{there, type_text, slot_field, slot_setter, group_of, accessor_text}
+use Rattle.requests.specs.Levels.{declared_laid, getter_laid, tree_laid, Shape, lined, type_shape, setter_shape}
 use Rattle.requests.specs.Levels.{type_line, shown_all, shown_at, LevelsHold}
-use Rattle.requests.specs.declared.Accessor.TheVariants.{TypeText, Getter, Setter, Haser, Zeroing}
+use Rattle.requests.specs.declared.Accessor.TheVariants.{TypeText, Getter, Setter, PairedSetter, Haser, Zeroing}
 
 -- the text at every level is that of the same lines
 abbrev pub OfLines : (ℕ → Out Str) → Out (List (List Laid)) → Type 0
@@ -71,12 +73,12 @@ unfolding getter_request
 getter-levels sheet name s is_reader is_fn =
     of_lines getter_made getter_laid getter-shown (getter_text sheet name s is_reader is_fn)
 
-pub setter-levels : (sheet : Sheet) (tag : ℕ) (name : Str) (d : ℕ) (s : Slot)
-    → OfLines (setter_request sheet tag name d s)
-    (generate_setter sheet tag (camel_to_snake_case name) d s then λ ft. ok (tree_laid ft))
+pub setter-levels : (rule : MaskRule) (sheet : Sheet) (tag : ℕ) (name : Str) (d : ℕ) (s : Slot)
+    → OfLines (setter_request rule sheet tag name d s)
+    (generate_setter rule sheet tag (camel_to_snake_case name) d s then λ ft. ok (tree_laid ft))
 unfolding setter_request
-setter-levels sheet tag name d s =
-    of_lines stringify tree_laid tree-shown (generate_setter sheet tag (camel_to_snake_case name) d s)
+setter-levels rule sheet tag name d s =
+    of_lines stringify tree_laid tree-shown (generate_setter rule sheet tag (camel_to_snake_case name) d s)
 
 pub haser-levels : (tag : ℕ) (name : Str) (d : ℕ) (s : Slot) (is_reader : Bool)
     → OfLines (λ level. ok (haser_request tag name d s is_reader level))
@@ -111,17 +113,25 @@ behind : {A : Type 0} (o : Out A) (f : A → Out Str) (g : A → Out Shape) (lev
 behind (ok a) f g level e = e a
 behind (refused k) f g level e = refl
 
+-- a setter by either rule
+setter-shaped : (rule : MaskRule) (sheet : Sheet) (tag level : ℕ) (f : SlotField)
+    → slot_setter rule sheet tag level f ≡ (setter_shape rule sheet tag f then λ x. ok (shown_at level x))
+unfolding setter_request
+setter-shaped rule sheet tag level f =
+    of_shape stringify tree_laid tree-shown
+    (generate_setter rule sheet tag (camel_to_snake_case f.name) f.discriminant f.slot) level
+
 -- EVERYTHING THAT IS ASKED, AT EVERY LEVEL
 pub levels-hold : LevelsHold
-unfolding accessor_text getter_request setter_request haser_request zeroing_request
+unfolding accessor_text getter_request haser_request zeroing_request
 levels-hold sheet at (TypeText leaf) level = type-levels sheet at.1.arm leaf level
 levels-hold sheet at (Getter is_reader is_fn) level =
     behind (slot_field at.1) _ _ level
     (λ f. of_shape getter_made getter_laid getter-shown (getter_text sheet f.name f.slot is_reader is_fn) level)
 levels-hold sheet at Setter level =
-    behind (slot_field at.1) _ _ level
-    (λ f. of_shape stringify tree_laid tree-shown
-    (generate_setter sheet at.0.tag_offset (camel_to_snake_case f.name) f.discriminant f.slot) level)
+    behind (slot_field at.1) _ _ level (setter-shaped present_mask sheet at.0.tag_offset level)
+levels-hold sheet at PairedSetter level =
+    behind (slot_field at.1) _ _ level (setter-shaped paired_mask sheet at.0.tag_offset level)
 levels-hold sheet at (Haser is_reader) level =
     behind (slot_field at.1) _ _ level
     (λ f. ap ok (tree-shown (generate_haser at.0.tag_offset (camel_to_snake_case f.name) f.discriminant (kind f.slot.ty)

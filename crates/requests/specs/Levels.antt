@@ -9,12 +9,14 @@ use Rattle.codegen_types.specs.Out.{Out, ok, refused, ◌then◌}
 use Rattle.codegen_types.specs.TypeString.{type_string}
 use Rattle.codegen_types.specs.declared.Leaf.{Leaf}
 use Rattle.codegen.specs.Getter.{Getter as Made, getter_text}
+use Rattle.codegen.specs.Profiles.{MaskRule, present_mask, paired_mask}
 use Rattle.codegen.specs.Setter.{generate_setter}
 use Rattle.codegen.specs.Haser.{generate_haser}
 use Rattle.codegen.specs.Zeroing.{zero_fields_of_group}
+use Rattle.field.specs.Slot.{SlotField}
 use Rattle.requests.specs.Requests.{there, slot_field, group_of, accessor_text}
 use Rattle.requests.specs.declared.Accessor.{Accessor}
-use Rattle.requests.specs.declared.Accessor.TheVariants.{TypeText, Getter, Setter, Haser, Zeroing}
+use Rattle.requests.specs.declared.Accessor.TheVariants.{TypeText, Getter, Setter, PairedSetter, Haser, Zeroing}
 
 -- ---- the lines of each text as they stand at level 0, by what the Rust's functions give
 
@@ -38,13 +40,16 @@ abbrev pub type_shape : Sheet → Arm → Option Leaf → Out Shape
 type_shape sheet (slot s) leaf = there leaf then type_string s.ty sheet then λ typ. ok (type_line typ)
 type_shape sheet (group id) leaf = refused 15
 
+abbrev pub setter_shape : MaskRule → Sheet → ℕ → SlotField → Out Shape
+setter_shape rule sheet tag f =
+    generate_setter rule sheet tag (camel_to_snake_case f.name) f.discriminant f.slot then λ ft. ok (lined (tree_laid ft))
+
 abbrev pub accessor_shape : Sheet → Node × Field → Accessor → Out Shape
 accessor_shape sheet at (TypeText leaf) = type_shape sheet at.1.arm leaf
 accessor_shape sheet at (Getter is_reader is_fn) =
     slot_field at.1 then λ f. getter_text sheet f.name f.slot is_reader is_fn then λ g. ok (lined (getter_laid g))
-accessor_shape sheet at Setter =
-    slot_field at.1 then λ f.
-    generate_setter sheet at.0.tag_offset (camel_to_snake_case f.name) f.discriminant f.slot then λ ft. ok (lined (tree_laid ft))
+accessor_shape sheet at Setter = slot_field at.1 then setter_shape present_mask sheet at.0.tag_offset
+accessor_shape sheet at PairedSetter = slot_field at.1 then setter_shape paired_mask sheet at.0.tag_offset
 accessor_shape sheet at (Haser is_reader) =
     slot_field at.1 then λ f.
     ok (lined (tree_laid (generate_haser at.0.tag_offset (camel_to_snake_case f.name) f.discriminant (kind f.slot.ty)

@@ -1,5 +1,5 @@
--- What can be requested and what it comes to: document 01, 'What can be requested' and the order of refusals; N14 of document 02,
--- the level of indentation. Assumes nothing.
+-- What can be requested and what it comes to: document 01, 'What can be requested' and the order of refusals; of document 02 N9,
+-- the paired setter, and N14, the level of indentation. Assumes nothing.
 use Rattle.std.specs.Prelude.{Bool, List, ℕ, ◌++◌, ltb, length}
 use Rattle.std.specs.Prelude.{Option, None, Some}
 use Rattle.text.specs.Bytes.{Str, cond}
@@ -13,12 +13,13 @@ use Rattle.codegen_types.specs.TypeString.{type_string}
 use Rattle.codegen_types.specs.declared.Leaf.{Leaf}
 use Rattle.field.specs.Slot.{SlotField}
 use Rattle.codegen.specs.Getter.{getter_request}
+use Rattle.codegen.specs.Profiles.{MaskRule, present_mask, paired_mask}
 use Rattle.codegen.specs.Setter.{setter_request}
 use Rattle.codegen.specs.Haser.{haser_request}
 use Rattle.codegen.specs.Zeroing.{zeroing_request}
 use Rattle.nodes.specs.Index.{by_id, nth}
 use Rattle.requests.specs.declared.Accessor.{Accessor}
-use Rattle.requests.specs.declared.Accessor.TheVariants.{TypeText, Getter, Setter, Haser, Zeroing}
+use Rattle.requests.specs.declared.Accessor.TheVariants.{TypeText, Getter, Setter, PairedSetter, Haser, Zeroing}
 use Rattle.requests.specs.declared.Request.{Request}
 use Rattle.requests.specs.declared.Request.TheVariants as request
 
@@ -52,8 +53,9 @@ group_of (group id) = ok id
 abbrev pub slot_getter : Sheet → Bool → Bool → ℕ → SlotField → Out Str
 slot_getter sheet is_reader is_fn level f = getter_request sheet f.name f.slot is_reader is_fn level
 
-abbrev pub slot_setter : Sheet → ℕ → ℕ → SlotField → Out Str
-slot_setter sheet tag level f = setter_request sheet tag f.name f.discriminant f.slot level
+-- a setter, with the mask that a rule gives
+abbrev pub slot_setter : MaskRule → Sheet → ℕ → ℕ → SlotField → Out Str
+slot_setter rule sheet tag level f = setter_request rule sheet tag f.name f.discriminant f.slot level
 
 abbrev pub slot_haser : ℕ → Bool → ℕ → SlotField → Out Str
 slot_haser tag is_reader level f = ok (haser_request tag f.name f.discriminant f.slot is_reader level)
@@ -62,7 +64,8 @@ slot_haser tag is_reader level f = ok (haser_request tag f.name f.discriminant f
 unfoldable pub accessor_text : Sheet → Node × Field → Accessor → ℕ → Out Str
 accessor_text sheet at (TypeText leaf) level = type_text sheet at.1.arm leaf level
 accessor_text sheet at (Getter is_reader is_fn) level = slot_field at.1 then slot_getter sheet is_reader is_fn level
-accessor_text sheet at Setter level = slot_field at.1 then slot_setter sheet at.0.tag_offset level
+accessor_text sheet at Setter level = slot_field at.1 then slot_setter present_mask sheet at.0.tag_offset level
+accessor_text sheet at PairedSetter level = slot_field at.1 then slot_setter paired_mask sheet at.0.tag_offset level
 accessor_text sheet at (Haser is_reader) level = slot_field at.1 then slot_haser at.0.tag_offset is_reader level
 accessor_text sheet at Zeroing level = group_of at.1.arm then λ id. zeroing_request sheet id level
 

@@ -16,6 +16,7 @@ ghost use Rattle.requests.specs.Told.{StateAllowed, TextPassed, unplaced};
 ghost use Rattle.requests.specs.Levels.{LevelsHold};
 ghost use Rattle.requests.specs.declared.Accessor.TheVariants.{TypeText};
 
+use codegen::Profile;
 use codegen_types::Leaf;
 use field::{Field, Group, Slot};
 use nodes::Source;
@@ -33,13 +34,15 @@ const SHORT_SHEET: usize = 3072;
 
 const SHORT_INDEX: usize = 289;
 
-// A text of a field: of a slot its type's text for a leaf, its getters, its setter and its hasers; of a group its zeroing. The
-// leaf is missing where it was asked for by a number that names none: this is 15, but only after 21 and the sheet's own refusal.
+// A text of a field: of a slot its type's text for a leaf, its getters, its setter, the setter that is paired with its getters,
+// and its hasers; of a group its zeroing. The leaf is missing where it was asked for by a number that names none: this is 15, but
+// only after 21 and the sheet's own refusal.
 #[derive(Clone, Copy)]
 pub enum Accessor {
     TypeText { leaf: Option<Leaf> },
     Getter { is_reader: bool, is_fn: bool },
     Setter,
+    PairedSetter,
     Haser { is_reader: bool },
     Zeroing,
 }
@@ -118,7 +121,8 @@ fn slot_accessor(
         Accessor::Getter { is_reader, is_fn } => {
             getter::getter(source, slot, is_reader, is_fn, t, buf)
         }
-        Accessor::Setter => setter::setter(source, slot, tag, t, buf),
+        Accessor::Setter => setter::setter(source, slot, tag, Profile::Present, t, buf),
+        Accessor::PairedSetter => setter::setter(source, slot, tag, Profile::Paired, t, buf),
         Accessor::Haser { is_reader } => {
             let name = slot.name(source.bytes);
             Ok(codegen::haser(name, slot, tag, is_reader, t, buf))
@@ -180,7 +184,7 @@ pub fn may_have_scopes(field: Field) -> bool
 }
 
 // The refusal of an accessor of a field that was read, or the length of its text at a level: it is written over an empty buffer.
-fn measure(
+pub fn measure(
     source: &Source<'_>,
     located: &Located,
     accessor: Accessor,

@@ -41,11 +41,12 @@ use Rattle.setter_code.specs.Parts.{set_open, init_open, initn_open}
 use Rattle.field.specs.Slot.{SlotIs, SlotField, SlotHere}
 use Rattle.field.specs.declared.Slot.{Slot}
 use Rattle.calls.specs.Calls.{set_bool_field, set_data_field}
-use Rattle.codegen.specs.Default.{value, prim_default}
-use Rattle.codegen.specs.Mask.{mask_or}
+use Rattle.codegen.specs.Default.{value}
+use Rattle.codegen.specs.Mask.{mask_of}
+use Rattle.codegen.specs.Profiles.{MaskRule}
 use Rattle.codegen.specs.Setter.{Parts, setter_functions, setter_only, line_alone, init_pointer, new_pointer, reborrowed}
 use Rattle.codegen.specs.Setter.{setter_parts, prim_parts, text_parts, data_parts, pointer_parts, list_reader_type, setter_input}
-use Rattle.codegen.specs.Setter.{explicit_mask, generate_setter, setter_request}
+use Rattle.codegen.specs.Setter.{generate_setter, setter_request}
 use Rattle.codegen.proofs.AroundLaws as around
 use Rattle.setter.specs.Typed.{input_type, set_end, init_end, setter_text_of}
 use Rattle.setter.proofs.TypeLaws.{ElementIs, of_list, element_at}
@@ -78,13 +79,13 @@ module _ (bytes : Str) (r : Slot) (f : SlotField) (here : SlotHere bytes r f) wh
   pub typed : (P : Ty → Type 0) → On (read_type 16 (rows (drop r.typ bytes))) P → P f.slot.ty
   typed P x = on-has P (read_type 16 (rows (drop r.typ bytes))) f.slot.ty x here.typ
 
-  -- a setter that begins in the state t
-  module _ (sheet : Sheet) (tag : ℕ) (name : Str) (t : Text) where
+  -- a setter that begins in the state t, with the mask that a rule gives
+  module _ (rule : MaskRule) (sheet : Sheet) (tag : ℕ) (name : Str) (t : Text) where
     abbrev is : SlotIs r f.slot
     is = here.slot
 
     abbrev text : Out Str
-    text = setter_text_of sheet tag name r.discriminant f.slot t.level
+    text = setter_text_of rule sheet tag name r.discriminant f.slot t.level
 
     abbrev from : Out Parts → Out Str
     from o = made sheet.root tag name r.discriminant o t.level
@@ -100,7 +101,7 @@ module _ (bytes : Str) (r : Slot) (f : SlotField) (here : SlotHere bytes r f) wh
         → text ≡ from (typ (Reader Anonymous) then λ a. typ (Builder A) then λ b. ok (both false (ascii "0") a b))
     unfolding generate_setter
     struct-is k =
-        at-struct (λ ty. from (setter_parts sheet f.slot ty)
+        at-struct (λ ty. from (setter_parts rule sheet f.slot ty)
         ≡ from (typ (Reader Anonymous) then λ a. typ (Builder A) then λ b. ok (both false (ascii "0") a b)))
         f.slot.ty r.id is.id (is.kind ∙ k) (λ j ss. rw is.offset refl)
 
@@ -110,7 +111,7 @@ module _ (bytes : Str) (r : Slot) (f : SlotField) (here : SlotHere bytes r f) wh
     unfolding generate_setter
     list-is k =
         at-list (λ ty. f.slot.ty ≡ ty → (el : Ty) × (f.slot.ty ≡ list el)
-        × (from (setter_parts sheet f.slot ty)
+        × (from (setter_parts rule sheet f.slot ty)
         ≡ from (list_reader_type sheet el f.slot.ty then λ a. typ (Builder A) then λ b. ok (both true (ascii "size") a b))))
         f.slot.ty r.id is.id (is.kind ∙ k) (λ el z. (el, z, rw is.offset refl)) refl
 
@@ -118,7 +119,7 @@ module _ (bytes : Str) (r : Slot) (f : SlotField) (here : SlotHere bytes r f) wh
         ok (setter_only (ascii "value") (line_alone (reborrowed r.offset ++ ascii ".set_capability(value.client.hook);")) c))
     unfolding generate_setter
     interface-is k =
-        at-interface (λ ty. from (setter_parts sheet f.slot ty) ≡ from (typ Client then λ c.
+        at-interface (λ ty. from (setter_parts rule sheet f.slot ty) ≡ from (typ Client then λ c.
         ok (setter_only (ascii "value") (line_alone (reborrowed r.offset ++ ascii ".set_capability(value.client.hook);")) c)))
         f.slot.ty r.id is.id (is.kind ∙ k) (λ j ss. rw is.offset refl)
 
@@ -126,14 +127,15 @@ module _ (bytes : Str) (r : Slot) (f : SlotField) (here : SlotHere bytes r f) wh
     line mask = set_data_field (ascii "u16") r.offset (ascii "value as u16") mask
 
     pub enum-is : number_of r.kind ≡ 15 → text ≡ from (get_qualified_module sheet r.id then λ m.
-        explicit_mask r.explicit (value (number_of r.default) r.bits) then λ x.
+        mask_of rule r then λ x.
         ok (setter_only (ascii "value") (line_alone (line x)) m))
     unfolding generate_setter
     enum-is k =
-        at_enum (λ ty. from (setter_parts sheet f.slot ty) ≡ from (get_qualified_module sheet r.id then λ m.
-        explicit_mask r.explicit (value (number_of r.default) r.bits) then λ x.
+        at_enum (λ ty. from (setter_parts rule sheet f.slot ty) ≡ from (get_qualified_module sheet r.id then λ m.
+        mask_of rule r then λ x.
         ok (setter_only (ascii "value") (line_alone (line x)) m)))
-        f.slot.ty r.id is.id (is.kind ∙ k) (λ ss. rw (is.offset, is.explicit, default-here f.slot r is) refl)
+        f.slot.ty r.id is.id (is.kind ∙ k)
+        (λ ss. rw (is.offset, is.explicit, is.kind, default-here f.slot r is) refl)
 
     abbrev new : Str → Str
     new call = new_pointer sheet.root r.offset ++ call
@@ -143,7 +145,7 @@ module _ (bytes : Str) (r : Slot) (f : SlotField) (here : SlotHere bytes r f) wh
         (new (ascii ".init_as()")) b w))
     unfolding generate_setter
     parameter-is k j =
-        at-parameter (λ ty. from (setter_parts sheet f.slot ty) ≡ from (typ (Builder A) then λ b. typ Owned then λ w.
+        at-parameter (λ ty. from (setter_parts rule sheet f.slot ty) ≡ from (typ (Builder A) then λ b. typ Owned then λ w.
         ok (three_parts sheet.root tag name r.discriminant r.offset (new (ascii ".initn_as(length)")) (new (ascii ".init_as()"))
         b w)))
         f.slot.ty r.id is.id (is.kind ∙ k) j (λ id at. rw is.offset refl)
@@ -214,7 +216,7 @@ module _ (bytes : Str) (r : Slot) (f : SlotField) (here : SlotHere bytes r f) wh
             go b (refused k) z = refused-text (ok-some z.refusal)
 
       pub enum-later : (u : Text) (e : Refusal) → number_of r.kind ≡ 15 → Writes (get_qualified_module sheet r.id) l₁ t₁ l₂ (Ok u)
-          → refused (number e) ≡ explicit_mask r.explicit (value (number_of r.default) r.bits) → Writes text l t l' (Err e)
+          → refused (number e) ≡ mask_of rule r → Writes text l t l' (Err e)
       enum-later u e k x m =
           let p = text-of (get_qualified_module sheet r.id) x in rw (enum-is k, p.is, ← m) (refused-text refl)
 
@@ -258,12 +260,12 @@ module _ (bytes : Str) (r : Slot) (f : SlotField) (here : SlotHere bytes r f) wh
         (there (read Client) l₁ t₁ l₂ (Ok u) x) b)
 
     pub enum-here : {l l₁ l₂ l₃ : List ℕ} {t₁ u t₃ : Text} (mask : Option Str) → number_of r.kind ≡ 15
-        → ok mask ≡ explicit_mask r.explicit (value (number_of r.default) r.bits) → WroteLines l t (set_open name) l₁ t₁
+        → ok mask ≡ mask_of rule r → WroteLines l t (set_open name) l₁ t₁
         → Writes (get_qualified_module sheet r.id) l₁ t₁ l₂ (Ok u)
         → WroteLines l₂ u (only_end tag r.discriminant (line mask)) l₃ t₃ → Writes text l t l₃ (Ok t₃)
     enum-here mask k m a x b =
         rw (enum-is k)
-        (only-writes sheet.root tag name r.discriminant (explicit_mask r.explicit (value (number_of r.default) r.bits)) mask line
+        (only-writes sheet.root tag name r.discriminant (mask_of rule r) mask line
         (get_qualified_module sheet r.id) (sym m) a x b)
 
     pub parameter-here : {l l₁ l₂ l₃ l₄ l₅ l₆ l₇ l₈ l₉ : List ℕ} {t₁ t₃ t₄ t₆ t₇ t₉ u v w : Text}
@@ -328,14 +330,14 @@ unfolding type_string
 prim_text sheet k le =
     rw (ne_eqb k 12 (λ e. let z : ⊥ = omega arith in absurd z), ne_eqb k 13 (λ e. let z : ⊥ = omega arith in absurd z)) refl
 
-module _ (sheet : Sheet) (s : tree.Slot) (r : Slot) (is : SlotIs r s) (tag : ℕ) (name : Str) (d : ℕ) where
-  parts_at : (k : ℕ) → number_of r.kind ≡ k → k ≤ 13 → setter_parts sheet s s.ty ≡ setter_parts sheet s (plain k)
-  parts_at k e le = ap (setter_parts sheet s) (plain-is s.ty r.id k is.id (is.kind ∙ e) le)
+module _ (rule : MaskRule) (sheet : Sheet) (s : tree.Slot) (r : Slot) (is : SlotIs r s) (tag : ℕ) (name : Str) (d : ℕ) where
+  parts_at : (k : ℕ) → number_of r.kind ≡ k → k ≤ 13 → setter_parts rule sheet s s.ty ≡ setter_parts rule sheet s (plain k)
+  parts_at k e le = ap (setter_parts rule sheet s) (plain-is s.ty r.id k is.id (is.kind ∙ e) le)
 
   typ-at : number_of r.kind ≤ 11 → type_string s.ty sheet (Reader A) ≡ ok (primitive_text (number_of r.kind))
   typ-at le = rw (plain-is s.ty r.id (number_of r.kind) is.id is.kind (omega arith)) (prim_text sheet (number_of r.kind) le)
 
-  prim-at : (k : ℕ) → number_of r.kind ≡ k → (k ≡ 0 → ⊥) → k ≤ 11 → setter_parts sheet s s.ty ≡ prim_parts sheet s
+  prim-at : (k : ℕ) → number_of r.kind ≡ k → (k ≡ 0 → ⊥) → k ≤ 11 → setter_parts rule sheet s s.ty ≡ prim_parts rule sheet s
   prim-at k e n0 le =
       parts_at k e (omega arith)
       ∙ rw (
@@ -353,13 +355,13 @@ module _ (sheet : Sheet) (s : tree.Slot) (r : Slot) (is : SlotIs r s) (tag : ℕ
       (primitive_text (number_of r.kind))
 
   abbrev out : ℕ → Out Str
-  out = setter_text_of sheet tag name d s
+  out = setter_text_of rule sheet tag name d s
 
   -- these parts are written whole, from the level of the state on
   abbrev Whole : List ℕ → Text → List ℕ → Text → Parts → Type 0
   Whole l t l' t' p = WroteLines l t (stringify (setter_functions sheet.root tag name d p)) l' t'
 
-  whole_here : {l l' : List ℕ} {t t' : Text} (p : Parts) → setter_parts sheet s s.ty ≡ ok p → Whole l t l' t' p
+  whole_here : {l l' : List ℕ} {t t' : Text} (p : Parts) → setter_parts rule sheet s s.ty ≡ ok p → Whole l t l' t' p
       → Writes (out t.level) l t l' (Ok t')
   unfolding generate_setter
   whole_here p e w = rw e (whole w.lines)
@@ -379,27 +381,24 @@ module _ (sheet : Sheet) (s : tree.Slot) (r : Slot) (is : SlotIs r s) (tag : ℕ
         → Writes (out t.level) l t l' (Ok t')
     any_here e i w =
         whole_here (pointer_parts sheet.root r.offset)
-        (at-any (λ ty. setter_parts sheet s ty ≡ ok (pointer_parts sheet.root r.offset)) s.ty r.id is.id
+        (at-any (λ ty. setter_parts rule sheet s ty ≡ ok (pointer_parts sheet.root r.offset)) s.ty r.id is.id
         (is.kind ∙ e) i
         (rw is.offset refl)) w
 
-  -- those of a Bool or a number have the mask of the default, which may be refused
-  abbrev default : Out (Option Str)
-  default = prim_default (value (number_of r.default) r.bits)
-
-  bool-is : number_of r.kind ≡ 1 → setter_parts sheet s s.ty ≡ (default then λ mask. ok (bool_parts mask))
+  -- those of a Bool or a number have the rule's mask, which may be refused
+  bool-is : number_of r.kind ≡ 1 → setter_parts rule sheet s s.ty ≡ (mask_of rule r then λ mask. ok (bool_parts mask))
   bool-is e =
       prim-at 1 e (λ z. let w : ⊥ = omega arith in absurd w) (omega arith)
-      ∙ rw (is.kind ∙ e, is.offset, default-here s r is) refl
+      ∙ rw (is.kind ∙ e, e, is.offset, is.explicit, default-here s r is) refl
 
   number-is : (number_of r.kind ≡ 0 → ⊥) → (number_of r.kind ≡ 1 → ⊥) → number_of r.kind ≤ 11
-      → setter_parts sheet s s.ty ≡ (default then λ mask. ok (number_parts mask))
+      → setter_parts rule sheet s s.ty ≡ (mask_of rule r then λ mask. ok (number_parts mask))
   number-is n0 n1 le =
       prim-at (number_of r.kind) refl n0 le
-      ∙ rw (is.kind, ne_eqb (number_of r.kind) 1 n1, typ-at le, is.offset, default-here s r is) refl
+      ∙ rw (is.kind, ne_eqb (number_of r.kind) 1 n1, typ-at le, is.offset, is.explicit, default-here s r is) refl
 
   module _ {l l' : List ℕ} {t : Text} where
-    pub prim-refused : {e : Refusal} → (number_of r.kind ≡ 0 → ⊥) → number_of r.kind ≤ 11 → refused (number e) ≡ default
+    pub prim-refused : {e : Refusal} → (number_of r.kind ≡ 0 → ⊥) → number_of r.kind ≤ 11 → refused (number e) ≡ mask_of rule r
         → Writes (out t.level) l t l' (Err e)
     unfolding generate_setter
     prim-refused {e} n0 le h = go (eqb (number_of r.kind) 1) refl
@@ -408,22 +407,23 @@ module _ (sheet : Sheet) (s : tree.Slot) (r : Slot) (is : SlotIs r s) (tag : ℕ
         go true k = rw (bool-is (eqb-true (number_of r.kind) 1 k), ← h) (refused-text refl)
         go false k = rw (number-is n0 (eqb-false (number_of r.kind) 1 k) le, ← h) (refused-text refl)
 
-    module _ {t' : Text} (mask : Option Str) (h : ok mask ≡ default) where
-      pub bool-here : number_of r.kind ≡ 1 → Whole l t l' t' (bool_parts (mask_or default)) → Writes (out t.level) l t l' (Ok t')
-      bool-here e w = whole_here (bool_parts mask) (bool-is e ∙ rw (← h) refl) (rw (← h) at w)
+    module _ {t' : Text} (mask : Option Str) (h : ok mask ≡ mask_of rule r) where
+      pub bool-here : number_of r.kind ≡ 1 → Whole l t l' t' (bool_parts mask) → Writes (out t.level) l t l' (Ok t')
+      bool-here e w = whole_here (bool_parts mask) (bool-is e ∙ rw (← h) refl) w
 
       pub number-here : (number_of r.kind ≡ 0 → ⊥) → (number_of r.kind ≡ 1 → ⊥) → number_of r.kind ≤ 11
-          → Whole l t l' t' (number_parts (mask_or default))
+          → Whole l t l' t' (number_parts mask)
           → Writes (out t.level) l t l' (Ok t')
-      number-here n0 n1 le w = whole_here (number_parts mask) (number-is n0 n1 le ∙ rw (← h) refl) (rw (← h) at w)
+      number-here n0 n1 le w = whole_here (number_parts mask) (number-is n0 n1 le ∙ rw (← h) refl) w
 
 -- ---- the request
 
 pub setter-here : {l l' : List ℕ} {t : Text} {q : Result Text Refusal} (bytes : Str) (r : Slot) (f : SlotField)
     → SlotHere bytes r f
-    → (sheet : Sheet) (tag : ℕ) (name : Str) (snake : Snake) → name ≡ f.name → snake ≡ held (camel_to_snake_case name)
-    → Writes (setter_text_of sheet tag (name_of snake) r.discriminant f.slot t.level) l t l' q
-    → Writes (setter_request sheet tag f.name f.discriminant f.slot t.level) l t l' q
+    → (rule : MaskRule) (sheet : Sheet) (tag : ℕ) (name : Str) (snake : Snake) → name ≡ f.name
+    → snake ≡ held (camel_to_snake_case name)
+    → Writes (setter_text_of rule sheet tag (name_of snake) r.discriminant f.slot t.level) l t l' q
+    → Writes (setter_request rule sheet tag f.name f.discriminant f.slot t.level) l t l' q
 unfolding setter_request
-setter-here bytes r f here sheet tag name snake text held-is x =
+setter-here bytes r f here rule sheet tag name snake text held-is x =
     rw (← text, ← name_of_lem snake (camel_to_snake_case name) held-is, here.discriminant) x

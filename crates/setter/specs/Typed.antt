@@ -19,6 +19,7 @@ use Rattle.nodes.specs.Index.{InSource}
 use Rattle.nodes.specs.declared.Source.{Source}
 use Rattle.names.specs.Names.{name_of}
 use Rattle.setter_code.specs.declared.Target.{Target}
+use Rattle.codegen.specs.Profiles.{MaskRule, rule_of}
 use Rattle.codegen.specs.Setter.{set_pointer, init_pointer, setter_input, generate_setter}
 use Rattle.setter_code.specs.Parts.{tag_line, start, set_close, init_open}
 
@@ -60,10 +61,11 @@ object_end target sized sheet ty level =
     ++ init_end target.tag target.slot.discriminant (init_pointer sheet.root target.slot.offset (size_argument sized)) level)
 
 -- the text of a setter by its styled name, at a level
-abbrev pub setter_text_of : Sheet → ℕ → Str → ℕ → tree.Slot → ℕ → Out Str
-setter_text_of sheet tag_offset styled_name discriminant s level =
-    generate_setter sheet tag_offset styled_name discriminant s then λ ft. ok (stringify ft level)
+abbrev pub setter_text_of : MaskRule → Sheet → ℕ → Str → ℕ → tree.Slot → ℕ → Out Str
+setter_text_of rule sheet tag_offset styled_name discriminant s level =
+    generate_setter rule sheet tag_offset styled_name discriminant s then λ ft. ok (stringify ft level)
 
 -- the same, for what a setter is written for
 abbrev pub setter_for : Sheet → Target → tree.Slot → ℕ → Out Str
-setter_for sheet target s = setter_text_of sheet target.tag (name_of target.name) target.slot.discriminant s
+setter_for sheet target s =
+    setter_text_of (rule_of target.profile) sheet target.tag (name_of target.name) target.slot.discriminant s

@@ -15,12 +15,11 @@ ghost use Rattle.nodes.specs.Index.{InSource, sheet_of};
 ghost use Rattle.types.specs.Find.{kind_at};
 ghost use Rattle.codegen_types.specs.Written.{Writes, Within};
 ghost use Rattle.field.specs.Slot.{SlotIs, SlotField, SlotHere};
-ghost use Rattle.codegen.specs.Default.{value};
-ghost use Rattle.codegen.specs.Mask.{masked};
-ghost use Rattle.codegen.specs.Setter.{list_reader_type, new_pointer, explicit_mask, setter_request};
+ghost use Rattle.codegen.specs.Profiles.{rule_of};
+ghost use Rattle.codegen.specs.Setter.{list_reader_type, new_pointer, setter_request};
 ghost use Rattle.setter.specs.Typed.{Types, input_type, set_end, init_start, init_end, size_argument, object_end, setter_for};
 
-use calls::Mask;
+use codegen::Profile;
 use codegen_types::{Leaf, Lifetime};
 use field::Slot;
 use nodes::Source;
@@ -35,10 +34,10 @@ fn prim_setter(target: &Target, t: Text, buf: &mut [u8]) -> Result<Text, Refusal
         → Writes (setter_for (sheet_of root ns) target.now sl t.level) buf.old t buf.new result }
     ensures within { Within buf.old t buf.new result }
 {
-    codegen::prim_default(target.slot.default, target.slot.bits)?;
+    let mask = codegen::setter_mask(target.slot, target.profile)?;
     Ok(match target.slot.kind {
-        Kind::Bool => target.boolean(t, buf),
-        _ => target.number(t, buf),
+        Kind::Bool => target.boolean(mask, t, buf),
+        _ => target.number(mask, t, buf),
     })
 }
 
@@ -174,19 +173,6 @@ fn list_setter(
     object_end(source, target, true, set, buf)
 }
 
-// The mask of an enum's setter: its default, where that is explicit, which must then be an Enum.
-fn enum_mask(slot: Slot) -> Result<Option<Mask>, Refusal>
-    ensures { masked result ≡ explicit_mask slot.explicit (value (number_of slot.default) slot.bits) }
-{
-    if slot.explicit == 0 {
-        return Ok(None);
-    }
-    match slot.default {
-        Kind::Enum => Ok(Some(Mask::Plain(slot.bits))),
-        _ => Err(Refusal::EnumDefault),
-    }
-}
-
 // An enum's setter.
 fn enum_setter(
     source: &Source<'_>,
@@ -201,7 +187,7 @@ fn enum_setter(
 {
     let t = target.set_open(t, buf);
     let t = type_parts::qualified_module(source, target.slot.id, t, buf)?;
-    let mask = enum_mask(target.slot)?;
+    let mask = codegen::setter_mask(target.slot, target.profile)?;
     let t = target.start(b")  {\n", t, buf);
     let t = calls::set_data_field(b"u16", target.slot.offset, b"value as u16", mask, t, buf);
     Ok(t.broken(buf, b"\n}\n"))
@@ -296,20 +282,26 @@ fn setter_of(source: &Source<'_>, target: &Target, t: Text, buf: &mut [u8]) -> R
     }
 }
 
-// The text of a slot's setter, by the offset of its node's tag.
+// The text of a slot's setter, by the offset of its node's tag and the profile of its mask.
 pub fn setter(
     source: &Source<'_>,
     slot: Slot,
     tag: u64,
+    profile: Profile,
     t: Text,
     buf: &mut [u8],
 ) -> Result<Text, Refusal>
     ensures text { InSource source.now (λ sheet.
         (f : SlotField) → SlotHere source.now.bytes.now slot f
-        → Writes (setter_request sheet tag f.name f.discriminant f.slot t.level) buf.old t buf.new result) }
+        → Writes (setter_request (rule_of profile) sheet tag f.name f.discriminant f.slot t.level) buf.old t buf.new result) }
     ensures within { Within buf.old t buf.new result }
 {
     let name = names::camel_to_snake_case(slot.name(source.bytes));
-    let target = Target { name, slot, tag };
+    let target = Target {
+        name,
+        slot,
+        tag,
+        profile,
+    };
     setter_of(source, &target, t, buf)
 }

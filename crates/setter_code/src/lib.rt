@@ -9,8 +9,7 @@ ghost use Rattle.text.specs.Lines.{stringify};
 ghost use Rattle.text.specs.Text.{Wrote, WroteLines};
 ghost use Rattle.names.specs.Names.{name_of};
 ghost use Rattle.calls.specs.Calls.{set_bool_field, set_data_field};
-ghost use Rattle.codegen.specs.Default.{value, prim_default};
-ghost use Rattle.codegen.specs.Mask.{mask_or};
+ghost use Rattle.calls.specs.Mask.{mask_text};
 ghost use Rattle.codegen_types.specs.Primitive.{primitive_text};
 ghost use Rattle.codegen.specs.Setter.{set_pointer, init_pointer, new_pointer, setter_input, pointer_field, reborrowed};
 ghost use Rattle.codegen.specs.Setter.{setter_functions, setter_only, line_alone, text_parts, data_parts, pointer_parts};
@@ -18,16 +17,20 @@ ghost use Rattle.text.specs.Lines as lines;
 ghost use Rattle.setter_code.specs.Parts.{tag_line, start, named, set_open, set_close, set_text, init_open, init_text};
 ghost use Rattle.setter_code.specs.Parts.{initn_open};
 
+use calls::Mask;
+use codegen::Profile;
 use field::Slot;
 use names::Snake;
 use text::Text;
 
-// What a setter is written for: the field's name in snake case, its slot, and the offset of its node's tag.
+// What a setter is written for: the field's name in snake case, its slot, the offset of its node's tag, and by which rule its
+// mask is taken.
 #[derive(Clone, Copy)]
 pub struct Target {
     pub name: Snake,
     pub slot: Slot,
     pub tag: u64,
+    pub profile: Profile,
 }
 
 // A setter that returns a result, from its value's type up to its lines.
@@ -158,40 +161,34 @@ impl Target {
         t.bytes(buf, b"}\n")
     }
 
-    // Bool, with a default of any primitive kind; without a mask where the default is refused.
-    pub fn boolean(&self, t: Text, buf: &mut [u8]) -> Text
+    // Bool, with its mask, if there is one.
+    pub fn boolean(&self, mask: Option<Mask>, t: Text, buf: &mut [u8]) -> Text
         ensures { (root : Str) → WroteLines buf.old t
             (stringify (setter_functions root self.now.tag (name_of self.now.name) self.now.slot.discriminant
-            (setter_only (ascii "value") (line_alone (set_bool_field self.now.slot.offset (ascii "value")
-            (mask_or (prim_default (value (number_of self.now.slot.default) self.now.slot.bits)))))
+            (setter_only (ascii "value")
+            (line_alone (set_bool_field self.now.slot.offset (ascii "value") (mask_text mask)))
             (ascii "bool")))) buf.new result }
     {
         let t = self.set_open(t, buf);
         let t = self.start(b"bool)  {\n", t, buf);
-        let t = codegen::set_bool(self.slot.offset, self.slot.default, self.slot.bits, t, buf);
+        let t = calls::set_bool_field(self.slot.offset, b"value", mask, t, buf);
         t.broken(buf, b"\n}\n")
     }
 
-    // A number, with a default of any primitive kind; without a mask where the default is refused.
-    pub fn number(&self, t: Text, buf: &mut [u8]) -> Text
+    // A number, with its mask, if there is one.
+    pub fn number(&self, mask: Option<Mask>, t: Text, buf: &mut [u8]) -> Text
         ensures { (root : Str) → WroteLines buf.old t
             (stringify (setter_functions root self.now.tag (name_of self.now.name) self.now.slot.discriminant
             (setter_only (ascii "value")
             (line_alone (set_data_field (primitive_text (number_of self.now.slot.kind)) self.now.slot.offset (ascii "value")
-            (mask_or (prim_default (value (number_of self.now.slot.default) self.now.slot.bits)))))
+            (mask_text mask)))
             (primitive_text (number_of self.now.slot.kind))))) buf.new result }
     {
         let t = self.set_open(t, buf);
         let t = codegen_types::type_name(self.slot.kind, t, buf);
         let t = self.start(b")  {\n", t, buf);
-        let t = codegen::set_number(
-            self.slot.kind,
-            self.slot.offset,
-            self.slot.default,
-            self.slot.bits,
-            t,
-            buf,
-        );
+        let typ = codegen_types::primitive(self.slot.kind);
+        let t = calls::set_data_field(typ, self.slot.offset, b"value", mask, t, buf);
         t.broken(buf, b"\n}\n")
     }
 

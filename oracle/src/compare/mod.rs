@@ -1,7 +1,8 @@
-//! The comparisons with the static library and with the program.
+//! The comparisons with the static library and with the programs.
 
 mod leaves;
 mod placed;
+mod profiles;
 mod programs;
 mod requests;
 mod sheets;
@@ -9,7 +10,7 @@ mod sheets;
 use crate::report::Report;
 
 /// Each comparison, with the random cases so many times.
-const COMPARISONS: [fn(u64) -> Report; 8] = [
+const COMPARISONS: [fn(u64) -> Report; 11] = [
     leaves::names,
     leaves::numbers,
     leaves::lines,
@@ -17,7 +18,10 @@ const COMPARISONS: [fn(u64) -> Report; 8] = [
     sheets::faults,
     requests::types,
     requests::accessors,
-    programs::outputs,
+    profiles::setters,
+    profiles::verdicts,
+    programs::accessors,
+    programs::verdicts,
 ];
 
 /// Runs every comparison and prints its report, and their sum: whether nothing differs.

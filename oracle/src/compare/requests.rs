@@ -23,9 +23,9 @@ pub fn types(times: u64) -> Report {
     compare("types' texts", 41, 700 * times, &requests)
 }
 
-/// Getters, setters, hasers and zeroing.
+/// Getters, setters of both profiles, hasers and zeroing.
 pub fn accessors(times: u64) -> Report {
-    compare("getters, setters, hasers, zeroing", 42, 2_200 * times, &Request::PARTS)
+    compare("getters, setters, paired setters, hasers, zeroing", 42, 2_200 * times, &Request::PARTS)
 }
 
 /// Every request on every field of the corners and of `count` random sheets, and on some of the hostile ones.

@@ -1,9 +1,12 @@
 //! Sheets for requests that random ones seldom hold: chains and groups at their 16th and 17th, cycles, doubled scopes,
-//! scopes off the chain, every kind of slot with every kind of default, names with accents at their bounds.
+//! scopes off the chain, every kind of slot with every kind of default, names with accents at their bounds, and the defaults
+//! with which the two profiles of setters differ.
 
 use crate::names;
 use crate::schema_capnp::field::NO_DISCRIMINANT;
-use crate::sheet::{has_words, value_width, Binding, Field, Group, Node, Scope, Sheet, Slot, Type, Value};
+use crate::sheet::{
+    has_words, value_width, Binding, Field, Group, Node, Scope, Sheet, Slot, Type, Value, ENUM, FLOAT32, FLOAT64,
+};
 
 /// A sheet and what it is about.
 pub struct Corner {
@@ -39,6 +42,7 @@ pub fn all() -> Vec<Corner> {
     for (pair, at) in names::accents_at_bounds().chunks(2).zip(0..) {
         add(format!("names with accents {at}"), accents(pair, at));
     }
+    add("profiles".to_string(), profiles());
     corners
 }
 
@@ -334,4 +338,22 @@ fn accents(names: &[String], turn: usize) -> Vec<Node> {
     let bed = node(1, 0, "bed", &[]).slots(names.iter().map(text)).slots(by_turns);
     let bed = names.iter().zip(8..).fold(bed, |bed, (name, id)| bed.group(group(name, id)));
     vec![bed, node(8, 1, "bed::plan", &[]).slots(names.iter().map(text)), node(9, 1, "ward", &["T"])]
+}
+
+/// -0.0 and its neighbour, enums' defaults with and without their flag, of a node that is there and of one that is not; each
+/// bare, and with a tag, option and the largest offset. The names and the enum's module are much like the line that sets a value.
+fn profiles() -> Vec<Node> {
+    let mut slots = Vec::new();
+    for explicit in [false, true] {
+        for (kind, sign) in [(FLOAT32, 1 << 31), (FLOAT64, 1 << 63)] {
+            slots.extend([0, 1].map(|low| slot("value", Type::Plain(kind)).default(kind, sign | low, explicit)));
+        }
+        for id in [9, 77] {
+            let bed_status = slot("dataFieldMask", Type::Enum(id, Vec::new()));
+            slots.extend([0, 1, 65_535].map(|bits| bed_status.clone().default(ENUM, bits, explicit)));
+        }
+    }
+    let tagged = slots.clone().into_iter().map(|slot| slot.option().tagged(0).at(u32::MAX));
+    let bed = node(1, 0, "bed", &[]).slots(slots).slots(tagged);
+    vec![bed, node(9, 1, "self.builder.set_data_field_mask::<u16>(4,value,2);", &[])]
 }

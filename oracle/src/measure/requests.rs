@@ -25,12 +25,13 @@ const GETTER: Request = Request::Getter { reader: true, function: false };
 const HASER: Request = Request::Haser { reader: true };
 
 /// Requests of a slot by the names of their cases.
-const REQUESTS: [(&str, Request); 7] = [
+const REQUESTS: [(&str, Request); 8] = [
     ("type-owned", TYPE),
     ("type-reader", Request::Type { leaf: 0 }),
     ("getter-reader", GETTER),
     ("getter-builder", Request::Getter { reader: false, function: true }),
     ("setter", Request::Setter),
+    ("paired-setter", Request::PairedSetter),
     ("haser-reader", HASER),
     ("haser-builder", Request::Haser { reader: false }),
 ];

@@ -9,7 +9,7 @@ use crate::boundary::answer::{leaf, number};
 use crate::generate::corners::{bound, group, node, slot};
 use crate::sheet::print::{numbers, print};
 use crate::sheet::read::Refusal;
-use crate::sheet::{Node, Sheet, Type};
+use crate::sheet::{Node, Sheet, Type, ENUM, FLOAT32, FLOAT64};
 
 /// The longest buffer that the program has.
 const LONGEST: usize = 4_096;
@@ -18,9 +18,9 @@ const GETTER: Request = Request::Getter { reader: true, function: false };
 
 pub fn sample() -> Sample {
     let mut sample = Sample::default();
-    for requests in [types(), accessors(), accents(), places(), fill_counts(), levels(), refused(), own_parent()] {
-        requests.end(&mut sample);
-    }
+    let asked =
+        [types(), accessors(), accents(), places(), fill_counts(), levels(), profiles(), refused(), own_parent()];
+    asked.iter().for_each(|requests| requests.end(&mut sample));
     for bytes in bad() {
         bad_sheet(bytes).end(&mut sample);
     }
@@ -224,6 +224,38 @@ fn levels() -> Requests {
     for (node, place, fill, level) in [(7, 0, 0, 9), (77, 0, 0, 9), (7, 4, 0, 9), (7, 0, 2, usize::MAX), (7, 0, 10, 9)]
     {
         requests.ask_at(node, place, Request::Setter, State { fill, level }, 9);
+    }
+    requests
+}
+
+/// Both setters: where they differ, which is with -0.0 of both widths, an enum's 2 without its flag and its 0 with it; where
+/// they do not; where the getter is refused; with defaults of another type; of a group. The paired one of the first slot at
+/// level 2 with exact room and with one byte too few.
+fn profiles() -> Requests {
+    let status = || slot("status", Type::Enum(4, Vec::new()));
+    let slots = [
+        status().default(ENUM, 2, false).tagged(1),
+        status().default(ENUM, 0, true),
+        status().default(ENUM, 2, true),
+        status().default(ENUM, 0, false),
+        slot("weight", Type::Plain(FLOAT32)).default(FLOAT32, 1 << 31, true),
+        slot("weight", Type::Plain(FLOAT64)).default(FLOAT64, 1 << 63, false).option(),
+        slot("isFree", Type::Plain(1)).default(1, 1, true).option(),
+        slot("isFree", Type::Plain(1)).default(2, 3, false),
+        slot("weight", Type::Plain(FLOAT32)).default(FLOAT64, 1 << 63, true),
+        slot("level", Type::Plain(7)).default(ENUM, 2, false),
+        status().default(7, 2, true),
+        status().default(7, 2, false),
+    ];
+    let count = slots.len() as u64;
+    let bed = node(7, 0, "bed", &[]).slots(slots).group(group("plan", 9));
+    let mut requests = Requests::of(vec![bed, node(4, 7, "bed::Status", &[]), node(9, 7, "bed::plan", &[])]);
+    for place in 0..=count {
+        [Request::Setter, Request::PairedSetter].into_iter().for_each(|request| requests.beside(7, place, request));
+    }
+    let length = requests.length(7, 0, Request::PairedSetter, 2);
+    for length in [length + 1, length] {
+        requests.ask_at(7, 0, Request::PairedSetter, State { fill: 1, level: 2 }, length);
     }
     requests
 }

@@ -9,6 +9,11 @@ pub const MAX_NODES: usize = 64;
 pub const MAX_WORDS: usize = 255;
 pub const MAX_LEVEL: usize = 16;
 
+/// Variants of schema.capnp's `Type` and `Value` that are told apart by name.
+pub const FLOAT32: u8 = 10;
+pub const FLOAT64: u8 = 11;
+pub const ENUM: u8 = 15;
+
 /// An admitted sheet.
 #[derive(Clone, Debug, PartialEq)]
 pub struct Sheet {

@@ -94,5 +94,15 @@ extern "C" {
         buf: *mut u8,
         buf_len: usize,
     ) -> u64;
+    pub fn kitlubas_verdict(
+        s: *const u8,
+        s_len: usize,
+        index: *const u64,
+        index_len: usize,
+        node: usize,
+        field: *const u64,
+        field_len: usize,
+        verdict: *mut u64,
+    ) -> u64;
     pub fn kitlubas_pad(s: *const u8, s_len: usize, fill: *mut usize, buf: *mut u8, buf_len: usize) -> u64;
 }

@@ -1,9 +1,10 @@
-//! What the tests share: a sheet with a field of each shape, every request, random numbers, and an asking that looks at
-//! every byte of the buffer.
+//! What the tests share: a sheet with a field of each shape, the example sheets, every request, the masks of texts, random
+//! numbers, and an asking that looks at every byte of the buffer.
 
 use kitlubas::{
-    admit, answer, padded, Asked, Form, Leaf, Level, Lifetime, NodeId, Place, Refusal, Request, Sheet, Side,
+    admit, answer, padded, Asked, Field, Form, Leaf, Level, Lifetime, NodeId, Place, Refusal, Request, Sheet, Side,
 };
+use std::fs;
 use std::path::PathBuf;
 
 /// A ward with its beds: data slots with and without defaults, pointers, a union and a type parameter.
@@ -55,6 +56,17 @@ pub fn file(path: &str) -> PathBuf {
     PathBuf::from(env!("CARGO_MANIFEST_DIR")).join("..").join(path)
 }
 
+/// The example sheets that are admitted, by their names.
+pub fn example_sheets() -> Vec<(String, Vec<u8>)> {
+    let entries = fs::read_dir(file("examples")).expect("the examples can be listed");
+    let paths = entries.map(|entry| entry.expect("the examples can be listed").path());
+    let sheets = paths.filter(|path| path.extension().is_some_and(|extension| extension == "sheet"));
+    let read = |path: PathBuf| (path.display().to_string(), fs::read(&path).expect("an example can be read"));
+    let admitted: Vec<_> = sheets.map(read).filter(|(_, bytes)| admit(bytes).is_ok()).collect();
+    assert!(admitted.len() > 6);
+    admitted
+}
+
 /// A refusal by its number, and by its line and its column, which come together.
 pub type Told = (u64, Option<(usize, usize)>);
 
@@ -70,7 +82,7 @@ pub fn text(sheet: &[u8], (node, place): (u64, u64), request: impl Into<Asked>) 
 
 /// Every request but the zeroing.
 pub fn requests() -> Vec<Request> {
-    let mut all = vec![Request::Setter];
+    let mut all = vec![Request::Setter, Request::PairedSetter];
     for side in [Side::Reader, Side::Builder] {
         all.push(Request::Haser { side });
         all.extend([Form::Function, Form::Plain].map(|form| Request::Getter { side, form }));
@@ -81,6 +93,27 @@ pub fn requests() -> Vec<Request> {
     let bare = [Leaf::Owned, Leaf::Client, Leaf::Server, Leaf::ServerDispatch, Leaf::Pipeline, Leaf::GetType];
     all.extend(bare.map(Request::TypeText));
     all
+}
+
+/// The masks of a slot's setter and of its getters, where all of them have a text.
+pub fn masks(field: &Field<'_, '_>) -> Option<[String; 2]> {
+    let setter = mask(&field.text(Request::Setter).ok()?);
+    let sides = [Side::Reader, Side::Builder];
+    let mut requests = sides.iter().flat_map(|&side| [Form::Function, Form::Plain].map(|form| (side, form)));
+    let getter = |(side, form)| field.text(Request::Getter { side, form }).ok().map(|text| mask(&text));
+    let first = getter(requests.next()?)?;
+    for request in requests {
+        assert_eq!(getter(request)?, first, "getters of one slot have different masks");
+    }
+    Some([setter, first])
+}
+
+/// The mask of the call in a text, without the ending of a float's bits; no mask is one of 0.
+fn mask(text: &str) -> String {
+    let Some((_, call)) = text.split_once("_field_mask") else { return "0".into() };
+    let arguments = call.split(')').next().unwrap_or_default();
+    let mask = arguments.rsplit(", ").next().unwrap_or_default();
+    mask.trim_end_matches("u32").trim_end_matches("u64").into()
 }
 
 /// Every level, from 0 on.

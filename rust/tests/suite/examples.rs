@@ -85,7 +85,7 @@ fn every_request_on_every_field() {
             }
         }
     }
-    assert_eq!((answered, refused), (8 * 17 - 4, 4));
+    assert_eq!((answered, refused), (8 * 18 - 4, 4));
 }
 
 /// A text that is longer than the room that is tried first.

@@ -27,7 +27,7 @@ fn every_text_at_its_bounds() {
             }
         }
     }
-    assert_eq!(answered, 132);
+    assert_eq!(answered, 140);
 }
 
 /// Every length of a buffer, from none to more than enough, and every fill count up to one past its end.

@@ -41,7 +41,7 @@ fn declared(path: &str, count: usize) -> Heads {
 }
 
 fn of_sheets() -> Heads {
-    declared("crates/exports/kitlubas.h", 16)
+    declared("crates/exports/kitlubas.h", 18)
 }
 
 fn of_records() -> Heads {

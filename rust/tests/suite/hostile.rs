@@ -2,7 +2,7 @@
 //! the buffer that must not change against what stood there before.
 
 use crate::common::{ask, levels, requests, sheet, told, Random, PLACES, WARD};
-use kitlubas::{admit, Level, Request, Sheet};
+use kitlubas::{admit, Level, Request, Sheet, Verdict};
 use std::thread;
 
 /// Asks something at random of a sheet, at any level, with a buffer that is mostly too short.
@@ -143,14 +143,17 @@ fn short_and_long(short: &str) -> [Vec<u8>; 2] {
 fn a_small_stack() {
     let lists = format!("{}T 16 7 0 0\nV 14 0\n", "T 14 0 0 0\n".repeat(15));
     let brands = format!("{}T 12 0 0 0\nV 16 0\n", "T 16 7 1 0\nS 7 1 1\n".repeat(15));
+    let enums = format!("T 15 7 1 0\nS 7 1 1\n{}T 12 0 0 0\nV 15 2\n", "T 16 7 1 0\nS 7 1 1\n".repeat(14));
     let start = "R ::capnp\nN 7 0 0 1 1 0 0 bed\nP Plan\nF 0 65535 0 0 plan\n";
     let groups: String = (1..1300).map(|id| format!("G {id} 65535 g\n")).collect();
     on_a_small_stack(move || {
-        for typ in [lists, brands] {
+        for (typ, verdict) in [(lists, None), (brands, None), (enums, Some(Verdict::CombinedWithDefault))] {
             let bytes = sheet(&[start, &typ, &groups].concat());
             requests().iter().for_each(|&request| answered(&bytes, (7, 0), request));
             let admitted = Sheet::admit(&bytes).expect("it is a sheet");
-            assert_eq!(admitted.nodes().flat_map(|node| node.fields()).count(), 1300);
+            let fields: Vec<_> = admitted.nodes().flat_map(|node| node.fields()).collect();
+            assert_eq!(fields.len(), 1300);
+            assert_eq!(fields.iter().find_map(|field| field.verdict()), verdict);
         }
     });
 }

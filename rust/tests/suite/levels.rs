@@ -105,7 +105,7 @@ fn texts_at_every_level(bytes: &[u8]) -> usize {
 /// Of the bed's seven slots everything but a zeroing, and of its two groups the zeroing.
 #[test]
 fn every_text_at_every_level() {
-    assert_eq!(texts_at_every_level(&sheet(BED)), 7 * 17 + 2);
+    assert_eq!(texts_at_every_level(&sheet(BED)), 7 * 18 + 2);
 }
 
 /// Slots of each type, as they are in the example and as those of a union. Of two, whose type is a parameter, four leaves have no
@@ -114,7 +114,7 @@ fn every_text_at_every_level() {
 fn every_type_at_every_level() {
     let ward = fs::read_to_string(file("examples/short/ward.txt")).expect("an example");
     for short in [&ward, &ward.replace(" 65535 ", " 1 ")] {
-        assert_eq!(texts_at_every_level(&sheet(short)), 22 * 17 - 2 * 4);
+        assert_eq!(texts_at_every_level(&sheet(short)), 22 * 18 - 2 * 4);
     }
 }
 
@@ -122,7 +122,7 @@ fn every_type_at_every_level() {
 #[test]
 fn groups_inside_groups_at_every_level() {
     let bytes = fs::read(file("examples/groups.sheet")).expect("an example sheet");
-    assert_eq!(texts_at_every_level(&bytes), 8 * 17 + 2);
+    assert_eq!(texts_at_every_level(&bytes), 8 * 18 + 2);
 }
 
 /// A text that is just as long as the free part fits with its spaces, and one byte less is 22.

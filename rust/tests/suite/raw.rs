@@ -234,7 +234,7 @@ fn answer_anything(bytes: &[u8], index: &[u64], random: &mut Random) {
             index.len(),
             any(random, 10),
             any(random, 9),
-            any(random, 10),
+            any(random, 11),
             any(random, 11),
             level,
             &mut fill,
@@ -286,7 +286,7 @@ fn text_of_anything(bytes: &[u8], index: &[u64], random: &mut Random) {
             any(random, 3) as usize,
             field.as_ptr(),
             field.len(),
-            any(random, 10),
+            any(random, 11),
             any(random, 11),
             level,
             &mut text_len,
@@ -355,11 +355,45 @@ fn field(bytes: &[u8], at: usize, length: usize) -> (Vec<u64>, Option<Values>) {
     (field, (refusal == 0).then_some(values))
 }
 
+/// The number and the verdict that are told of a field of the node with a number, by the field's numbers.
+fn verdict_on((sheet, index): (&[u8], &[u64]), node: usize, field: &[u64]) -> (u64, u64) {
+    let mut verdict = u64::MAX;
+    let number = unsafe {
+        declarations::kitlubas_verdict(
+            sheet.as_ptr(),
+            sheet.len(),
+            index.as_ptr(),
+            index.len(),
+            node,
+            field.as_ptr(),
+            field.len(),
+            &mut verdict,
+        )
+    };
+    assert!((number, verdict) == (15, 0) || number == 0 && verdict <= 3, "{number} with verdict {verdict}");
+    (number, verdict)
+}
+
+/// The same of the first field of a sheet.
+pub fn verdict(bytes: &[u8]) -> (u64, u64) {
+    let (_, whole) = index(bytes, index_size(bytes.len()));
+    let first = node(bytes, &whole, 0).expect("there is a node").3;
+    let (field, _) = field(bytes, first, FIELD_SIZE);
+    verdict_on((bytes, &whole), 0, &field)
+}
+
+/// Asks for a verdict over any index, by a node's number and the numbers of a field.
+fn verdict_on_anything(bytes: &[u8], index: &[u64], random: &mut Random) {
+    let field = numbers(bytes, random);
+    let (number, _) = verdict_on((bytes, index), any(random, 3) as usize, &field);
+    assert!(number == 15 || field.len() == FIELD_SIZE);
+}
+
 /// A number that no request has is 15, at any leaf, after what the sheet itself is refused for.
 #[test]
 fn numbers_of_no_request() {
     let ward = sheet(WARD);
-    for request in [9, 10, 1 << 32, u64::MAX] {
+    for request in [10, 11, 1 << 32, u64::MAX] {
         for leaf in [0, 9, 10, u64::MAX] {
             assert_eq!(text(&ward, (7, 0), request, leaf), Err(15));
             assert_eq!(text(&ward[1..], (7, 0), request, leaf), Err(2));
@@ -391,7 +425,7 @@ fn levels_above_8() {
         for at in [(6, 0), (7, 99)] {
             assert_eq!(text_at(&ward, at, setter(level), 500, 0), Err(36));
         }
-        for (request, leaf) in [(9, 0), (8, 0), (0, 10)] {
+        for (request, leaf) in [(10, 0), (8, 0), (0, 10)] {
             assert_eq!(text_at(&ward, (7, 0), (request, leaf, level), 500, 0), Err(36));
         }
         assert_eq!(text_at(&ward, (7, 0), setter(level), 0, 0), Err(36));
@@ -400,7 +434,7 @@ fn levels_above_8() {
     assert_eq!(text_at(torn, (7, 0), setter(MOST), 500, 0), Err(2));
     assert_eq!(text_at(&long, (7, 0), setter(MOST), 500, 0), Err(1));
     assert_eq!(text_at(&ward, (6, 0), setter(MOST), 500, 0), Err(15));
-    assert_eq!(text_at(&ward, (7, 0), (9, 0, MOST), 500, 0), Err(15));
+    assert_eq!(text_at(&ward, (7, 0), (10, 0, MOST), 500, 0), Err(15));
     assert_eq!(text_at(&ward, (7, 0), setter(MOST), 0, 0), Err(22));
 }
 
@@ -418,16 +452,16 @@ fn levels_above_8_over_an_index() {
                 assert_eq!(text_in(parts, at, setter(level), 500, 5), Err(36));
                 assert_eq!(text_in(parts, at, setter(level), 500, 501), Err(21));
             }
-            assert_eq!(text_in(parts, (7, 0), (9, 0, level), 500, 5), Err(36));
+            assert_eq!(text_in(parts, (7, 0), (10, 0, level), 500, 5), Err(36));
             for numbers in [&field[..], &field[1..], &[]] {
                 assert_eq!(text_of(parts, numbers, setter(level), 500), no_text(36));
                 assert_eq!(text_of(parts, numbers, setter(level), 0), no_text(36));
-                assert_eq!(text_of(parts, numbers, (9, 0, level), 500), no_text(36));
+                assert_eq!(text_of(parts, numbers, (10, 0, level), 500), no_text(36));
             }
         }
     }
     assert_eq!(text_of((&ward, &whole), &field[1..], setter(MOST), 500), no_text(15));
-    assert_eq!(text_of((&ward, &whole), &field, (9, 0, MOST), 500), no_text(15));
+    assert_eq!(text_of((&ward, &whole), &field, (10, 0, MOST), 500), no_text(15));
 }
 
 /// Level 8 is answered, in a buffer that is just as long as the text with its spaces; one byte less is 22.
@@ -495,8 +529,32 @@ fn any_index_over_any_bytes() {
         }
         answer_anything(&bytes, &numbers, &mut random);
         text_of_anything(&bytes, &numbers, &mut random);
+        verdict_on_anything(&bytes, &numbers, &mut random);
         node(&bytes, &numbers, random.below(3));
     }
+}
+
+/// There is a verdict on a slot with bits alone: no such node, too few numbers, numbers of nothing or of a group, and slots of
+/// other kinds are 15.
+#[test]
+fn verdicts_by_numbers() {
+    let ward = sheet(WARD);
+    let (_, whole) = index(&ward, index_size(ward.len()));
+    let first = node(&ward, &whole, 0).expect("there is a node").3;
+    let (field, _) = field(&ward, first, FIELD_SIZE);
+    let parts = (&ward[..], &whole[..]);
+    assert_eq!(verdict_on(parts, 0, &field), (0, 0));
+    assert!([2, 63, 64, usize::MAX].iter().all(|number| verdict_on(parts, *number, &field) == (15, 0)));
+    assert!((0..FIELD_SIZE).all(|length| verdict_on(parts, 0, &field[..length]) == (15, 0)));
+    let with = |at: usize, number: u64| {
+        let mut changed = field.clone();
+        changed[at] = number;
+        verdict_on(parts, 0, &changed).0
+    };
+    let (is_slot, kind) = (0, 5);
+    assert!([0, 2, 3, u64::MAX].iter().all(|number| with(is_slot, *number) == 15));
+    let told: Vec<u64> = (0..=18).filter(|number| with(kind, *number) == 0).collect();
+    assert_eq!(told, [1, 2, 3, 4, 5, 6, 7, 8, 9, 10, 11, 15]);
 }
 
 /// At every position of any bytes there is a field whose name lies in them, or none.

@@ -119,7 +119,7 @@ fn texts_from_every_side() {
             }
         }
     }
-    assert_eq!(texts, 8 * 17 - 4 + 17 + 1);
+    assert_eq!(texts, 8 * 18 - 4 + 18 + 1);
 }
 
 /// Texts are put one behind the other, short ones and long ones, and a refusal leaves what is there.

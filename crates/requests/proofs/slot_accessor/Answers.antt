@@ -22,6 +22,12 @@ returns-in-Setter-clause-text c = λ nodes x at e h.
     rw (c.in-Setter.is, e) (slot_accessor c.args.source.now.bytes.now at.1 c.args.slot _ h
     (λ f here. c.setter.ensures.text nodes x f here))
 
+pub returns-in-PairedSetter-clause-text : goal.returns-in-PairedSetter-clause-text
+unfolding accessor_text
+returns-in-PairedSetter-clause-text c = λ nodes x at e h.
+    rw (c.in-PairedSetter.is, e) (slot_accessor c.args.source.now.bytes.now at.1 c.args.slot _ h
+    (λ f here. c.setter-in-PairedSetter.ensures.text nodes x f here))
+
 pub returns-in-Haser-clause-text : goal.returns-in-Haser-clause-text
 unfolding accessor_text haser_request
 returns-in-Haser-clause-text c = λ nodes x at e h.

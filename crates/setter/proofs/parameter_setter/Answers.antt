@@ -6,6 +6,7 @@ use Rattle.text.proofs.Laws.{◌⋄◌, some-text, ◌⨟◌}
 use Rattle.names.specs.Names.{name_of}
 use Rattle.terms.specs.Kinds.{number_of}
 use Rattle.nodes.specs.Index.{sheet_of}
+use Rattle.codegen.specs.Profiles.{rule_of}
 use Rattle.codegen_types.proofs.WrittenLaws.{kept-behind}
 use Rattle.setter.proofs.ArmLaws.{parameter-first, parameter-later, parameter-here}
 use Rattle.setter.proofs.parameter_setter.Goals as goal
@@ -18,7 +19,7 @@ returns-in_err-initn c =
     let e = err_from_is_err_and c.from_residual.result c.from_residual.ensures.1 in
     record {
       text = λ ns ix f h k n. rw (e.1, e.2) (parameter-first source.bytes.now x.slot f h
-          (sheet_of source.root.now ns) x.tag (name_of x.name) a.t
+          (rule_of x.profile) (sheet_of source.root.now ns) x.tag (name_of x.name) a.t
           c.initn_open-t.new.buf c.initn_open-t.result c.type_string.new.buf _ (ap number_of k) n
           (c.in_err-initn.ensures.text ns ix));
       within = rw e.1 (kept-behind (some-text c.initn_open-t.ensures.lines) c.in_err-initn.ensures.within);
@@ -32,7 +33,7 @@ returns-in_err-set c =
     let e = err_from_is_err_and c.from_residual-in_err-set.result c.from_residual-in_err-set.ensures.1 in
     record {
       text = λ ns ix f h k n. rw (e.1, e.2) (parameter-later source.bytes.now x.slot f h
-          (sheet_of source.root.now ns) x.tag (name_of x.name) a.t
+          (rule_of x.profile) (sheet_of source.root.now ns) x.tag (name_of x.name) a.t
           c.initn_open-t.new.buf c.initn_open-t.result c.type_string.new.buf c.in_ok-initn.initn c.set_open-t.new.buf
           c.set_open-t.result c.setter_input.new.buf _ (ap number_of k) n (c.in_ok-initn.ensures.text ns ix)
           (c.in_err-set.ensures.text ns ix));
@@ -53,7 +54,8 @@ returns c =
     let source = a.source.now in
     let x = a.target.now in
     record {
-      text = λ ns ix f h k n. parameter-here source.bytes.now x.slot f h (sheet_of source.root.now ns) x.tag (name_of x.name) a.t
+      text = λ ns ix f h k n. parameter-here source.bytes.now x.slot f h (rule_of x.profile)
+          (sheet_of source.root.now ns) x.tag (name_of x.name) a.t
           (ap number_of k) n
           c.initn_open-t.ensures (c.in_ok-initn.ensures.text ns ix) c.new_end-t.ensures
           c.set_open-t.ensures (c.in_ok-set.ensures.text ns ix) c.set_end-t.ensures

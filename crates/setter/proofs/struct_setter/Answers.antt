@@ -6,6 +6,7 @@ use Rattle.text.proofs.Laws.{some-text, ◌⨟◌}
 use Rattle.names.specs.Names.{name_of}
 use Rattle.terms.specs.Kinds.{number_of}
 use Rattle.nodes.specs.Index.{sheet_of}
+use Rattle.codegen.specs.Profiles.{rule_of}
 use Rattle.codegen_types.proofs.WrittenLaws.{kept-behind}
 use Rattle.codegen.proofs.AroundLaws.{within-behind}
 use Rattle.setter.proofs.ArmLaws.{struct-first, struct-here}
@@ -19,7 +20,7 @@ returns-in_err-set c =
     let e = err_from_is_err_and c.from_residual.result c.from_residual.ensures.1 in
     record {
       text = λ ns ix f h k. rw (e.1, e.2) (struct-first source.bytes.now x.slot f h
-          (sheet_of source.root.now ns) x.tag (name_of x.name) a.t
+          (rule_of x.profile) (sheet_of source.root.now ns) x.tag (name_of x.name) a.t
           c.set_open-t.new.buf c.set_open-t.result c.type_string.new.buf _ (ap number_of k) (c.in_err-set.ensures.text ns ix));
       within = rw e.1 (kept-behind (some-text c.set_open-t.ensures.lines) c.in_err-set.ensures.within);
     }
@@ -30,7 +31,8 @@ returns c =
     let source = a.source.now in
     let x = a.target.now in
     record {
-      text = λ ns ix f h k. struct-here source.bytes.now x.slot f h (sheet_of source.root.now ns) x.tag (name_of x.name) a.t
+      text = λ ns ix f h k. struct-here source.bytes.now x.slot f h (rule_of x.profile)
+          (sheet_of source.root.now ns) x.tag (name_of x.name) a.t
           c.type_string.new.buf c.in_ok-set.set
           (ap number_of k) c.set_open-t.ensures (c.in_ok-set.ensures.text ns ix) (c.object_end.ensures.text ns ix);
       within = within-behind _ _ (some-text c.set_open-t.ensures.lines ⨟ c.in_ok-set.ensures.within) c.object_end.ensures.within;

@@ -1,0 +1,5 @@
+pub mod GeneratedLaws
+pub mod VerdictLaws
+pub mod ListLaws
+pub mod CountLaws
+pub mod ReportLaws

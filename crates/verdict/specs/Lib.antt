@@ -1,0 +1,5 @@
+pub mod Verdict
+pub mod Told
+pub mod Report
+pub mod Listing
+pub mod Examples
