@@ -10,7 +10,6 @@ ghost use Rattle.exports.specs.Boundary.{FirstTold, FirstPut, ValueRead};
 
 use crate::{accessor_of, request_of, say, tell};
 use field::Field;
-use nodes::Source;
 use row::Span;
 use terms::Refusal;
 use text::Text;
@@ -55,10 +54,9 @@ pub fn kitlubas_answer_in(
         column.new) }
     ensures within { AskedWithin buf.old fill.old buf.new fill.new result }
 {
-    let source = Source::new(s, index);
     let asked = request_of(request, place, leaf);
     let start = Text::at_level(*fill, level);
-    let answer = requests::answer_in(&source, id, asked, start, buf);
+    let answer = requests::answer_in(s, index, id, asked, start, buf);
     say(answer, fill, line, column)
 }
 
@@ -83,8 +81,7 @@ pub fn kitlubas_text(
 {
     *size = 0;
     let accessor = accessor_of(request, leaf);
-    let source = Source::new(s, index);
-    match requests::text(&source, node, field::get(field), accessor, level, buf) {
+    match requests::text(s, index, node, field::get(field), accessor, level, buf) {
         Ok(n) => {
             *size = n;
             if n <= buf.len() {
@@ -118,8 +115,7 @@ pub fn kitlubas_node(
     *at = 0;
     *size = 0;
     *first = 0;
-    let source = Source::new(s, index);
-    let Some(node) = source.nth(number) else {
+    let Some(node) = nodes::nth(index, number) else {
         return Refusal::NotThere.number();
     };
     let Span { start, end } = row::text_span(s, node.at, node.params);

@@ -9,10 +9,16 @@ use lib.Dec.{eqb, leb}
 use lib.ListN.{length}
 use Rattle.text.specs.Bytes.{Str, cond, both, either, same}
 use Rattle.std.specs.Cmp.Lexicographic.{nat_list_eq_equiv}
+use Rattle.std.specs.Array.{IsFirstChunk}
 use Rattle.std.specs.List.{list_any}
 use Rattle.std.specs.Str.{bytes_eq}
+use Rattle.std.proofs.Math.Seq.{take-length}
 use Rattle.text.proofs.BytesLaws.{unlike, both_true, pointwise_same}
 use Rattle.names.specs.Keywords.{rust_keywords, is_one_of, is_keyword}
+
+-- a first chunk as long as the name
+pub chunk_whole : {name chunk : Str} {n : ℕ} → length name ≡ n → IsFirstChunk name chunk n → chunk ≡ name
+chunk_whole {name} h m = m.same ∙ rw (← h) (take-length name)
 
 -- the words of n bytes
 abbrev pub of_length : ℕ → List Str → List Str

@@ -168,6 +168,33 @@ fn skip(s: &[u8], from: usize, count: u64) -> usize
     at
 }
 
+// The node with an id, by the index alone: the sheet's root is not sought for it.
+pub fn find(index: &[u64], id: u64) -> Option<Entry>
+    ensures { result ≡ lookup index.now id }
+{
+    let (&count, mut entries) = index.split_first()?;
+    for _ in 0..count {
+        let (numbers, rest) = entries.split_first_chunk::<ENTRY_SIZE>()?;
+        if numbers[0] == id {
+            return Some(Entry::from_numbers(numbers));
+        }
+        entries = rest;
+    }
+    None
+}
+
+// The node with a number, from 0, in the sheet's order, by the index alone. There are at most 64.
+pub fn nth(index: &[u64], k: usize) -> Option<Entry>
+    ensures { result ≡ entry_with index.now k }
+{
+    let (&count, entries) = index.split_first()?;
+    if count.min(limits::NODES as u64) <= k as u64 {
+        return None;
+    }
+    let numbers = entries.get(ENTRY_SIZE * k..)?.first_chunk::<ENTRY_SIZE>()?;
+    Some(Entry::from_numbers(numbers))
+}
+
 impl<'a> Source<'a> {
     // A sheet by its bytes and its index: its root is the text of its first row.
     pub fn new(bytes: &'a [u8], index: &'a [u64]) -> Source<'a>
@@ -184,27 +211,14 @@ impl<'a> Source<'a> {
     pub fn find(&self, id: u64) -> Option<Entry>
         ensures { result ≡ lookup self.now.index.now id }
     {
-        let (&count, mut entries) = self.index.split_first()?;
-        for _ in 0..count {
-            let (numbers, rest) = entries.split_first_chunk::<ENTRY_SIZE>()?;
-            if numbers[0] == id {
-                return Some(Entry::from_numbers(numbers));
-            }
-            entries = rest;
-        }
-        None
+        find(self.index, id)
     }
 
     // The node with a number, from 0, in the sheet's order. There are at most 64.
     pub fn nth(&self, k: usize) -> Option<Entry>
         ensures { result ≡ entry_with self.now.index.now k }
     {
-        let (&count, entries) = self.index.split_first()?;
-        if count.min(limits::NODES as u64) <= k as u64 {
-            return None;
-        }
-        let numbers = entries.get(ENTRY_SIZE * k..)?.first_chunk::<ENTRY_SIZE>()?;
-        Some(Entry::from_numbers(numbers))
+        nth(self.index, k)
     }
 
     // The module of a node: the sheet's own bytes.

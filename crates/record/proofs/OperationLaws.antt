@@ -10,8 +10,8 @@ use Rattle.std.specs.Int.RustNames.{bit_or, bit_and}
 use mathlib.Core.Logic.{◌⊎◌, inl, inr}
 use mathlib.Core.List.{List, [], ◌∷◌, ◌++◌, append_assoc, append-nil}
 use Prim.Native.Nat.{ℕ, zero, suc, ◌+◌, ◌-◌, ◌*◌, ◌/◌, ◌%◌, ◌^◌, ◌≤◌, ◌<◌}
-use native.Mathlib.Nat.{mod-lt, mod-eq_of_lt, div-add-mod', zero-lt-suc, pow-suc, one-mul, zero-mul, div-one, div-div-eq-div-mul}
-use Rattle.std.specs.Int.{w64, byte_at, byte_worth, bytes_low_first, sum_through, to_le_bytes, from_le_bytes}
+use native.Mathlib.Nat.{mod-lt, mod-eq_of_lt, div-add-mod', zero-lt-suc, pow-suc, one-mul, zero-mul}
+use Rattle.std.specs.Int.{w64, byte_worth, sum_through, from_le_bytes}
 use native.Mathlib.Omega.{arith}
 use lib.Arith.{digits_div, digits_mod}
 use lib.Bits.{bit_xor, xor_lt, or_zero_r}
@@ -375,20 +375,3 @@ loaded {bytes} h e f =
     let l : List ℕ = bytes ++ zeros in
     let size : length l ≡ 8 = rw (length-append bytes zeros) (simp (length-drop) (omega arith)) in
     rw e at f ∙ omega (arith, worth-through 7 l, little_drop l size) ∙ little-front bytes zeros (little_zeros (length bytes) 8)
-
--- a byte of a word by what stands from it on
-byte-of : (i word : ℕ) → byte_at i word ≡ word / 256 ^ i % 256
-byte-of zero word = rw (div-one word)
-byte-of (suc i) word = refl
-
--- the front of a word's bytes, from one of them on
-low-front : (i n k word : ℕ) → n ≤ k → take n (bytes_low_first i k word) ≡ little_bytes n (word / 256 ^ i)
-low-front i zero k word h = refl
-low-front i (suc n) zero word h = absurd (omega arith)
-low-front i (suc n) (suc k) word h =
-    rw (byte-of i word, low-front (suc i) n k word (omega arith), pow-suc, div-div-eq-div-mul word (256 ^ i) 256)
-
--- the low bytes of a word
-pub low_bytes : {front bytes : List ℕ} (n word : ℕ) → n ≤ 8 → bytes ≡ to_le_bytes w64 word → front ≡ take n bytes
-    → front ≡ little_bytes n word
-low_bytes n word h e f = rw (div-one word) at (rw e at f ∙ low-front 0 n 8 word h)

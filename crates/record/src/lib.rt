@@ -125,25 +125,30 @@ fn with_bit(b: u8, at: u32, on: bool) -> u8
     (b & !(1 << at)) | (u8::from(on) << at)
 }
 
-// the number that the bytes are, little-endian
-#[tactic(auto, using(crate::proofs::OperationLaws::loaded))]
+// the number that the bytes of a width are, little-endian. Each width has its arm: a copy into a word is a call of `memcpy`,
+// which takes longer for a byte or two, and which whoever links the library would have to bring
 fn load(bytes: &[u8]) -> u64
-    requires { length bytes.now ≤ 8 }
+    requires { (w : Width) × (length bytes.now ≡ bytes_of w) }
     ensures { result ≡ little bytes.now }
 {
-    let mut word = [0; 8];
-    word[..bytes.len()].copy_from_slice(bytes);
-    u64::from_le_bytes(word)
+    match *bytes {
+        [a] => u64::from(a),
+        [a, b] => u64::from(u16::from_le_bytes([a, b])),
+        [a, b, c, d] => u64::from(u32::from_le_bytes([a, b, c, d])),
+        [a, b, c, d, e, f, g, h] => u64::from_le_bytes([a, b, c, d, e, f, g, h]),
+        _ => 0,
+    }
 }
 
-// fills the bytes with the low ones of a number, little-endian
-#[tactic(auto, using(crate::proofs::OperationLaws::low_bytes))]
+// fills the bytes with the low ones of a number, little-endian, one by one for the same reason
 fn store(bytes: &mut [u8], word: u64)
-    requires { length bytes.old ≤ 8 }
     ensures { bytes.new ≡ little_bytes (length bytes.old) word }
 {
-    let n = bytes.len();
-    bytes.copy_from_slice(&word.to_le_bytes()[..n]);
+    let mut left = word;
+    for byte in bytes.iter_mut() {
+        *byte = (left % 256) as u8;
+        left /= 256;
+    }
 }
 
 // ---- Bools

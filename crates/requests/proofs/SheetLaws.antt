@@ -16,6 +16,7 @@ use Rattle.tree.specs.Read.{read_nodes, Admitted, sheet, refused, numbered, admi
 use Rattle.tree.specs.Read as read
 use Rattle.tree.proofs.OtherLines.{never}
 use Rattle.std.specs.Prelude.{Option, Result, Ok, Err, ⊤}
+use Rattle.std.specs.Borrow.{Bor}
 use Rattle.nodes.specs.Index.{Indexed, sheet_of, IsSource}
 use Rattle.nodes.specs.declared.Source.{Source}
 use Rattle.sheet.specs.declared.Refused.{Refused}
@@ -80,6 +81,16 @@ of_sheet s x P u e d h = go (admitted s) (admitted-root s) e d
         let z : sheet_of (text_at (rows s)) sh.nodes ≡ sh = ap (λ (w : Str). sheet_of w sh.nodes) (sym root) in
         rw z at (h sh.nodes d)
     go (refused k line column) root e d = never cc
+
+-- a source of these bytes and this index, wherever they stand in memory
+abbrev held : List ℕ → Bor (List ℕ)
+held l = record { ref_ptr = (0, 0); now = l }
+
+abbrev pub source_of : List ℕ → List ℕ → Source
+source_of s index = record { root = held (text_at (rows s)); bytes = held s; index = held index }
+
+pub source-is : (s index : List ℕ) → IsSource s index (source_of s index)
+source-is s index = record { root-is = refl; bytes-are = refl; index-is = refl }
 
 -- a sheet that is refused
 pub sheet-refused : (s : Str) (id : ℕ) (request : Option Request) (l : Str) (t : Text) → StateAllowed l t → (e : Refused)

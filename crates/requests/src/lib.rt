@@ -6,7 +6,7 @@
 
 ghost use Rattle.std.specs.Prelude.{◌≡◌, ℕ, ◌^◌, ◌≤◌, ◌<◌, length};
 ghost use Rattle.tree.specs.Read.{admitted};
-ghost use Rattle.nodes.specs.Index.{index_size};
+ghost use Rattle.nodes.specs.Index.{index_size, IsSource};
 ghost use Rattle.codegen_types.specs.Written.{Within, refusal_number};
 ghost use Rattle.field.specs.declared.Field.TheVariants as field_is;
 ghost use Rattle.requests.specs.Requests.{of_field, outcome_of, state_refusal};
@@ -73,11 +73,11 @@ fn unplaced(refusal: Refusal) -> Refused
 }
 
 // The field at a place, from 0, of the node with an id.
-fn locate(source: &Source<'_>, id: u64, place: u64) -> Option<Located>
-    ensures { LocatedIn source.now id place result }
+fn locate(s: &[u8], index: &[u64], id: u64, place: u64) -> Option<Located>
+    ensures { (x : Source) → IsSource s.now index.now x → LocatedIn x id place result }
 {
-    let node = source.find(id)?;
-    let field = field::at_place(source.bytes, node.fields, place)?;
+    let node = nodes::find(index, id)?;
+    let field = field::at_place(s, node.fields, place)?;
     Some(Located {
         tag: node.tag_offset,
         field,
@@ -244,9 +244,11 @@ fn answer_found(
     Ok(t.with_fill(fill + n))
 }
 
-// The answer for the field at a place of the node with an id: 15 where there is none.
+// The answer for the field at a place of the node with an id: 15 where there is none. The sheet's root is sought only once the
+// field was found.
 fn answer_field(
-    source: &Source<'_>,
+    s: &[u8],
+    index: &[u64],
     id: u64,
     place: u64,
     accessor: Accessor,
@@ -254,13 +256,15 @@ fn answer_field(
     buf: &mut [u8],
 ) -> Result<Text, Refusal>
     requires { StateAllowed buf.old t }
-    ensures indexed { RequestAsked source.now id (of_field place accessor) buf.old t buf.new result }
+    ensures indexed { (x : Source) → IsSource s.now index.now x
+        → RequestAsked x id (of_field place accessor) buf.old t buf.new result }
     ensures within { AnswerWithin buf.old t buf.new result }
 {
-    let Some(located) = locate(source, id, place) else {
+    let Some(located) = locate(s, index, id, place) else {
         return Err(Refusal::NotThere);
     };
-    answer_found(source, &located, accessor, t, buf)
+    let source = Source::new(s, index);
+    answer_found(&source, &located, accessor, t, buf)
 }
 
 // The refusal of a text state over a buffer of so many bytes: 21, and then 36.
@@ -278,19 +282,21 @@ fn state_allowed(t: Text, size: usize) -> Result<(), Refusal>
 
 // The answer to a request of the node with an id: 21 and 36 before anything is looked at; where there is no request, 15.
 fn answer_asked(
-    source: &Source<'_>,
+    s: &[u8],
+    index: &[u64],
     id: u64,
     request: Option<Request>,
     t: Text,
     buf: &mut [u8],
 ) -> Result<Text, Refusal>
-    ensures indexed { RequestAsked source.now id request buf.old t buf.new result }
+    ensures indexed { (x : Source) → IsSource s.now index.now x
+        → RequestAsked x id request buf.old t buf.new result }
     ensures within { AnswerWithin buf.old t buf.new result }
 {
     state_allowed(t, buf.len())?;
     match request {
         Some(Request::Field { place, accessor }) => {
-            answer_field(source, id, place, accessor, t, buf)
+            answer_field(s, index, id, place, accessor, t, buf)
         }
         None => Err(Refusal::NotThere),
     }
@@ -299,16 +305,18 @@ fn answer_asked(
 // The same, with the line of the refusal, which is none of the sheet's. Over any bytes and any index a refusal changes no byte,
 // and a text none before the fill count, which does not fall.
 pub fn answer_in(
-    source: &Source<'_>,
+    s: &[u8],
+    index: &[u64],
     id: u64,
     request: Option<Request>,
     t: Text,
     buf: &mut [u8],
 ) -> Result<Text, Refused>
-    ensures indexed { RequestAnswered source.now id request buf.old t buf.new result }
+    ensures indexed { (x : Source) → IsSource s.now index.now x
+        → RequestAnswered x id request buf.old t buf.new result }
     ensures within { AnswerWithin buf.old t buf.new result }
 {
-    answer_asked(source, id, request, t, buf).map_err(unplaced)
+    answer_asked(s, index, id, request, t, buf).map_err(unplaced)
 }
 
 // The answer to a request of the node with an id, over an index that has room for the sheet's nodes: the sheet's own refusal,
@@ -326,8 +334,7 @@ fn answer_over<const N: usize>(
 {
     let mut index = [0u64; N];
     sheet::admit(s, &mut index)?;
-    let source = Source::new(s, &index);
-    answer_in(&source, id, request, t, buf)
+    answer_in(s, &index, id, request, t, buf)
 }
 
 // The answer to a request of the node with an id: 21 and 36 before the sheet is looked at, the sheet's own refusal, 15, the
@@ -355,26 +362,29 @@ pub fn answer_request(
 // the buffer on, and is whole where the buffer has so many bytes. 36 comes first; 15 where there is no such node, field or text.
 // There are at most 64 nodes.
 pub fn text(
-    source: &Source<'_>,
+    s: &[u8],
+    index: &[u64],
     node: usize,
     field: Option<Field>,
     accessor: Option<Accessor>,
     level: usize,
     buf: &mut [u8],
 ) -> Result<usize, Refusal>
-    ensures passed { TextPassed source.now node field accessor level
-        buf.old buf.new result }
+    ensures passed { (x : Source) → IsSource s.now index.now x
+        → TextPassed x node field accessor level buf.old buf.new result }
 {
     let start = Text::at_level(0, level);
     state_allowed(start, buf.len())?;
-    let (Some(entry), Some(field), Some(accessor)) = (source.nth(node), field, accessor) else {
+    let (Some(entry), Some(field), Some(accessor)) = (nodes::nth(index, node), field, accessor)
+    else {
         return Err(Refusal::NotThere);
     };
     let located = Located {
         tag: entry.tag_offset,
         field,
     };
-    let end = write_accessor(source, &located, accessor, start, buf)?;
+    let source = Source::new(s, index);
+    let end = write_accessor(&source, &located, accessor, start, buf)?;
     Ok(end.fill())
 }
 

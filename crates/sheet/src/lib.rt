@@ -1,7 +1,7 @@
 // A sheet, read once: admitted, with the index of its nodes, or refused at its first bad line.
 #![tactic(auto)]
 
-ghost use Rattle.std.specs.Prelude.{◌≡◌, [], ◌-◌, ◌^◌, ◌≤◌, ◌<◌, length, drop, take, MatchResult};
+ghost use Rattle.std.specs.Prelude.{◌≡◌, [], ◌-◌, ◌%◌, ◌^◌, ◌≤◌, ◌<◌, length, drop, take, set, MatchResult};
 ghost use Rattle.row.specs.Rows.{rows, size};
 ghost use Rattle.tree.specs.Read.{among, read_params, read_node, read_nodes, admitted};
 ghost use Rattle.nodes.specs.Index.{index_size};
@@ -87,9 +87,17 @@ impl Groups<'_> {
         ensures { self.new ≡ with_id self.old id }
     {
         self.ids[self.count] = id;
-        self.flags[(id % 2048) as usize] = 1;
+        flag(self.flags, id);
         self.count += 1;
     }
+}
+
+// Sets the flag of a group id, and no other.
+fn flag(flags: &mut [u8], id: u64)
+    requires { length flags.old ≡ 2048 }
+    ensures { flags.new ≡ set flags.old (id % 2048) 1 }
+{
+    flags[(id % 2048) as usize] = 1;
 }
 
 // Whether an id is one of some. They are searched 32 at a time, which the compiler writes out without a loop: of a sheet of

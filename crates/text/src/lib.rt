@@ -23,6 +23,17 @@ pub struct Text {
     level: usize,
 }
 
+// Puts bytes over as many others. With `copy_from_slice` the static library would call `memmove`, which whoever links it would
+// have to bring.
+fn copy(place: &mut [u8], s: &[u8])
+    requires { length place.old ≡ length s.now }
+    ensures { place.new ≡ s.now }
+{
+    for (i, &b) in s.iter().enumerate() {
+        place[i] = b;
+    }
+}
+
 impl Text {
     // the state at a fill count, at level 0
     pub fn at(fill: usize) -> Text
@@ -81,7 +92,7 @@ impl Text {
         }
         if s.len() <= buf.len() - at {
             let end = at + s.len();
-            buf[at..end].copy_from_slice(s);
+            copy(&mut buf[at..end], s);
             return Text { at: end, ..self };
         }
         self.each(buf, s)

@@ -17,6 +17,6 @@ invariant_of-self c =
     let i = c.self.invariant in
     let fits : count < length ids = omega (arith, c.requires, ap (λ (g : ℕ × List ℕ). g.0) c.self.view_is) in (
       rw (length-set _ _ _) (omega arith),
-      length-set flags (id % 2048) 1 ∙ i.1,
-      rw (pushed _ _ _ fits) (flagged-more flags _ id i.1 i.2),
+      rw c.flag.ensures (length-set flags (id % 2048) 1 ∙ i.1),
+      rw (c.flag.ensures, pushed _ _ _ fits) (flagged-more flags _ id i.1 i.2),
     )

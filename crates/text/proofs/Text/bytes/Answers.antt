@@ -9,4 +9,4 @@ returns-then-at-buf c =
     rw c.past.ensures (counted a.buf.now a.self a.s.now (omega arith) (omega arith))
 
 pub returns-then-s-buf : goal.returns-then-s-buf
-returns-then-s-buf c = copied _ _ _ _ (omega arith) (omega arith) c.copy_from_slice.ensures.after
+returns-then-s-buf c = copied _ _ _ _ (omega arith) (omega arith) c.copy.ensures

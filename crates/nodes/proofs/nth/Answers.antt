@@ -1,8 +1,8 @@
--- `Source::nth` meets its contract: each return is one law for the entry with a number. Assumes nothing.
+-- `nodes::nth` meets its contract: each return is one law for the entry with a number. Assumes nothing.
 use mathlib.Core.Path.{◌∙◌}
 use native.Mathlib.Omega.{arith}
 use Rattle.nodes.proofs.Laws.{with-empty, with-past, with_out, with-entry}
-use Rattle.nodes.proofs.Source.nth.Goals as goal
+use Rattle.nodes.proofs.nth.Goals as goal
 
 pub returns-in_err-count : goal.returns-in_err-count
 returns-in_err-count c = c.from_residual.ensures ∙ with-empty _ _ c.in_err-count.ensures.cases
