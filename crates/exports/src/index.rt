@@ -56,7 +56,7 @@ pub fn kitlubas_answer_in(
 {
     let asked = request_of(request, place, leaf);
     let start = Text::at_level(*fill, level);
-    let answer = requests::answer_in(s, index, id, asked, start, buf);
+    let answer = requests::answer_by_index(s, index, id, asked, start, buf);
     say(answer, fill, line, column)
 }
 
@@ -81,7 +81,7 @@ pub fn kitlubas_text(
 {
     *size = 0;
     let accessor = accessor_of(request, leaf);
-    match requests::text(s, index, node, field::get(field), accessor, level, buf) {
+    match requests::text_by_index(s, index, node, field::get(field), accessor, level, buf) {
         Ok(n) => {
             *size = n;
             if n <= buf.len() {

@@ -220,7 +220,7 @@ pub fn write_accessor(
 
 // The answer for a field that was found: its refusal, 22, or its text. What is written is written into the free part of the
 // buffer, so that no byte before the fill count can change. That there is one, and that the level is at most 8, is a premise of
-// this and two functions below, and no value's fact, as the buffer is lent.
+// this and three functions below, and no value's fact, as the buffer is lent.
 fn answer_found(
     source: &Source<'_>,
     located: &Located,
@@ -267,6 +267,25 @@ fn answer_field(
     answer_found(&source, &located, accessor, t, buf)
 }
 
+// The same in a source, whose root may be any text.
+fn answer_field_in(
+    source: &Source<'_>,
+    id: u64,
+    place: u64,
+    accessor: Accessor,
+    t: Text,
+    buf: &mut [u8],
+) -> Result<Text, Refusal>
+    requires { StateAllowed buf.old t }
+    ensures indexed { RequestAsked source.now id (of_field place accessor) buf.old t buf.new result }
+    ensures within { AnswerWithin buf.old t buf.new result }
+{
+    let Some(located) = locate(source.bytes, source.index, id, place) else {
+        return Err(Refusal::NotThere);
+    };
+    answer_found(source, &located, accessor, t, buf)
+}
+
 // The refusal of a text state over a buffer of so many bytes: 21, and then 36.
 fn state_allowed(t: Text, size: usize) -> Result<(), Refusal>
     ensures { refusal_number result ≡ state_refusal size t.at t.level }
@@ -302,9 +321,27 @@ fn answer_asked(
     }
 }
 
-// The same, with the line of the refusal, which is none of the sheet's. Over any bytes and any index a refusal changes no byte,
-// and a text none before the fill count, which does not fall.
-pub fn answer_in(
+// The same in a source, whose root may be any text.
+fn answer_asked_in(
+    source: &Source<'_>,
+    id: u64,
+    request: Option<Request>,
+    t: Text,
+    buf: &mut [u8],
+) -> Result<Text, Refusal>
+    ensures indexed { RequestAsked source.now id request buf.old t buf.new result }
+    ensures within { AnswerWithin buf.old t buf.new result }
+{
+    state_allowed(t, buf.len())?;
+    match request.ok_or(Refusal::NotThere)? {
+        Request::Field { place, accessor } => answer_field_in(source, id, place, accessor, t, buf),
+    }
+}
+
+// The answer to a request of the node with an id, over a sheet's bytes and its index, with the line of the refusal, which is none
+// of the sheet's. Over any bytes and any index a refusal changes no byte, and a text none before the fill count, which does not
+// fall.
+pub fn answer_by_index(
     s: &[u8],
     index: &[u64],
     id: u64,
@@ -317,6 +354,20 @@ pub fn answer_in(
     ensures within { AnswerWithin buf.old t buf.new result }
 {
     answer_asked(s, index, id, request, t, buf).map_err(unplaced)
+}
+
+// The same in a source, whose root may be any text: the answer is that of the sheet with this root.
+pub fn answer_in(
+    source: &Source<'_>,
+    id: u64,
+    request: Option<Request>,
+    t: Text,
+    buf: &mut [u8],
+) -> Result<Text, Refused>
+    ensures indexed { RequestAnswered source.now id request buf.old t buf.new result }
+    ensures within { AnswerWithin buf.old t buf.new result }
+{
+    answer_asked_in(source, id, request, t, buf).map_err(unplaced)
 }
 
 // The answer to a request of the node with an id, over an index that has room for the sheet's nodes: the sheet's own refusal,
@@ -334,7 +385,7 @@ fn answer_over<const N: usize>(
 {
     let mut index = [0u64; N];
     sheet::admit(s, &mut index)?;
-    answer_in(s, &index, id, request, t, buf)
+    answer_by_index(s, &index, id, request, t, buf)
 }
 
 // The answer to a request of the node with an id: 21 and 36 before the sheet is looked at, the sheet's own refusal, 15, the
@@ -361,7 +412,7 @@ pub fn answer_request(
 // The length of a text, at a level, of a field that was read, in the node with a number, from 0. It is written from the start of
 // the buffer on, and is whole where the buffer has so many bytes. 36 comes first; 15 where there is no such node, field or text.
 // There are at most 64 nodes.
-pub fn text(
+pub fn text_by_index(
     s: &[u8],
     index: &[u64],
     node: usize,
@@ -388,7 +439,35 @@ pub fn text(
     Ok(end.fill())
 }
 
+// The same in a source, whose root may be any text: the text is that of the sheet with this root.
+pub fn text(
+    source: &Source<'_>,
+    node: usize,
+    field: Option<Field>,
+    accessor: Option<Accessor>,
+    level: usize,
+    buf: &mut [u8],
+) -> Result<usize, Refusal>
+    ensures passed { TextPassed source.now node field accessor level
+        buf.old buf.new result }
+{
+    let start = Text::at_level(0, level);
+    state_allowed(start, buf.len())?;
+    let (Some(found), Some(field), Some(accessor)) = (source.nth(node), field, accessor) else {
+        return Err(Refusal::NotThere);
+    };
+    let located = Located {
+        tag: found.tag_offset,
+        field,
+    };
+    let written = write_accessor(source, &located, accessor, start, buf)?;
+    Ok(written.fill())
+}
+
 // Makes it a promise of this crate that a level moves in the lines of whatever is asked, and changes nothing else.
 pub fn claims()
     ensures { LevelsHold }
 {}
+
+#[cfg(test)]
+mod tests;

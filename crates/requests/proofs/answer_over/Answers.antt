@@ -9,15 +9,15 @@ use Rattle.requests.proofs.answer_over.Goals as goal
 pub whole_as_slice-admit : goal.whole_as_slice-admit
 whole_as_slice-admit g c = let h = c.requires in omega arith
 
-pub shared_whole_as_slice-answer_in : goal.shared_whole_as_slice-answer_in
-shared_whole_as_slice-answer_in g c = let h = c.requires in omega arith
+pub shared_whole_as_slice-answer_by_index : goal.shared_whole_as_slice-answer_by_index
+shared_whole_as_slice-answer_by_index g c = let h = c.requires in omega arith
 
 pub returns : goal.returns
 returns g c =
     sheet-answered c.args.s.now _ c.args.id c.args.request c.args.buf.now c.args.t _ _ _
     (rw c.in_ok-admit.was at c.admit.ensures.answer)
     (c.admit.ensures.index (rw (length-replicate _ _) (let h = c.requires in h.0))) _ (source-is c.args.s.now _)
-    (c.answer_in.ensures.indexed (source_of c.args.s.now _) (source-is c.args.s.now _))
+    (c.answer_by_index.ensures.indexed (source_of c.args.s.now _) (source-is c.args.s.now _))
 
 pub returns-in_err-admit : goal.returns-in_err-admit
 returns-in_err-admit g c =

@@ -12,5 +12,5 @@ returns-clause-asked c =
     let a = c.args in λ ns x.
     asked_in a.buf.now _ _ (sheet_of (text_at (rows a.s.now)) ns) a.id _ _ _ _ _ c.request_of-asked.ensures
     c.at_level-start.ensures
-    (c.answer_in-answer.ensures.indexed (source_of a.s.now a.index.now) (source-is a.s.now a.index.now) ns x)
+    (c.answer_by_index-answer.ensures.indexed (source_of a.s.now a.index.now) (source-is a.s.now a.index.now) ns x)
     _ _ _ _ c.say.ensures
