@@ -16,7 +16,8 @@ const OWNED: Accessor = Accessor::TypeText {
     leaf: Some(Leaf::Owned),
 };
 
-// The sheet's own root and another one, each with the slot's type.
+// The sheet's own root and another one, each with the slot's type as it stands in the setter that capnpc's functions give for a
+// sheet whose first row has this root (`oracle accessors`).
 const TEXTS: [(&[u8], &[u8]); 2] = [
     (b"::capnp", b"::capnp::text::Owned"),
     (b"::mine", b"::mine::text::Owned"),
